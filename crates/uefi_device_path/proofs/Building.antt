@@ -8,7 +8,7 @@ use Rattle.std.proofs.lemmas.List.Elements.{All-append, All-cons, All-nil}
 use Rattle.uefi_device_nodes.specs.Nodes.{Node, IsInner, node_bytes, end_entire}
 use Rattle.std.specs.Prelude.{false, nat_lt}
 use Rattle.uefi_text.specs.UnalignedCStr16.{with_prefix}
-use Rattle.uefi_device_path.specs.Paths.{BeginWithPath, IsPath, joined, nodes_in, path_bytes, without_end}
+use Rattle.uefi_device_path.specs.Paths.{BeginWithPath, IsPath, nodes_bytes, nodes_in, path_bytes, without_end}
 use Rattle.uefi_device_path.specs.Building.{build_refusal}
 use Rattle.uefi_device_path.proofs.ShortForms.{bytes_of_both}
 use Rattle.uefi_device_path.proofs.Splits.{IsPath-path_bytes}
@@ -33,10 +33,10 @@ pub path_grown : (bytes grown : List ℕ) (node : Node) → IsPath bytes → IsI
     → IsPath grown × (nodes_in (without_end grown) ≡ nodes_in (without_end bytes) ++ node ∷ [])
 path_grown bytes grown node path inner e =
     let ns = nodes_in (without_end bytes) in
-    let split : joined (ns ++ node ∷ []) ≡ joined ns ++ node_bytes node = grind (arith, common_steps) in
+    let split : nodes_bytes (ns ++ node ∷ []) ≡ nodes_bytes ns ++ node_bytes node = grind (arith, common_steps) in
     let whole : grown ≡ path_bytes (ns ++ node ∷ []) =
     e ∙ ap (λ k. k ++ (node_bytes node ++ node_bytes end_entire)) path.nodes.join
-    ∙ sym (append_assoc (joined ns) (node_bytes node) (node_bytes end_entire)) ∙ ap (λ k. k ++ node_bytes end_entire) (sym split) in
+    ∙ sym (append_assoc (nodes_bytes ns) (node_bytes node) (node_bytes end_entire)) ∙ ap (λ k. k ++ node_bytes end_entire) (sym split) in
     IsPath-path_bytes (ns ++ node ∷ []) grown (All-append IsInner ns (node ∷ []) path.nodes.inner (All-cons IsInner node [] inner (All-nil IsInner))) whole
 
 pub path_empty : (bytes : List ℕ) → bytes ≡ node_bytes end_entire → IsPath bytes × (nodes_in (without_end bytes) ≡ [])
@@ -79,7 +79,7 @@ pub path_appended : (bytes grown added : List ℕ) (others : List Node) → IsPa
 path_appended bytes grown added others path inner is e =
     let ns = nodes_in (without_end bytes) in
     let whole : grown ≡ path_bytes (ns ++ others) =
-    e ∙ ap (λ k. k ++ added) path.nodes.join ∙ ap (λ k. joined ns ++ k) is ∙ sym (bytes_of_both (ns ++ others) ns others refl) in
+    e ∙ ap (λ k. k ++ added) path.nodes.join ∙ ap (λ k. nodes_bytes ns ++ k) is ∙ sym (bytes_of_both (ns ++ others) ns others refl) in
     IsPath-path_bytes (ns ++ others) grown (All-append IsInner ns others path.nodes.inner inner) whole
 
 -- the same at the start of a buffer, where they are written over the end of the path
@@ -91,7 +91,7 @@ path_appended_in bytes added others len k end within path inner is ends =
     let old : length (take len bytes) ≡ len = grind (arith, common_steps) in
     let least = path_long (take len bytes) path in
     let four : 4 ≤ len = omega (arith, old, least) in
-    let size : length added ≡ length (joined others) + 4 = ap length is ∙ length-append (joined others) (node_bytes end_entire) in
+    let size : length added ≡ length (nodes_bytes others) + 4 = ap length is ∙ length-append (nodes_bytes others) (node_bytes end_entire) in
     let front : without_end (take len bytes) ≡ take (len - 4) bytes =
     ap (λ n. take (n - 4) (take len bytes)) old ∙ take-take (len - 4) len bytes (omega arith) in
     let grown : take end (put_mid (len - 4) k bytes added) ≡ without_end (take len bytes) ++ added =
@@ -106,7 +106,7 @@ path_appended_in bytes added others len k end within path inner is ends =
 pub path_in_front : (bytes : List ℕ) (ns : List Node) (len : ℕ) → BeginWithPath bytes ns → len ≡ length (path_bytes ns)
     → IsPath (take len bytes) × (nodes_in (without_end (take len bytes)) ≡ ns)
 path_in_front bytes ns len begins e =
-    let whole : bytes ≡ path_bytes ns ++ begins.0 = begins.1.join ∙ sym (append_assoc (joined ns) (node_bytes end_entire) begins.0) in
+    let whole : bytes ≡ path_bytes ns ++ begins.0 = begins.1.join ∙ sym (append_assoc (nodes_bytes ns) (node_bytes end_entire) begins.0) in
     let front : take len bytes ≡ path_bytes ns = ap (take len) whole ∙ take_at (path_bytes ns) begins.0 len (sym e) in
     IsPath-path_bytes ns (take len bytes) begins.1.inner front
 
@@ -114,7 +114,7 @@ path_in_front bytes ns len begins e =
 pub front_is_path : (bytes : List ℕ) (ns : List Node) (len : ℕ) → IsPath (take len bytes) → nodes_in (without_end (take len bytes)) ≡ ns
     → take len bytes ≡ path_bytes ns
 front_is_path bytes ns len path shown =
-    path.ends ∙ ap (λ k. k ++ node_bytes end_entire) (path.nodes.join ∙ ap joined shown)
+    path.ends ∙ ap (λ k. k ++ node_bytes end_entire) (path.nodes.join ∙ ap nodes_bytes shown)
 
 pub len_of_path : (bytes : List ℕ) (ns : List Node) (len : ℕ) → IsPath (take len bytes) → nodes_in (without_end (take len bytes)) ≡ ns
     → len ≤ length bytes → len ≡ length (path_bytes ns)

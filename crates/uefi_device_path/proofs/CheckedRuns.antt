@@ -11,13 +11,13 @@ use Rattle.uefi_device_nodes.specs.declared.errors.NodeError.{NodeError}
 use Rattle.uefi_device_path.specs.CheckedNodes.{BeginWithEnd, Checked, checked_at, checked_by, checked_within, nodes_before, rest_at}
 use Rattle.uefi_device_path.specs.Faults.{RefusedFor, RefusesNode}
 use Rattle.uefi_device_path.specs.PathLists.{is_end_entire}
-use Rattle.uefi_device_path.specs.Paths.{BeginWith, BeginWithPath, joined, nodes_in}
+use Rattle.uefi_device_path.specs.Paths.{BeginWith, BeginWithPath, nodes_bytes, nodes_in}
 use Rattle.uefi_device_path.specs.Views.{checked_bytes, checked_left, rest_of}
 use Rattle.uefi_device_path.specs.declared.checked_nodes.CheckedNodes.{CheckedNodes}
 use Rattle.uefi_device_path.specs.declared.checked_nodes.Progress.{Progress}
 use Rattle.uefi_device_path.specs.declared.checked_nodes.Progress.TheVariants.{Reading, Ended, Failed}
 use Rattle.uefi_device_path.specs.declared.errors.DevicePathError.{DevicePathError}
-use Rattle.uefi_device_path.proofs.Splits.{Stops-end, Stops-fault, nodes_in-joined, split_once, few_nodes, begin_long, first-node_bytes, no_fault, path_split_once, refused_no_path, rest-node_bytes, same_error, stated-node_bytes}
+use Rattle.uefi_device_path.proofs.Splits.{Stops-end, Stops-fault, nodes_in-nodes_bytes, split_once, few_nodes, begin_long, first-node_bytes, no_fault, path_split_once, refused_no_path, rest-node_bytes, same_error, stated-node_bytes}
 
 -- the test for the node that ends a path
 pub inner_no_end : (node : Node) → IsInner node → is_end_entire node ≡ false
@@ -76,15 +76,15 @@ checked_fault : (count offset : ℕ) (rest : List ℕ) (cause : NodeError) → n
 checked_fault count offset rest cause fault =
     ap (λ f. checked_by f offset (first_node rest) (checked_within count (offset + stated_length rest) (drop (stated_length rest) rest))) fault
 
-long_joined : (node : Node) (nodes : List Node) → length (joined (node ∷ nodes)) ≡ node_length node + length (joined nodes)
+long_joined : (node : Node) (nodes : List Node) → length (nodes_bytes (node ∷ nodes)) ≡ node_length node + length (nodes_bytes nodes)
 long_joined node nodes =
-    let long : length (node.content ++ joined nodes) ≡ length node.content + length (joined nodes) = length-append node.content (joined nodes) in
+    let long : length (node.content ++ nodes_bytes nodes) ≡ length node.content + length (nodes_bytes nodes) = length-append node.content (nodes_bytes nodes) in
     omega arith
 
 -- the nodes of bytes, and what is checked after them
 pub checked_nodes : (count offset : ℕ) (nodes : List Node) (rest : List ℕ) → All IsInner nodes → length nodes ≤ count
-    → checked_within count offset (joined nodes ++ rest)
-    ≡ map Ok nodes ++ checked_within (count - length nodes) (offset + length (joined nodes)) rest
+    → checked_within count offset (nodes_bytes nodes ++ rest)
+    ≡ map Ok nodes ++ checked_within (count - length nodes) (offset + length (nodes_bytes nodes)) rest
 checked_nodes count offset [] rest inner few =
     let all : count ≡ count - 0 = omega arith in
     let here : offset ≡ offset + 0 = omega arith in
@@ -93,13 +93,13 @@ checked_nodes zero offset (node ∷ nodes) rest inner few = absurd (omega (arith
 checked_nodes (suc count) offset (node ∷ nodes) rest inner few =
     let more = checked_nodes count (offset + node_length node) nodes rest (All-tail IsInner node nodes inner) (omega (arith, few)) in
     let long = long_joined node nodes in
-    let place : offset + node_length node + length (joined nodes) ≡ offset + length (joined (node ∷ nodes)) = omega (arith, long) in
+    let place : offset + node_length node + length (nodes_bytes nodes) ≡ offset + length (nodes_bytes (node ∷ nodes)) = omega (arith, long) in
     let left : count - length nodes ≡ suc count - length (node ∷ nodes) = omega arith in
-    ap (checked_within (suc count) offset) (append_assoc (node_bytes node) (joined nodes) rest)
-    ∙ checked_one count offset node (joined nodes ++ rest) (All-head IsInner node nodes inner)
+    ap (checked_within (suc count) offset) (append_assoc (node_bytes node) (nodes_bytes nodes) rest)
+    ∙ checked_one count offset node (nodes_bytes nodes ++ rest) (All-head IsInner node nodes inner)
     ∙ ap (λ k. Ok node ∷ k) more
     ∙ ap (λ n. Ok node ∷ (map Ok nodes ++ checked_within (count - length nodes) n rest)) place
-    ∙ ap (λ n. map Ok (node ∷ nodes) ++ checked_within n (offset + length (joined (node ∷ nodes))) rest) left
+    ∙ ap (λ n. map Ok (node ∷ nodes) ++ checked_within n (offset + length (nodes_bytes (node ∷ nodes))) rest) left
 
 -- the nodes of a path, and no fault
 pub checked_path : (bytes : List ℕ) (nodes : List Node) → BeginWithPath bytes nodes
@@ -111,8 +111,8 @@ checked_path bytes nodes path =
     let left : suc (length bytes) - length nodes ≡ suc (length bytes - length nodes) = omega (arith, long, few) in
     ap (checked_within (suc (length bytes)) 0) path.1.join
     ∙ checked_nodes (suc (length bytes)) 0 nodes rest path.1.inner (omega (arith, long, few))
-    ∙ ap (λ n. map Ok nodes ++ checked_within n (0 + length (joined nodes)) rest) left
-    ∙ ap (λ k. map Ok nodes ++ k) (checked_end (length bytes - length nodes) (0 + length (joined nodes)) path.0)
+    ∙ ap (λ n. map Ok nodes ++ checked_within n (0 + length (nodes_bytes nodes)) rest) left
+    ∙ ap (λ k. map Ok nodes ++ k) (checked_end (length bytes - length nodes) (0 + length (nodes_bytes nodes)) path.0)
     ∙ append-nil (map Ok nodes)
 
 -- the nodes before a fault, and the fault
@@ -122,11 +122,11 @@ checked_refused bytes error nodes rest refused =
     let long = begin_long bytes nodes rest refused.begins in
     let few = few_nodes nodes in
     let left : suc (length bytes) - length nodes ≡ suc (length bytes - length nodes) = omega (arith, long, few) in
-    let place : 0 + length (joined nodes) + fault_place error.cause ≡ error.offset = omega (arith, refused.offset) in
+    let place : 0 + length (nodes_bytes nodes) + fault_place error.cause ≡ error.offset = omega (arith, refused.offset) in
     ap (checked_within (suc (length bytes)) 0) refused.begins.join
     ∙ checked_nodes (suc (length bytes)) 0 nodes rest refused.begins.inner (omega (arith, long, few))
-    ∙ ap (λ n. map Ok nodes ++ checked_within n (0 + length (joined nodes)) rest) left
-    ∙ ap (λ k. map Ok nodes ++ k) (checked_fault (length bytes - length nodes) (0 + length (joined nodes)) rest error.cause refused.cause)
+    ∙ ap (λ n. map Ok nodes ++ checked_within n (0 + length (nodes_bytes nodes)) rest) left
+    ∙ ap (λ k. map Ok nodes ++ k) (checked_fault (length bytes - length nodes) (0 + length (nodes_bytes nodes)) rest error.cause refused.cause)
     ∙ ap (λ e. map Ok nodes ++ Err e ∷ []) (same_error error.cause error.cause _ error.offset refl place)
 
 -- a node has a header, and ends in the bytes
@@ -173,9 +173,9 @@ comes_node bytes rest after node within split inner =
 pub nodes_passed : (bytes : List ℕ) (nodes : List Node) (rest : List ℕ) → BeginWith bytes nodes rest → nodes_before bytes rest ≡ nodes
 nodes_passed bytes nodes rest begins =
     let long = begin_long bytes nodes rest begins in
-    let front : take (length bytes - length rest) bytes ≡ joined nodes =
-    ap (take (length bytes - length rest)) begins.join ∙ take_at (joined nodes) rest (length bytes - length rest) (omega (arith, long)) in
-    ap nodes_in front ∙ nodes_in-joined nodes
+    let front : take (length bytes - length rest) bytes ≡ nodes_bytes nodes =
+    ap (take (length bytes - length rest)) begins.join ∙ take_at (nodes_bytes nodes) rest (length bytes - length rest) (omega (arith, long)) in
+    ap nodes_in front ∙ nodes_in-nodes_bytes nodes
 
 pub begins_at : (bytes : List ℕ) (nodes : List Node) (rest : List ℕ) → BeginWith bytes nodes rest → BeginWith bytes (nodes_before bytes rest) rest
 begins_at bytes nodes rest begins = subst (λ ns. BeginWith bytes ns rest) (sym (nodes_passed bytes nodes rest begins)) begins
@@ -188,7 +188,7 @@ pub begins_end : (bytes : List ℕ) (nodes : List Node) (rest : List ℕ) → Be
     → BeginWith bytes nodes (node_bytes end_entire ++ drop 4 rest)
 begins_end bytes nodes rest begins ends =
     let split : rest ≡ node_bytes end_entire ++ drop 4 rest = sym (take-append-drop 4 rest) ∙ ap (λ k. k ++ drop 4 rest) ends in
-    record { inner = begins.inner; join = begins.join ∙ ap (λ k. joined nodes ++ k) split }
+    record { inner = begins.inner; join = begins.join ∙ ap (λ k. nodes_bytes nodes ++ k) split }
 
 -- they are those after the path that the bytes begin with
 pub rest_same : (bytes : List ℕ) (before nodes : List Node) (rest more : List ℕ) → BeginWith bytes before rest → BeginWithEnd rest

@@ -7,7 +7,7 @@ use Rattle.uefi_device_nodes.specs.declared.errors.NodeError.{NodeError}
 use Rattle.uefi_device_nodes.specs.declared.errors.NodeError.TheVariants.{Missing, TruncatedHeader, UnknownEnd, LengthBelowHeader, EndWithData, BeyondEnd}
 use Rattle.uefi_device_path.specs.Faults.{RefusedFor}
 use Rattle.uefi_device_path.specs.Laws.{header_end, is_of_header}
-use Rattle.uefi_device_path.specs.Paths.{joined}
+use Rattle.uefi_device_path.specs.Paths.{nodes_bytes}
 use Rattle.uefi_device_path.specs.declared.errors.DevicePathError.{DevicePathError}
 
 -- a header that is at fault is whole
@@ -46,16 +46,16 @@ refused_by_header bytes others error is refused agree =
     let end = header_end error in
     let more = drop end others in
     let long = whole_header rest error.cause is why.cause in
-    let place : end ≡ length (joined nodes) + 4 = omega (arith, why.offset) in
+    let place : end ≡ length (nodes_bytes nodes) + 4 = omega (arith, why.offset) in
     let front : length (take 4 rest) ≡ 4 = grind (arith, common_steps) in
-    let both = length-append (joined nodes) (take 4 rest) in
-    let passed : length (joined nodes ++ take 4 rest) ≡ end = omega (arith, both, front, place) in
-    let split : bytes ≡ (joined nodes ++ take 4 rest) ++ drop 4 rest =
-    why.begins.join ∙ ap (λ k. joined nodes ++ k) (sym (take-append-drop 4 rest)) ∙ sym (append_assoc (joined nodes) (take 4 rest) (drop 4 rest)) in
-    let header : take end bytes ≡ joined nodes ++ take 4 rest =
-    ap (take end) split ∙ take_at (joined nodes ++ take 4 rest) (drop 4 rest) end passed in
-    let join : others ≡ joined nodes ++ (take 4 rest ++ more) =
-    sym (take-append-drop end others) ∙ ap (λ k. k ++ more) (agree ∙ header) ∙ append_assoc (joined nodes) (take 4 rest) more in (
+    let both = length-append (nodes_bytes nodes) (take 4 rest) in
+    let passed : length (nodes_bytes nodes ++ take 4 rest) ≡ end = omega (arith, both, front, place) in
+    let split : bytes ≡ (nodes_bytes nodes ++ take 4 rest) ++ drop 4 rest =
+    why.begins.join ∙ ap (λ k. nodes_bytes nodes ++ k) (sym (take-append-drop 4 rest)) ∙ sym (append_assoc (nodes_bytes nodes) (take 4 rest) (drop 4 rest)) in
+    let header : take end bytes ≡ nodes_bytes nodes ++ take 4 rest =
+    ap (take end) split ∙ take_at (nodes_bytes nodes ++ take 4 rest) (drop 4 rest) end passed in
+    let join : others ≡ nodes_bytes nodes ++ (take 4 rest ++ more) =
+    sym (take-append-drop end others) ∙ ap (λ k. k ++ more) (agree ∙ header) ∙ append_assoc (nodes_bytes nodes) (take 4 rest) more in (
       nodes,
       take 4 rest ++ more,
       record {

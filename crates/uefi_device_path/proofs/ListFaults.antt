@@ -5,11 +5,11 @@ use Rattle.uefi_device_nodes.specs.NodeFaults.{fault_place}
 use Rattle.std.proofs.lemmas.List.Elements.{All-nil}
 use Rattle.uefi_device_nodes.specs.Nodes.{IsInner, Node}
 use Rattle.uefi_device_path.specs.Faults.{RefusedFor}
-use Rattle.uefi_device_path.specs.Paths.{AreNodes, joined, nodes_in}
+use Rattle.uefi_device_path.specs.Paths.{AreNodes, nodes_bytes, nodes_in}
 use Rattle.uefi_device_path.specs.PathLists.{ArePacked, BeginWithPaths, Breaks, BreaksAfter, list_bytes, paths_in}
 use Rattle.uefi_device_path.specs.declared.errors.DevicePathError.{DevicePathError}
 use Rattle.uefi_device_path.proofs.Lists.{ArePacked-list_bytes, paths_in-list_bytes, paths_long}
-use Rattle.uefi_device_path.proofs.Splits.{AreNodes-joined, nodes_in-joined}
+use Rattle.uefi_device_path.proofs.Splits.{AreNodes-nodes_bytes, nodes_in-nodes_bytes}
 
 -- the bytes before the rest are those of the paths
 list_front : (bytes : List ℕ) (paths : List (List Node)) (rest : List ℕ) → BeginWithPaths bytes paths rest
@@ -27,19 +27,19 @@ paths_front bytes paths rest begins =
 
 -- the bytes before the node at fault are those of the nodes
 node_front : (rest : List ℕ) (error : DevicePathError) (refused : RefusedFor rest error)
-    → take (error.offset - fault_place error.cause) rest ≡ joined refused.0
+    → take (error.offset - fault_place error.cause) rest ≡ nodes_bytes refused.0
 node_front rest error refused =
     let why = refused.2 in
-    let place : length (joined refused.0) ≡ error.offset - fault_place error.cause = omega (arith, why.offset) in
+    let place : length (nodes_bytes refused.0) ≡ error.offset - fault_place error.cause = omega (arith, why.offset) in
     ap (take (error.offset - fault_place error.cause)) why.begins.join
-    ∙ take_at (joined refused.0) refused.1 (error.offset - fault_place error.cause) place
+    ∙ take_at (nodes_bytes refused.0) refused.1 (error.offset - fault_place error.cause) place
 
 pub nodes_front : (rest : List ℕ) (error : DevicePathError) (refused : RefusedFor rest error)
     → AreNodes (take (error.offset - fault_place error.cause) rest)
     × (nodes_in (take (error.offset - fault_place error.cause) rest) ≡ refused.0)
 nodes_front rest error refused =
     let front = node_front rest error refused in
-    (AreNodes-joined refused.0 _ refused.2.begins.inner front, ap nodes_in front ∙ nodes_in-joined refused.0)
+    (AreNodes-nodes_bytes refused.0 _ refused.2.begins.inner front, ap nodes_in front ∙ nodes_in-nodes_bytes refused.0)
 
 pub breaks_after : (bytes : List ℕ) (paths : List (List Node)) (rest : List ℕ) (error : DevicePathError)
     → BeginWithPaths bytes paths rest → RefusedFor rest error
@@ -62,4 +62,4 @@ pub no_paths : ArePacked []
 no_paths = ArePacked-list_bytes [] [] (All-nil (All IsInner)) refl
 
 pub no_nodes : AreNodes []
-no_nodes = AreNodes-joined [] [] (All-nil IsInner) refl
+no_nodes = AreNodes-nodes_bytes [] [] (All-nil IsInner) refl

@@ -4,11 +4,11 @@ use Rattle.std.proofs.lemmas.Bool.{cases_Bool}
 use Rattle.std.proofs.lemmas.Grind.{common_steps}
 use Rattle.std.proofs.lemmas.List.Elements.{All-head, All-tail, All-append, All-cons, All-nil}
 use Rattle.uefi_device_nodes.specs.Nodes.{Node, IsInner, node_bytes, end_entire}
-use Rattle.uefi_device_path.specs.Paths.{BeginWith, BeginWithPath, joined, nodes_in, path_bytes}
+use Rattle.uefi_device_path.specs.Paths.{BeginWith, BeginWithPath, nodes_bytes, nodes_in, path_bytes}
 use Rattle.uefi_device_path.specs.PathLists.{ArePacked, ArePaths, BeginWithPaths, IsPathList, ListRefusedFor, is_end_entire, list_bytes, paths_among, paths_in}
 use Rattle.uefi_device_path.specs.Faults.{RefusedFor}
 use Rattle.uefi_device_path.specs.declared.errors.DevicePathError.{DevicePathError}
-use Rattle.uefi_device_path.proofs.Splits.{Stops-end, nodes_in-joined, prefix_free, refused_no_path, refused_once, same_error, same_node, split_once}
+use Rattle.uefi_device_path.proofs.Splits.{Stops-end, nodes_in-nodes_bytes, prefix_free, refused_no_path, refused_once, same_error, same_node, split_once}
 
 -- no inner node is taken for one that ends a path
 inner_goes_on : (n : Node) → IsInner n → is_end_entire n ≡ false
@@ -32,16 +32,16 @@ nodes_of_paths : List (List Node) → List Node
 nodes_of_paths [] = []
 nodes_of_paths (path ∷ paths) = path ++ end_entire ∷ nodes_of_paths paths
 
-joined-append : (ns ms : List Node) → joined (ns ++ ms) ≡ joined ns ++ joined ms
-joined-append ns ms = grind (arith, common_steps)
+nodes_bytes-append : (ns ms : List Node) → nodes_bytes (ns ++ ms) ≡ nodes_bytes ns ++ nodes_bytes ms
+nodes_bytes-append ns ms = grind (arith, common_steps)
 
-list-joined : (paths : List (List Node)) → list_bytes paths ≡ joined (nodes_of_paths paths)
+list-nodes_bytes : (paths : List (List Node)) → list_bytes paths ≡ nodes_bytes (nodes_of_paths paths)
 unfolding nodes_of_paths
-list-joined [] = refl
-list-joined (path ∷ paths) =
-    append_assoc (joined path) (node_bytes end_entire) (list_bytes paths)
-    ∙ ap (λ bytes. joined path ++ (node_bytes end_entire ++ bytes)) (list-joined paths)
-    ∙ sym (joined-append path (end_entire ∷ nodes_of_paths paths))
+list-nodes_bytes [] = refl
+list-nodes_bytes (path ∷ paths) =
+    append_assoc (nodes_bytes path) (node_bytes end_entire) (list_bytes paths)
+    ∙ ap (λ bytes. nodes_bytes path ++ (node_bytes end_entire ++ bytes)) (list-nodes_bytes paths)
+    ∙ sym (nodes_bytes-append path (end_entire ∷ nodes_of_paths paths))
 
 among-nodes : (paths : List (List Node)) → ArePaths paths → paths_among (nodes_of_paths paths) ≡ paths
 unfolding nodes_of_paths
@@ -54,8 +54,8 @@ among-nodes (path ∷ paths) are =
 pub paths_in-list_bytes : (paths : List (List Node)) → ArePaths paths → paths_in (list_bytes paths) ≡ paths
 unfolding paths_in
 paths_in-list_bytes paths are =
-    ap (λ bytes. paths_among (nodes_in bytes)) (list-joined paths)
-    ∙ ap paths_among (nodes_in-joined (nodes_of_paths paths)) ∙ among-nodes paths are
+    ap (λ bytes. paths_among (nodes_in bytes)) (list-nodes_bytes paths)
+    ∙ ap paths_among (nodes_in-nodes_bytes (nodes_of_paths paths)) ∙ among-nodes paths are
 
 pub IsPathList-list_bytes : (paths : List (List Node)) (bytes : List ℕ) → ArePaths paths → paths ≢ [] → bytes ≡ list_bytes paths → IsPathList bytes
 IsPathList-list_bytes paths bytes are some e =
@@ -67,7 +67,7 @@ pub paths_more : (bytes : List ℕ) (paths : List (List Node)) (path : List Node
     → BeginWith rest path (node_bytes end_entire ++ after) → BeginWithPaths bytes (paths ++ path ∷ []) after
 paths_more bytes paths path rest after begins next =
     let split : list_bytes (paths ++ path ∷ []) ≡ list_bytes paths ++ path_bytes path = grind (arith, common_steps) in
-    let here : rest ≡ path_bytes path ++ after = next.join ∙ sym (append_assoc (joined path) (node_bytes end_entire) after) in
+    let here : rest ≡ path_bytes path ++ after = next.join ∙ sym (append_assoc (nodes_bytes path) (node_bytes end_entire) after) in
     record {
       are_paths = All-append (All IsInner) paths (path ∷ []) begins.are_paths (All-cons (All IsInner) path [] next.inner (All-nil (All IsInner)));
       join = begins.join ∙ ap (λ k. list_bytes paths ++ k) here ∙ sym (append_assoc (list_bytes paths) (path_bytes path) after) ∙ ap (λ k. k ++ after) (sym split);
@@ -80,8 +80,8 @@ pub not_empty-push : (paths : List (List Node)) (path : List Node) → paths ++ 
 not_empty-push [] path e = absurd (cc)
 not_empty-push (p ∷ paths) path e = absurd (cc)
 
-path_split : (path : List Node) (others : List ℕ) → path_bytes path ++ others ≡ joined path ++ (node_bytes end_entire ++ others)
-path_split path others = append_assoc (joined path) (node_bytes end_entire) others
+path_split : (path : List Node) (others : List ℕ) → path_bytes path ++ others ≡ nodes_bytes path ++ (node_bytes end_entire ++ others)
+path_split path others = append_assoc (nodes_bytes path) (node_bytes end_entire) others
 
 -- where device paths are refused after some, no list of others is what they are
 refused_apart : (ps ms : List (List Node)) (rest : List ℕ) (inside : DevicePathError) → ArePaths ps → ArePaths ms → RefusedFor rest inside
@@ -91,9 +91,9 @@ refused_apart [] (m ∷ ms) rest inside ps_are ms_are refused e =
     absurd (refused_no_path rest inside refused m (list_bytes ms, record { inner = All-head (All IsInner) m ms ms_are; join = e ∙ path_split m (list_bytes ms) }))
 refused_apart (p ∷ ps) [] rest inside ps_are ms_are refused e =
     let none : length ((path_bytes p ++ list_bytes ps) ++ rest) ≡ 0 = ap length e in
-    absurd (omega (arith, none, length-append (path_bytes p ++ list_bytes ps) rest, length-append (path_bytes p) (list_bytes ps), length-append (joined p) (node_bytes end_entire)))
+    absurd (omega (arith, none, length-append (path_bytes p ++ list_bytes ps) rest, length-append (path_bytes p) (list_bytes ps), length-append (nodes_bytes p) (node_bytes end_entire)))
 refused_apart (p ∷ ps) (m ∷ ms) rest inside ps_are ms_are refused e =
-    let left : (path_bytes p ++ list_bytes ps) ++ rest ≡ joined p ++ (node_bytes end_entire ++ (list_bytes ps ++ rest)) =
+    let left : (path_bytes p ++ list_bytes ps) ++ rest ≡ nodes_bytes p ++ (node_bytes end_entire ++ (list_bytes ps ++ rest)) =
     append_assoc (path_bytes p) (list_bytes ps) rest ∙ path_split p (list_bytes ps ++ rest) in
     let both = split_once p m (node_bytes end_entire ++ (list_bytes ps ++ rest)) (node_bytes end_entire ++ list_bytes ms)
     (All-head (All IsInner) p ps ps_are) (All-head (All IsInner) m ms ms_are) (Stops-end (list_bytes ps ++ rest)) (Stops-end (list_bytes ms))
@@ -135,8 +135,8 @@ after_path bytes rest path packed begins = go (paths_in bytes) packed.are_paths 
     go : (paths : List (List Node)) → ArePaths paths → bytes ≡ list_bytes paths → paths_in bytes ≡ paths
         → ArePacked rest × (paths_in bytes ≡ path ∷ paths_in rest)
     go [] are join same =
-        let none : length (joined path ++ (node_bytes end_entire ++ rest)) ≡ 0 = ap length (sym begins.join ∙ join) in
-        absurd (omega (arith, none, length-append (joined path) (node_bytes end_entire ++ rest)))
+        let none : length (nodes_bytes path ++ (node_bytes end_entire ++ rest)) ≡ 0 = ap length (sym begins.join ∙ join) in
+        absurd (omega (arith, none, length-append (nodes_bytes path) (node_bytes end_entire ++ rest)))
     go (other ∷ paths) are join same =
         let both = split_once path other (node_bytes end_entire ++ rest) (node_bytes end_entire ++ list_bytes paths)
         begins.inner (All-head (All IsInner) other paths are) (Stops-end rest) (Stops-end (list_bytes paths))
@@ -149,7 +149,7 @@ after_path bytes rest path packed begins = go (paths_in bytes) packed.are_paths 
 pub few_paths : (paths : List (List Node)) → length paths ≤ length (list_bytes paths)
 few_paths [] = omega arith
 few_paths (path ∷ paths) =
-    omega (arith, few_paths paths, length-append (path_bytes path) (list_bytes paths), length-append (joined path) (node_bytes end_entire))
+    omega (arith, few_paths paths, length-append (path_bytes path) (list_bytes paths), length-append (nodes_bytes path) (node_bytes end_entire))
 
 pub few-ArePacked : (bytes : List ℕ) → ArePacked bytes → length (paths_in bytes) ≤ length bytes
 few-ArePacked bytes packed = subst (λ (k : List ℕ). length (paths_in bytes) ≤ length k) (sym packed.join) (few_paths (paths_in bytes))
@@ -157,7 +157,7 @@ few-ArePacked bytes packed = subst (λ (k : List ℕ). length (paths_in bytes) �
 -- a list with a path in it has bytes
 pub no_path_bytes : (path : List Node) (paths : List (List Node)) → length (list_bytes (path ∷ paths)) ≡ 0 → ⊥
 no_path_bytes path paths none =
-    omega (arith, none, length-append (path_bytes path) (list_bytes paths), length-append (joined path) (node_bytes end_entire))
+    omega (arith, none, length-append (path_bytes path) (list_bytes paths), length-append (nodes_bytes path) (node_bytes end_entire))
 
 -- there is one way to split bytes into device paths and a rest that is refused
 refused_lists : (ps ms : List (List Node)) (x y : List ℕ) (e f : DevicePathError) → ArePaths ps → ArePaths ms → RefusedFor x e → RefusedFor y f
@@ -180,9 +180,9 @@ refused_lists (p ∷ ps) [] x y e f ps_are ms_are x_not y_not same =
       },
     ))
 refused_lists (p ∷ ps) (m ∷ ms) x y e f ps_are ms_are x_not y_not same =
-    let left : (path_bytes p ++ list_bytes ps) ++ x ≡ joined p ++ (node_bytes end_entire ++ (list_bytes ps ++ x)) =
+    let left : (path_bytes p ++ list_bytes ps) ++ x ≡ nodes_bytes p ++ (node_bytes end_entire ++ (list_bytes ps ++ x)) =
     append_assoc (path_bytes p) (list_bytes ps) x ∙ path_split p (list_bytes ps ++ x) in
-    let right : (path_bytes m ++ list_bytes ms) ++ y ≡ joined m ++ (node_bytes end_entire ++ (list_bytes ms ++ y)) =
+    let right : (path_bytes m ++ list_bytes ms) ++ y ≡ nodes_bytes m ++ (node_bytes end_entire ++ (list_bytes ms ++ y)) =
     append_assoc (path_bytes m) (list_bytes ms) y ∙ path_split m (list_bytes ms ++ y) in
     let both = split_once p m (node_bytes end_entire ++ (list_bytes ps ++ x)) (node_bytes end_entire ++ (list_bytes ms ++ y))
     (All-head (All IsInner) p ps ps_are) (All-head (All IsInner) m ms ms_are) (Stops-end (list_bytes ps ++ x)) (Stops-end (list_bytes ms ++ y))

@@ -4,7 +4,7 @@ use Rattle.std.proofs.lemmas.Grind.{common_steps}
 use Rattle.std.proofs.lemmas.List.{append-nil}
 use Rattle.std.proofs.lemmas.List.Elements.{All-append, All-cons, All-head, All-nil, All-tail}
 use Rattle.uefi_device_nodes.specs.Nodes.{Node, node_bytes}
-use Rattle.uefi_device_path.specs.Paths.{AreNodes, joined, nodes_in}
+use Rattle.uefi_device_path.specs.Paths.{AreNodes, nodes_bytes, nodes_in}
 use Rattle.uefi_device_path.specs.FilePaths.{FileRefusedFor, IsReadable, file_path, with_node}
 use Rattle.uefi_device_path.specs.declared.errors.FilePathError.{FilePathError}
 use Rattle.uefi_device_path.proofs.Splits.{after_first, nodes_in-nil}
@@ -12,7 +12,7 @@ use Rattle.uefi_device_path.proofs.Splits.{after_first, nodes_in-nil}
 -- these nodes of the bytes were passed, and their names are the path
 pub record Named (bytes : List ℕ) (nodes : List Node) (rest path : List ℕ) : Type 0 where
   pub shown : nodes_in bytes ≡ nodes ++ nodes_in rest
-  pub long : length bytes ≡ length (joined nodes) + length rest
+  pub long : length bytes ≡ length (nodes_bytes nodes) + length rest
   pub readable : All IsReadable nodes
   pub made : path ≡ file_path nodes
 
@@ -23,10 +23,10 @@ fold_one start (m ∷ ns) n = fold_one (with_node start m) ns n
 pub file_path_more : (ns : List Node) (n : Node) → file_path (ns ++ n ∷ []) ≡ with_node (file_path ns) n
 file_path_more ns n = fold_one [] ns n
 
-joined_one : (ns : List Node) (n : Node) → length (joined (ns ++ n ∷ [])) ≡ length (joined ns) + length (node_bytes n)
+joined_one : (ns : List Node) (n : Node) → length (nodes_bytes (ns ++ n ∷ [])) ≡ length (nodes_bytes ns) + length (node_bytes n)
 joined_one ns n =
-    let split : joined (ns ++ n ∷ []) ≡ joined ns ++ node_bytes n = grind (arith, common_steps) in
-    ap length split ∙ length-append (joined ns) (node_bytes n)
+    let split : nodes_bytes (ns ++ n ∷ []) ≡ nodes_bytes ns ++ node_bytes n = grind (arith, common_steps) in
+    ap length split ∙ length-append (nodes_bytes ns) (node_bytes n)
 
 pub named_more : (bytes : List ℕ) (ns : List Node) (n : Node) (rest after path next : List ℕ) → Named bytes ns rest path
     → AreNodes rest → rest ≡ node_bytes n ++ after → IsReadable n → next ≡ with_node path n

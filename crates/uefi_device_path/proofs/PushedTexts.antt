@@ -4,7 +4,7 @@ use Rattle.std.proofs.lemmas.List.{drop-drop}
 use Rattle.uefi_device_nodes.specs.Nodes.{Node, end_entire, node_bytes, node_length}
 use Rattle.uefi_device_path.specs.Building.{path_length}
 use Rattle.uefi_device_path.specs.StyledReading.{Holds}
-use Rattle.uefi_device_path.specs.Paths.{IsPath, joined, nodes_in, path_bytes, without_end}
+use Rattle.uefi_device_path.specs.Paths.{IsPath, nodes_bytes, nodes_in, path_bytes, without_end}
 use Rattle.uefi_device_path.proofs.ShortForms.{bytes_of_both}
 use Rattle.uefi_device_path.proofs.TextLengths.{bytes_more}
 
@@ -26,22 +26,22 @@ holds_next old new newer nodes node end more on room is long path shown rest = r
 
 -- how many bytes the path has with the nodes of a text
 pub needed_is : (nodes told : List Node) (len needed : ℕ) → len ≡ length (path_bytes nodes)
-    → needed ≡ min (len + length (joined told)) (2 ^ 64 - 1) → needed ≡ path_length (nodes ++ told)
+    → needed ≡ min (len + length (nodes_bytes told)) (2 ^ 64 - 1) → needed ≡ path_length (nodes ++ told)
 needed_is nodes told len needed long is = omega (
   arith,
   long,
   is,
   ap length (bytes_of_both (nodes ++ told) nodes told refl),
-  length-append (joined nodes) (path_bytes told),
-  length-append (joined nodes) (node_bytes end_entire),
-  length-append (joined told) (node_bytes end_entire),
+  length-append (nodes_bytes nodes) (path_bytes told),
+  length-append (nodes_bytes nodes) (node_bytes end_entire),
+  length-append (nodes_bytes told) (node_bytes end_entire),
 )
 
 -- and with one node more
-pub joined_more : (nodes : List Node) (node : Node) → length (joined (nodes ++ node ∷ [])) ≡ length (joined nodes) + node_length node
+pub joined_more : (nodes : List Node) (node : Node) → length (nodes_bytes (nodes ++ node ∷ [])) ≡ length (nodes_bytes nodes) + node_length node
 joined_more nodes node = omega (
   arith,
   bytes_more nodes node,
-  length-append (joined nodes) (node_bytes end_entire),
-  length-append (joined (nodes ++ node ∷ [])) (node_bytes end_entire),
+  length-append (nodes_bytes nodes) (node_bytes end_entire),
+  length-append (nodes_bytes (nodes ++ node ∷ [])) (node_bytes end_entire),
 )

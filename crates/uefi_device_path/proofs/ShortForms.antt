@@ -7,26 +7,26 @@ use Rattle.std.proofs.lemmas.List.{append-nil, take_at}
 use Rattle.std.proofs.lemmas.List.Elements.{All-head, All-tail}
 use Rattle.uefi_device_nodes.specs.Nodes.{IsInner, Node, end_entire, node_bytes}
 use Rattle.uefi_device_path.specs.Matching.{Expands, IsExpansion, Names}
-use Rattle.uefi_device_path.specs.Paths.{BeginWithPath, joined, path_bytes}
+use Rattle.uefi_device_path.specs.Paths.{BeginWithPath, nodes_bytes, path_bytes}
 use Rattle.uefi_device_path.proofs.Splits.{prefix_free}
 
 -- the bytes of a path begin with one, and nothing follows
 pub whole_path : (bytes : List ℕ) (ns : List Node) → All IsInner ns → bytes ≡ path_bytes ns → BeginWithPath bytes ns
 whole_path bytes ns inner e =
-    ([], record { inner = inner; join = e ∙ ap (λ k. joined ns ++ k) (sym (append-nil (node_bytes end_entire))) })
+    ([], record { inner = inner; join = e ∙ ap (λ k. nodes_bytes ns ++ k) (sym (append-nil (node_bytes end_entire))) })
 
 -- the bytes before the end of a path are those of its nodes
-pub front_of_path : (bytes : List ℕ) (ns : List Node) → bytes ≡ path_bytes ns → take (length bytes - 4) bytes ≡ joined ns
+pub front_of_path : (bytes : List ℕ) (ns : List Node) → bytes ≡ path_bytes ns → take (length bytes - 4) bytes ≡ nodes_bytes ns
 front_of_path bytes ns e =
-    let long : length bytes ≡ length (joined ns) + 4 = ap length e ∙ length-append (joined ns) (node_bytes end_entire) in
-    ap (take (length bytes - 4)) e ∙ take_at (joined ns) (node_bytes end_entire) (length bytes - 4) (omega (arith, long))
+    let long : length bytes ≡ length (nodes_bytes ns) + 4 = ap length e ∙ length-append (nodes_bytes ns) (node_bytes end_entire) in
+    ap (take (length bytes - 4)) e ∙ take_at (nodes_bytes ns) (node_bytes end_entire) (length bytes - 4) (omega (arith, long))
 
 -- a path that begins with its end has no nodes
 pub first_is_end : (bytes after : List ℕ) (ns : List Node) → All IsInner ns → bytes ≡ path_bytes ns
     → bytes ≡ node_bytes end_entire ++ after → ns ≡ []
 first_is_end bytes after [] inner e f = refl
 first_is_end bytes after (m ∷ ms) inner e f =
-    let both = prefix_free end_entire m after (path_bytes ms) (sym f ∙ e ∙ append_assoc (node_bytes m) (joined ms) (node_bytes end_entire)) in
+    let both = prefix_free end_entire m after (path_bytes ms) (sym f ∙ e ∙ append_assoc (node_bytes m) (nodes_bytes ms) (node_bytes end_entire)) in
     absurd ((All-head IsInner m ms inner).not_end (sym both.0))
 
 -- after the first node of a path stands the path of the others
@@ -36,29 +36,29 @@ pub after_first_node : (bytes after : List ℕ) (ns : List Node) (n : Node) → 
 after_first_node bytes after [] n inner e f other =
     absurd (other (prefix_free n end_entire after [] (sym f ∙ e ∙ sym (append-nil (node_bytes end_entire)))).0)
 after_first_node bytes after (m ∷ ms) n inner e f other =
-    let both = prefix_free n m after (path_bytes ms) (sym f ∙ e ∙ append_assoc (node_bytes m) (joined ms) (node_bytes end_entire)) in
+    let both = prefix_free n m after (path_bytes ms) (sym f ∙ e ∙ append_assoc (node_bytes m) (nodes_bytes ms) (node_bytes end_entire)) in
     (ms, ap (λ k. k ∷ ms) (sym both.0), both.1, All-tail IsInner m ms inner)
 
 -- after the nodes of another path stands the path of the others
-pub after_nodes : (ns ms : List Node) (rest : List ℕ) → All IsInner ns → All IsInner ms → path_bytes ns ≡ joined ms ++ rest
+pub after_nodes : (ns ms : List Node) (rest : List ℕ) → All IsInner ns → All IsInner ms → path_bytes ns ≡ nodes_bytes ms ++ rest
     → (ks : List Node) × (ns ≡ ms ++ ks) × (rest ≡ path_bytes ks) × All IsInner ks
 after_nodes ns [] rest n_in m_in e = (ns, refl, sym e, n_in)
 after_nodes [] (m ∷ ms) rest n_in m_in e =
-    let both = prefix_free end_entire m [] (joined ms ++ rest) (append-nil (node_bytes end_entire) ∙ e ∙ append_assoc (node_bytes m) (joined ms) rest) in
+    let both = prefix_free end_entire m [] (nodes_bytes ms ++ rest) (append-nil (node_bytes end_entire) ∙ e ∙ append_assoc (node_bytes m) (nodes_bytes ms) rest) in
     absurd ((All-head IsInner m ms m_in).not_end (sym both.0))
 after_nodes (n ∷ ns) (m ∷ ms) rest n_in m_in e =
-    let both = prefix_free n m (path_bytes ns) (joined ms ++ rest)
-    (sym (append_assoc (node_bytes n) (joined ns) (node_bytes end_entire)) ∙ e ∙ append_assoc (node_bytes m) (joined ms) rest) in
+    let both = prefix_free n m (path_bytes ns) (nodes_bytes ms ++ rest)
+    (sym (append_assoc (node_bytes n) (nodes_bytes ns) (node_bytes end_entire)) ∙ e ∙ append_assoc (node_bytes m) (nodes_bytes ms) rest) in
     let others = after_nodes ns ms rest (All-tail IsInner n ns n_in) (All-tail IsInner m ms m_in) both.1 in
     let first = both.0 in
     let same : (n ∷ ns) ≡ (m ∷ ms) ++ others.0 = ap (λ k. k ∷ ns) first ∙ ap (λ ks. m ∷ ks) others.1 in
     (others.0, same, others.2, others.3)
 
 -- the bytes of a path that begins with nodes begin with theirs
-pub bytes_of_both : (ns ms ks : List Node) → ns ≡ ms ++ ks → path_bytes ns ≡ joined ms ++ path_bytes ks
+pub bytes_of_both : (ns ms ks : List Node) → ns ≡ ms ++ ks → path_bytes ns ≡ nodes_bytes ms ++ path_bytes ks
 bytes_of_both ns ms ks e =
-    let split : joined (ms ++ ks) ≡ joined ms ++ joined ks = grind (arith, common_steps) in
-    ap path_bytes e ∙ ap (λ k. k ++ node_bytes end_entire) split ∙ append_assoc (joined ms) (joined ks) (node_bytes end_entire)
+    let split : nodes_bytes (ms ++ ks) ≡ nodes_bytes ms ++ nodes_bytes ks = grind (arith, common_steps) in
+    ap path_bytes e ∙ ap (λ k. k ++ node_bytes end_entire) split ∙ append_assoc (nodes_bytes ms) (nodes_bytes ks) (node_bytes end_entire)
 
 -- lists of one length before an element are equal where the wholes are, and so are the elements and the rests
 same_place : (xs ys : List Node) (x y : Node) (r s : List Node) → length xs ≡ length ys → xs ++ x ∷ r ≡ ys ++ y ∷ s

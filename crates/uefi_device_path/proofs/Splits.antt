@@ -4,7 +4,7 @@ use Rattle.std.proofs.lemmas.Grind.{common_steps}
 use Rattle.std.proofs.lemmas.List.{take_at, drop_at}
 use Rattle.std.proofs.lemmas.List.Elements.{All-head, All-tail, All-append, All-cons, All-nil}
 use Rattle.uefi_device_nodes.specs.Nodes.{Node, IsInner, IsSound, node_bytes, node_length, end_entire, first_node, stated_length}
-use Rattle.uefi_device_path.specs.Paths.{AreNodes, BeginWith, BeginWithPath, IsPath, joined, nodes_in, nodes_within, path_bytes, without_end}
+use Rattle.uefi_device_path.specs.Paths.{AreNodes, BeginWith, BeginWithPath, IsPath, nodes_bytes, nodes_in, nodes_within, path_bytes, without_end}
 use Rattle.uefi_device_path.specs.declared.errors.DevicePathError.{DevicePathError}
 use Rattle.uefi_device_nodes.specs.declared.errors.NodeError.{NodeError}
 use Rattle.uefi_device_nodes.specs.NodeFaults.{fault_place, node_fault}
@@ -76,72 +76,72 @@ Stops-end rest node other inner e = inner.not_end (sym (prefix_free end_entire n
 pub Stops-fault : (rest : List ℕ) → node_fault rest ≢ None → Stops rest
 Stops-fault rest fault node other inner e = fault (ap node_fault e ∙ no_fault node other inner.sound)
 
-joined-cons : (n : Node) (ns : List Node) (x : List ℕ) → joined (n ∷ ns) ++ x ≡ node_bytes n ++ (joined ns ++ x)
-joined-cons n ns x = append_assoc (node_bytes n) (joined ns) x
+nodes_bytes-cons : (n : Node) (ns : List Node) (x : List ℕ) → nodes_bytes (n ∷ ns) ++ x ≡ node_bytes n ++ (nodes_bytes ns ++ x)
+nodes_bytes-cons n ns x = append_assoc (node_bytes n) (nodes_bytes ns) x
 
 -- there is one way to split bytes into nodes and a rest at which none begins
 pub split_once : (ns ms : List Node) (x y : List ℕ) → All IsInner ns → All IsInner ms → Stops x → Stops y
-    → joined ns ++ x ≡ joined ms ++ y → (ns ≡ ms) × (x ≡ y)
+    → nodes_bytes ns ++ x ≡ nodes_bytes ms ++ y → (ns ≡ ms) × (x ≡ y)
 split_once [] [] x y n_in m_in sx sy e = (refl, e)
-split_once [] (m ∷ ms) x y n_in m_in sx sy e = absurd (sx m (joined ms ++ y) (All-head IsInner m ms m_in) (e ∙ joined-cons m ms y))
-split_once (n ∷ ns) [] x y n_in m_in sx sy e = absurd (sy n (joined ns ++ x) (All-head IsInner n ns n_in) (sym e ∙ joined-cons n ns x))
+split_once [] (m ∷ ms) x y n_in m_in sx sy e = absurd (sx m (nodes_bytes ms ++ y) (All-head IsInner m ms m_in) (e ∙ nodes_bytes-cons m ms y))
+split_once (n ∷ ns) [] x y n_in m_in sx sy e = absurd (sy n (nodes_bytes ns ++ x) (All-head IsInner n ns n_in) (sym e ∙ nodes_bytes-cons n ns x))
 split_once (n ∷ ns) (m ∷ ms) x y n_in m_in sx sy e =
-    let both = prefix_free n m (joined ns ++ x) (joined ms ++ y) (sym (joined-cons n ns x) ∙ e ∙ joined-cons m ms y) in
+    let both = prefix_free n m (nodes_bytes ns ++ x) (nodes_bytes ms ++ y) (sym (nodes_bytes-cons n ns x) ∙ e ∙ nodes_bytes-cons m ms y) in
     let others = split_once ns ms x y (All-tail IsInner n ns n_in) (All-tail IsInner m ms m_in) sx sy both.1 in
     let first = both.0 in
     let rest = others.0 in
     let same : (n ∷ ns) ≡ (m ∷ ms) = cc in
     (same, others.1)
 
-within-joined : (count : ℕ) (ns : List Node) → length ns ≤ count → nodes_within count (joined ns) ≡ ns
-within-joined zero [] few = refl
-within-joined (suc count) [] few = refl
-within-joined zero (n ∷ ns) few = absurd (omega arith)
-within-joined (suc count) (n ∷ ns) few =
-    let first = first-node_bytes n (joined ns) in
-    let rest = rest-node_bytes n (joined ns) in
-    let others = within-joined count ns (omega arith) in
-    ap (λ m. m ∷ nodes_within count (drop (stated_length (node_bytes n ++ joined ns)) (node_bytes n ++ joined ns))) first
+within-nodes_bytes : (count : ℕ) (ns : List Node) → length ns ≤ count → nodes_within count (nodes_bytes ns) ≡ ns
+within-nodes_bytes zero [] few = refl
+within-nodes_bytes (suc count) [] few = refl
+within-nodes_bytes zero (n ∷ ns) few = absurd (omega arith)
+within-nodes_bytes (suc count) (n ∷ ns) few =
+    let first = first-node_bytes n (nodes_bytes ns) in
+    let rest = rest-node_bytes n (nodes_bytes ns) in
+    let others = within-nodes_bytes count ns (omega arith) in
+    ap (λ m. m ∷ nodes_within count (drop (stated_length (node_bytes n ++ nodes_bytes ns)) (node_bytes n ++ nodes_bytes ns))) first
     ∙ ap (λ bytes. n ∷ nodes_within count bytes) rest ∙ ap (λ ms. n ∷ ms) others
 
-pub few_nodes : (ns : List Node) → length ns ≤ length (joined ns)
+pub few_nodes : (ns : List Node) → length ns ≤ length (nodes_bytes ns)
 few_nodes [] = omega arith
 few_nodes (n ∷ ns) =
     let others = few_nodes ns in
-    let long : length (n.content ++ joined ns) ≡ length n.content + length (joined ns) = length-append n.content (joined ns) in
+    let long : length (n.content ++ nodes_bytes ns) ≡ length n.content + length (nodes_bytes ns) = length-append n.content (nodes_bytes ns) in
     omega arith
 
 -- what joins to bytes is what they are split into
-pub nodes_in-joined : (ns : List Node) → nodes_in (joined ns) ≡ ns
+pub nodes_in-nodes_bytes : (ns : List Node) → nodes_in (nodes_bytes ns) ≡ ns
 unfolding nodes_in
-nodes_in-joined ns = within-joined (length (joined ns)) ns (few_nodes ns)
+nodes_in-nodes_bytes ns = within-nodes_bytes (length (nodes_bytes ns)) ns (few_nodes ns)
 
-pub AreNodes-joined : (ns : List Node) (bytes : List ℕ) → All IsInner ns → bytes ≡ joined ns → AreNodes bytes
-AreNodes-joined ns bytes inner e =
-    let nodes : nodes_in bytes ≡ ns = ap nodes_in e ∙ nodes_in-joined ns in
-    record { inner = rw nodes inner; join = e ∙ ap joined (sym nodes) }
+pub AreNodes-nodes_bytes : (ns : List Node) (bytes : List ℕ) → All IsInner ns → bytes ≡ nodes_bytes ns → AreNodes bytes
+AreNodes-nodes_bytes ns bytes inner e =
+    let nodes : nodes_in bytes ≡ ns = ap nodes_in e ∙ nodes_in-nodes_bytes ns in
+    record { inner = rw nodes inner; join = e ∙ ap nodes_bytes (sym nodes) }
 
 -- the nodes of bytes that begin with one are that one and those of the rest
 pub after_first : (bytes rest : List ℕ) (n : Node) → AreNodes bytes → bytes ≡ node_bytes n ++ rest
     → AreNodes rest × (nodes_in bytes ≡ n ∷ nodes_in rest)
 after_first bytes rest n are e = go (nodes_in bytes) are.inner are.join refl
   where
-    go : (ns : List Node) → All IsInner ns → bytes ≡ joined ns → nodes_in bytes ≡ ns
+    go : (ns : List Node) → All IsInner ns → bytes ≡ nodes_bytes ns → nodes_in bytes ≡ ns
         → AreNodes rest × (nodes_in bytes ≡ n ∷ nodes_in rest)
     go [] inner join same = absurd (cc)
     go (m ∷ ms) inner join same =
-        let both = prefix_free n m rest (joined ms) (sym e ∙ join) in
-        let others = AreNodes-joined ms rest (All-tail IsInner m ms inner) both.1 in
-        let shown : nodes_in rest ≡ ms = ap nodes_in both.1 ∙ nodes_in-joined ms in
+        let both = prefix_free n m rest (nodes_bytes ms) (sym e ∙ join) in
+        let others = AreNodes-nodes_bytes ms rest (All-tail IsInner m ms inner) both.1 in
+        let shown : nodes_in rest ≡ ms = ap nodes_in both.1 ∙ nodes_in-nodes_bytes ms in
         (others, same ∙ ap (λ k. k ∷ ms) (sym both.0) ∙ ap (λ ks. n ∷ ks) (sym shown))
 
 -- a node begins where nodes are left
 pub no_fault-AreNodes : (bytes : List ℕ) → AreNodes bytes → length bytes ≢ 0 → node_fault bytes ≡ None
 no_fault-AreNodes bytes are some = go (nodes_in bytes) are.inner are.join
   where
-    go : (ns : List Node) → All IsInner ns → bytes ≡ joined ns → node_fault bytes ≡ None
+    go : (ns : List Node) → All IsInner ns → bytes ≡ nodes_bytes ns → node_fault bytes ≡ None
     go [] inner join = absurd (some (ap length join))
-    go (m ∷ ms) inner join = ap node_fault join ∙ no_fault m (joined ms) (All-head IsInner m ms inner).sound
+    go (m ∷ ms) inner join = ap node_fault join ∙ no_fault m (nodes_bytes ms) (All-head IsInner m ms inner).sound
 
 pub nodes_in-nil : (bytes : List ℕ) → length bytes ≡ 0 → nodes_in bytes ≡ []
 unfolding nodes_in
@@ -155,34 +155,34 @@ few-AreNodes bytes are = subst (λ (k : List ℕ). length (nodes_in bytes) ≤ l
 pub begin_more : (bytes : List ℕ) (ns : List Node) (n : Node) (rest after : List ℕ) → BeginWith bytes ns rest
     → rest ≡ node_bytes n ++ after → IsInner n → BeginWith bytes (ns ++ n ∷ []) after
 begin_more bytes ns n rest after begins e inner =
-    let split : joined (ns ++ n ∷ []) ≡ joined ns ++ node_bytes n = grind (arith, common_steps) in
+    let split : nodes_bytes (ns ++ n ∷ []) ≡ nodes_bytes ns ++ node_bytes n = grind (arith, common_steps) in
     record {
       inner = All-append IsInner ns (n ∷ []) begins.inner (All-cons IsInner n [] inner (All-nil IsInner));
-      join = begins.join ∙ ap (λ k. joined ns ++ k) e ∙ sym (append_assoc (joined ns) (node_bytes n) after) ∙ ap (λ k. k ++ after) (sym split);
+      join = begins.join ∙ ap (λ k. nodes_bytes ns ++ k) e ∙ sym (append_assoc (nodes_bytes ns) (node_bytes n) after) ∙ ap (λ k. k ++ after) (sym split);
     }
 
-pub begin_long : (bytes : List ℕ) (ns : List Node) (rest : List ℕ) → BeginWith bytes ns rest → length bytes ≡ length (joined ns) + length rest
-begin_long bytes ns rest begins = ap length begins.join ∙ length-append (joined ns) rest
+pub begin_long : (bytes : List ℕ) (ns : List Node) (rest : List ℕ) → BeginWith bytes ns rest → length bytes ≡ length (nodes_bytes ns) + length rest
+begin_long bytes ns rest begins = ap length begins.join ∙ length-append (nodes_bytes ns) rest
 
 -- the bytes of a device path are one, and show its nodes
 pub IsPath-path_bytes : (ns : List Node) (bytes : List ℕ) → All IsInner ns → bytes ≡ path_bytes ns
     → IsPath bytes × (nodes_in (without_end bytes) ≡ ns)
 IsPath-path_bytes ns bytes inner e =
-    let long : length bytes ≡ length (joined ns) + 4 = ap length e ∙ length-append (joined ns) (node_bytes end_entire) in
-    let both = length-append (joined ns) (node_bytes end_entire) in
+    let long : length bytes ≡ length (nodes_bytes ns) + 4 = ap length e ∙ length-append (nodes_bytes ns) (node_bytes end_entire) in
+    let both = length-append (nodes_bytes ns) (node_bytes end_entire) in
     let place = length (path_bytes ns) - 4 in
-    let cut = take_at (joined ns) (node_bytes end_entire) place (omega (arith, both)) in
-    let front : without_end bytes ≡ joined ns = ap without_end e ∙ cut in
-    let shown : nodes_in (without_end bytes) ≡ ns = ap nodes_in front ∙ nodes_in-joined ns in
-    (record { nodes = AreNodes-joined ns (without_end bytes) inner front; ends = e ∙ ap (λ k. k ++ node_bytes end_entire) (sym front) }, shown)
+    let cut = take_at (nodes_bytes ns) (node_bytes end_entire) place (omega (arith, both)) in
+    let front : without_end bytes ≡ nodes_bytes ns = ap without_end e ∙ cut in
+    let shown : nodes_in (without_end bytes) ≡ ns = ap nodes_in front ∙ nodes_in-nodes_bytes ns in
+    (record { nodes = AreNodes-nodes_bytes ns (without_end bytes) inner front; ends = e ∙ ap (λ k. k ++ node_bytes end_entire) (sym front) }, shown)
 
 -- bytes up to the end of the path are a path
 pub path_front : (bytes : List ℕ) (ns : List Node) (rest after : List ℕ) → BeginWith bytes ns rest
     → rest ≡ node_bytes end_entire ++ after → IsPath (take (length bytes - length rest + 4) bytes)
 path_front bytes ns rest after begins e =
-    let long : length bytes ≡ length (joined ns) + length rest = begin_long bytes ns rest begins in
-    let path_long : length (path_bytes ns) ≡ length (joined ns) + 4 = length-append (joined ns) (node_bytes end_entire) in
-    let whole : bytes ≡ path_bytes ns ++ after = begins.join ∙ ap (λ k. joined ns ++ k) e ∙ sym (append_assoc (joined ns) (node_bytes end_entire) after) in
+    let long : length bytes ≡ length (nodes_bytes ns) + length rest = begin_long bytes ns rest begins in
+    let path_long : length (path_bytes ns) ≡ length (nodes_bytes ns) + 4 = length-append (nodes_bytes ns) (node_bytes end_entire) in
+    let whole : bytes ≡ path_bytes ns ++ after = begins.join ∙ ap (λ k. nodes_bytes ns ++ k) e ∙ sym (append_assoc (nodes_bytes ns) (node_bytes end_entire) after) in
     let count : length (path_bytes ns) ≡ length bytes - length rest + 4 = omega arith in
     let front : take (length bytes - length rest + 4) bytes ≡ path_bytes ns =
     ap (take (length bytes - length rest + 4)) whole ∙ take_at (path_bytes ns) after (length bytes - length rest + 4) count in
@@ -220,7 +220,7 @@ refused_once bytes e f one other =
     let reasons : Some f.cause ≡ Some e.cause = sym other.2.cause ∙ ap node_fault (sym both.1) ∙ one.2.cause in
     let reason : f.cause ≡ e.cause = cc in
     let place : fault_place f.cause ≡ fault_place e.cause = ap fault_place reason in
-    let long : length (joined other.0) ≡ length (joined one.0) = ap (λ ns. length (joined ns)) (sym both.0) in
+    let long : length (nodes_bytes other.0) ≡ length (nodes_bytes one.0) = ap (λ ns. length (nodes_bytes ns)) (sym both.0) in
     let offset : f.offset ≡ e.offset = omega (arith, other.2.offset, one.2.offset, place, long) in
     same_error f.cause e.cause f.offset e.offset reason offset
 
@@ -228,8 +228,8 @@ refused_once bytes e f one other =
 pub path_no_fault : (rest : List ℕ) (ms : List Node) → BeginWithPath rest ms → node_fault rest ≡ None
 path_no_fault rest [] begins = ap node_fault begins.1.join ∙ no_fault end_entire begins.0 (λ _. (refl, λ _. refl))
 path_no_fault rest (m ∷ ms) begins =
-    ap node_fault (begins.1.join ∙ append_assoc (node_bytes m) (joined ms) (node_bytes end_entire ++ begins.0))
-    ∙ no_fault m (joined ms ++ (node_bytes end_entire ++ begins.0)) (All-head IsInner m ms begins.1.inner).sound
+    ap node_fault (begins.1.join ∙ append_assoc (node_bytes m) (nodes_bytes ms) (node_bytes end_entire ++ begins.0))
+    ∙ no_fault m (nodes_bytes ms ++ (node_bytes end_entire ++ begins.0)) (All-head IsInner m ms begins.1.inner).sound
 
 -- and where it does not end the path, the others begin after it
 pub path_step : (rest after : List ℕ) (node : Node) (ms : List Node) → BeginWithPath rest ms → rest ≡ node_bytes node ++ after
@@ -237,9 +237,9 @@ pub path_step : (rest after : List ℕ) (node : Node) (ms : List Node) → Begin
 path_step rest after node [] begins e other =
     absurd (other (prefix_free node end_entire after begins.0 (sym e ∙ begins.1.join)).0)
 path_step rest after node (m ∷ ms) begins e other =
-    let more = joined ms ++ (node_bytes end_entire ++ begins.0) in
+    let more = nodes_bytes ms ++ (node_bytes end_entire ++ begins.0) in
     let both = prefix_free node m after more
-    (sym e ∙ begins.1.join ∙ append_assoc (node_bytes m) (joined ms) (node_bytes end_entire ++ begins.0)) in (
+    (sym e ∙ begins.1.join ∙ append_assoc (node_bytes m) (nodes_bytes ms) (node_bytes end_entire ++ begins.0)) in (
       subst IsInner (sym both.0) (All-head IsInner m ms begins.1.inner),
       (ms, ap (λ n. n ∷ ms) (sym both.0), (begins.0, record { inner = All-tail IsInner m ms begins.1.inner; join = both.1 })),
     )

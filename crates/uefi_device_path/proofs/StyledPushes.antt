@@ -6,7 +6,7 @@ use Rattle.std.proofs.lemmas.Bool.{le-ltb, lt-ltb}
 use Rattle.std.proofs.lemmas.List.{append-nil, take_all}
 use Rattle.uefi_device_nodes.specs.Nodes.{Node, end_entire, node_bytes, node_length}
 use Rattle.uefi_device_path.specs.Building.{path_length}
-use Rattle.uefi_device_path.specs.StyledReading.{Holds, IsReadAs, grown_length, lenient_refusal, nodes_before, path_read}
+use Rattle.uefi_device_path.specs.StyledReading.{Holds, IsReadAs, grown_length, lenient_refusal, nodes_up_to, path_read}
 use Rattle.uefi_device_path.specs.Paths.{IsPath, nodes_in, path_bytes, without_end}
 use Rattle.uefi_device_path.specs.declared.lenient_errors.PushLenientTextError.TheVariants.{BufferTooSmall}
 use Rattle.uefi_device_path.specs.declared.lenient_errors.TextFault.{TextFault}
@@ -22,7 +22,7 @@ pub record Puts (style : TextStyle) (text old : List ℕ) (len : ℕ) (new : Lis
   pub on : Going style text nodes at_start rest
   pub count : end ≡ grown_length len nodes
   pub same : length new ≡ length old
-  pub holds : end ≤ length old → Holds old (nodes_before len old ++ nodes) new end
+  pub holds : end ≤ length old → Holds old (nodes_up_to len old ++ nodes) new end
 
 module _ (style : TextStyle) (text old : List ℕ) (len : ℕ) where
   pub puts_none : len ≤ 2 ^ 64 - 1 → (len ≤ length old → IsPath (take len old)) → Puts style text old len old len true text
@@ -34,7 +34,7 @@ module _ (style : TextStyle) (text old : List ℕ) (len : ℕ) where
     holds = λ fits. record {
       within = fits;
       path = path fits;
-      shown = sym (append-nil (nodes_before len old));
+      shown = sym (append-nil (nodes_up_to len old));
       same = refl;
       rest = refl;
     };
@@ -45,7 +45,7 @@ module _ (style : TextStyle) (text old : List ℕ) (len : ℕ) where
       → (on : Puts style text old len new end s rest) → Going style text (on.nodes ++ node ∷ []) t after
       → more ≡ min (end + node_length node) (2 ^ 64 - 1) → length newer ≡ length new
       → (more ≤ length new → more ≡ end + node_length node) → (more ≤ length new → IsPath (take more newer))
-      → (more ≤ length new → nodes_before more newer ≡ nodes_before end new ++ node ∷ [])
+      → (more ≤ length new → nodes_up_to more newer ≡ nodes_up_to end new ++ node ∷ [])
       → (more ≤ length new → drop more newer ≡ drop more new) → Puts style text old len newer more t after
   puts_next new newer end more s t rest after node on reads is long exact path shown left = record {
     nodes = on.nodes ++ node ∷ [];
@@ -55,17 +55,17 @@ module _ (style : TextStyle) (text old : List ℕ) (len : ℕ) where
     holds = λ fits.
         let room : more ≤ length new = omega (arith, fits, on.same) in
         let one = exact room in
-        subst (λ (ns : List Node). Holds old ns newer more) (append_assoc (nodes_before len old) on.nodes (node ∷ []))
-        (holds_next old new newer (nodes_before len old ++ on.nodes) node end more
+        subst (λ (ns : List Node). Holds old ns newer more) (append_assoc (nodes_up_to len old) on.nodes (node ∷ []))
+        (holds_next old new newer (nodes_up_to len old ++ on.nodes) node end more
         (on.holds (omega (arith, fits, one))) (omega (arith, room, one)) one long (path room) (shown room) (left room));
   }
 
 -- bytes that are a path with nodes added to none
 pub all_held : (old new : List ℕ) (nodes : List Node) (end : ℕ) → take 4 old ≡ node_bytes end_entire → length old ≡ end
-    → Holds old (nodes_before 4 old ++ nodes) new end → IsPath new × (nodes_in (without_end new) ≡ nodes)
+    → Holds old (nodes_up_to 4 old ++ nodes) new end → IsPath new × (nodes_in (without_end new) ≡ nodes)
 all_held old new nodes end begins long on =
     let whole : take end new ≡ new = take_all end new (omega (arith, on.same, long)) in
-    let none : nodes_before 4 old ≡ [] = (path_empty (take 4 old) begins).1 in (
+    let none : nodes_up_to 4 old ≡ [] = (path_empty (take 4 old) begins).1 in (
       subst IsPath whole on.path,
       ap (λ (l : List ℕ). nodes_in (without_end l)) (sym whole) ∙ on.shown ∙ ap (λ (ns : List Node). ns ++ nodes) none,
     )
@@ -101,7 +101,7 @@ pub path_held : (style : TextStyle) (text old new : List ℕ) (needed end : ℕ)
     → Ok needed ≡ result_map_both (grown_length 4) (λ (fault : TextFault). fault) (path_read style text)
     → Ok end ≡ result_map_both (grown_length 4) (λ (fault : TextFault). fault) (path_read style text)
     → take 4 old ≡ node_bytes end_entire → length old ≡ needed
-    → ((nodes : List Node) → IsReadAs style text nodes → end ≤ length old → Holds old (nodes_before 4 old ++ nodes) new end)
+    → ((nodes : List Node) → IsReadAs style text nodes → end ≤ length old → Holds old (nodes_up_to 4 old ++ nodes) new end)
     → IsPath new × IsReadAs style text (nodes_in (without_end new))
 path_held style text old new needed end first second begins long put =
     let (nodes, is, count) = counted (grown_length 4) (path_read style text) needed first in

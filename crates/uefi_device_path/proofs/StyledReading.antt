@@ -7,7 +7,7 @@ use Rattle.std.proofs.lemmas.Result.{IfErr-at_err}
 use borrow.Author.Tests.{eqb-true}
 use Rattle.uefi_device_nodes.specs.Nodes.{Node}
 use Rattle.uefi_device_path.specs.Laws.{PrintedIsRead}
-use Rattle.uefi_device_path.specs.StyledReading.{follows_comma, place_read, IsReadAs, Reads, ReadingStopsAt, ReadsTo, Stops, fault_from, more_nodes, node_then, nodes_left, path_read}
+use Rattle.uefi_device_path.specs.StyledReading.{follows_comma, place_read, IsReadAs, Reads, ReadingStopsAt, ReadsTo, StopsBeingRead, fault_from, more_nodes, node_then, nodes_of_rest, path_read}
 use Rattle.uefi_device_path.specs.StyledReading.ReadsTo.{Begins, Comma, OneMore}
 use Rattle.uefi_device_path.specs.PathReading.{AreTold, end_instance, is_after_instance}
 use Rattle.uefi_device_path.specs.declared.lenient_errors.TextFault.{TextFault}
@@ -64,7 +64,7 @@ at_place false place = refl
 module _ (style : TextStyle) (text : List ℕ) where
   -- the nodes of what is left of a text
   abbrev pub left : Bool → List ℕ → Nodes
-  left s rest = nodes_left style text (suc (length rest)) s rest
+  left s rest = nodes_of_rest style text (suc (length rest)) s rest
 
   after_shorter : StyledEnds → (place : List ℕ) (node : Node) (after : List ℕ) → place_read style text place ≡ Ok (node, after)
       → length after < length place
@@ -80,7 +80,7 @@ module _ (style : TextStyle) (text : List ℕ) where
 
   -- a bound that is long enough does not matter
   enough : StyledEnds → (m n : ℕ) (s : Bool) (rest : List ℕ) → length rest < m → length rest < n
-      → nodes_left style text m s rest ≡ nodes_left style text n s rest
+      → nodes_of_rest style text m s rest ≡ nodes_of_rest style text n s rest
   enough ends zero n s rest l k = absurd (omega (arith, l))
   enough ends (suc m) zero s rest l k = absurd (omega (arith, k))
   enough ends (suc m) (suc n) s [] l k = refl
@@ -93,11 +93,11 @@ module _ (style : TextStyle) (text : List ℕ) where
       fits true after h = h
       fits false after h = omega (arith, h)
 
-      by : (b : Bool) → ((t : Bool) (r : List ℕ) → length r < m → length r < n → nodes_left style text m t r ≡ nodes_left style text n t r)
-          → cond b (more_nodes end_instance (nodes_left style text m true cs)) (node_then text (place s) (nodes_left style text m false) (place_read style text (place s)))
-          ≡ cond b (more_nodes end_instance (nodes_left style text n true cs)) (node_then text (place s) (nodes_left style text n false) (place_read style text (place s)))
+      by : (b : Bool) → ((t : Bool) (r : List ℕ) → length r < m → length r < n → nodes_of_rest style text m t r ≡ nodes_of_rest style text n t r)
+          → cond b (more_nodes end_instance (nodes_of_rest style text m true cs)) (node_then text (place s) (nodes_of_rest style text m false) (place_read style text (place s)))
+          ≡ cond b (more_nodes end_instance (nodes_of_rest style text n true cs)) (node_then text (place s) (nodes_of_rest style text n false) (place_read style text (place s)))
       by true h = ap (more_nodes end_instance) (h true cs (omega (arith, l)) (omega (arith, k)))
-      by false h = then_same (place s) (place_read style text (place s)) refl (nodes_left style text m false) (nodes_left style text n false)
+      by false h = then_same (place s) (place_read style text (place s)) refl (nodes_of_rest style text m false) (nodes_of_rest style text n false)
           (λ node after read. let less = fits s after (after_shorter ends (place s) node after read) in
           h false after (omega (arith, less, l)) (omega (arith, less, k)))
 
@@ -106,10 +106,10 @@ module _ (style : TextStyle) (text : List ℕ) where
   left_comma s rest after is = ap (left s) is
 
   left_place : (s : Bool) (rest : List ℕ) → is_after_instance rest ≡ false
-      → left s rest ≡ node_then text (cond s rest (drop 1 rest)) (nodes_left style text (length rest) false) (place_read style text (cond s rest (drop 1 rest)))
+      → left s rest ≡ node_then text (cond s rest (drop 1 rest)) (nodes_of_rest style text (length rest) false) (place_read style text (cond s rest (drop 1 rest)))
   left_place s [] other = absurd (true≢false other)
-  left_place s (c ∷ cs) other = ap (λ (b : Bool). cond b (more_nodes end_instance (nodes_left style text (suc (length cs)) true cs))
-      (node_then text (cond s (c ∷ cs) cs) (nodes_left style text (suc (length cs)) false) (place_read style text (cond s (c ∷ cs) cs)))) other
+  left_place s (c ∷ cs) other = ap (λ (b : Bool). cond b (more_nodes end_instance (nodes_of_rest style text (suc (length cs)) true cs))
+      (node_then text (cond s (c ∷ cs) cs) (nodes_of_rest style text (suc (length cs)) false) (place_read style text (cond s (c ∷ cs) cs)))) other
 
   place_fits : (s : Bool) (rest : List ℕ) → length (cond s rest (drop 1 rest)) ≤ length rest
   place_fits true rest = omega arith
@@ -118,10 +118,10 @@ module _ (style : TextStyle) (text : List ℕ) where
 
   module _ (s : Bool) (rest place : List ℕ) (other : is_after_instance rest ≡ false) (is : place ≡ cond s rest (drop 1 rest)) where
     left_read : (r : Result (Node × List ℕ) NodeFault) → place_read style text place ≡ r
-        → left s rest ≡ node_then text place (nodes_left style text (length rest) false) r
+        → left s rest ≡ node_then text place (nodes_of_rest style text (length rest) false) r
     left_read r read = left_place s rest other
-        ∙ (λ i. node_then text (sym is i) (nodes_left style text (length rest) false) (place_read style text (sym is i)))
-        ∙ ap (node_then text place (nodes_left style text (length rest) false)) read
+        ∙ (λ i. node_then text (sym is i) (nodes_of_rest style text (length rest) false) (place_read style text (sym is i)))
+        ∙ ap (node_then text place (nodes_of_rest style text (length rest) false)) read
 
     pub shorter : StyledEnds → (node : Node) (after : List ℕ) → place_read style text place ≡ Ok (node, after) → length after < length rest
     shorter ends node after read =
@@ -154,7 +154,7 @@ module _ (style : TextStyle) (text : List ℕ) where
   read_is : StyledStarts → StyledEnds → (nodes : List Node) → Reads style text nodes → IsReadAs style text nodes
   read_is starts ends nodes (s, on) = sym (start starts ends on) ∙ ap (λ (l : List Node). Ok l) (append-nil nodes)
 
-  stop_is : StyledStarts → StyledEnds → (fault : TextFault) → Stops style text fault → ReadingStopsAt style text fault
+  stop_is : StyledStarts → StyledEnds → (fault : TextFault) → StopsBeingRead style text fault → ReadingStopsAt style text fault
   stop_is starts ends fault (nodes, s, rest, stop) =
       sym (start starts ends stop.reads)
       ∙ ap (onto nodes) (left_fault s (separator s ++ rest) rest (other s stop.not_empty) (at_place s rest) stop.found stop.refused
@@ -189,21 +189,21 @@ module _ (style : TextStyle) (text : List ℕ) where
 
   abbrev Means : List Node → Nodes → Type 0
   Means nodes (Ok more) = Reads style text (nodes ++ more)
-  Means nodes (Err fault) = Stops style text fault
+  Means nodes (Err fault) = StopsBeingRead style text fault
 
   more_means : (nodes : List Node) (node : Node) (r : Nodes) → Means (nodes ++ node ∷ []) r → Means nodes (more_nodes node r)
   more_means nodes node (Ok more) h = subst (λ (l : List Node). Reads style text l) (append_assoc nodes (node ∷ []) more) h
   more_means nodes node (Err fault) h = h
 
   means : StyledEnds → (m : ℕ) (nodes : List Node) (s : Bool) (rest : List ℕ) → length rest < m → ReadsTo style text nodes s rest
-      → Means nodes (nodes_left style text m s rest)
+      → Means nodes (nodes_of_rest style text m s rest)
   means ends zero nodes s rest l on = absurd (omega (arith, l))
   means ends (suc m) nodes s [] l on =
       (s, subst (λ (x : List Node). ReadsTo style text x s []) (sym (append-nil nodes)) on)
   means ends (suc m) nodes s (c ∷ cs) l on = by (c == 44) refl (means ends m)
     where
       Next : Type 0
-      Next = (done : List Node) (t : Bool) (r : List ℕ) → length r < m → ReadsTo style text done t r → Means done (nodes_left style text m t r)
+      Next = (done : List Node) (t : Bool) (r : List ℕ) → length r < m → ReadsTo style text done t r → Means done (nodes_of_rest style text m t r)
 
       place : List ℕ
       place = cond s (c ∷ cs) cs
@@ -212,8 +212,8 @@ module _ (style : TextStyle) (text : List ℕ) where
       whole p = place_is s (c ∷ cs) p (reads_end ends on)
 
       read_on : (c == 44) ≡ false → (r : Result (Node × List ℕ) NodeFault) → place_read style text place ≡ r → Next
-          → Means nodes (node_then text place (nodes_left style text m false) r)
-      read_on p (Ok read) is h = more_means nodes read.0 (nodes_left style text m false read.1)
+          → Means nodes (node_then text place (nodes_of_rest style text m false) r)
+      read_on p (Ok read) is h = more_means nodes read.0 (nodes_of_rest style text m false read.1)
           (h (nodes ++ read.0 ∷ []) false read.1
           (omega (arith, l, after_shorter ends place read.0 read.1 is, ap length (whole p), length-append (separator s) place))
           (OneMore nodes s read.0 place read.1 (subst (λ (x : List ℕ). ReadsTo style text nodes s x) (whole p) on) is))
@@ -233,8 +233,8 @@ module _ (style : TextStyle) (text : List ℕ) where
       )
 
       by : (b : Bool) → (c == 44) ≡ b → Next
-          → Means nodes (cond b (more_nodes end_instance (nodes_left style text m true cs)) (node_then text place (nodes_left style text m false) (place_read style text place)))
-      by true p h = more_means nodes end_instance (nodes_left style text m true cs)
+          → Means nodes (cond b (more_nodes end_instance (nodes_of_rest style text m true cs)) (node_then text place (nodes_of_rest style text m false) (place_read style text place)))
+      by true p h = more_means nodes end_instance (nodes_of_rest style text m true cs)
           (h (nodes ++ end_instance ∷ []) true cs (omega (arith, l))
           (Comma nodes s cs (subst (λ (x : ℕ). ReadsTo style text nodes s (x ∷ cs)) (eqb-true c 44 p) on)))
       by false p h = read_on p (place_read style text place) refl h
@@ -246,7 +246,7 @@ module _ (style : TextStyle) (text : List ℕ) where
   pub reads_mean : StyledStarts → StyledEnds → (nodes : List Node) → IsReadAs style text nodes ↔ Reads style text nodes
   reads_mean starts ends nodes = (λ is. subst (λ (r : Nodes). Means [] r) is (all_means ends), read_is starts ends nodes)
 
-  pub stops_mean : StyledStarts → StyledEnds → (fault : TextFault) → ReadingStopsAt style text fault ↔ Stops style text fault
+  pub stops_mean : StyledStarts → StyledEnds → (fault : TextFault) → ReadingStopsAt style text fault ↔ StopsBeingRead style text fault
   stops_mean starts ends fault = (λ is. subst (λ (r : Nodes). Means [] r) is (all_means ends), stop_is starts ends fault)
 
   -- the laws

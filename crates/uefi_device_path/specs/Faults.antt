@@ -2,7 +2,7 @@
 use Rattle.std.specs.Prelude.{◌≡◌, ◌↔◌, ℕ, ◌+◌, IfErr, IfOk, IsOk, List, Result, length, Some}
 use Rattle.uefi_device_nodes.specs.NodeFaults.{fault_place, node_fault}
 use Rattle.uefi_device_nodes.specs.Nodes.{Node}
-use Rattle.uefi_device_path.specs.Paths.{BeginWith, BeginWithPath, joined}
+use Rattle.uefi_device_path.specs.Paths.{BeginWith, BeginWithPath, nodes_bytes}
 use Rattle.uefi_device_path.specs.declared.errors.DevicePathError.{DevicePathError}
 
 -- bytes are these nodes and then a rest at which no node begins, for the cause and at the place that
@@ -11,7 +11,7 @@ pub record RefusesNode (bytes : List ℕ) (error : DevicePathError) (nodes : Lis
     (rest : List ℕ) : Type 0 where
   pub begins : BeginWith bytes nodes rest
   pub cause : node_fault rest ≡ Some error.cause
-  pub offset : error.offset ≡ length (joined nodes) + fault_place error.cause
+  pub offset : error.offset ≡ length (nodes_bytes nodes) + fault_place error.cause
 
 -- bytes are refused for this error
 abbrev pub RefusedFor : List ℕ → DevicePathError → Type 0

@@ -10,7 +10,7 @@ use Rattle.uefi_device_nodes.specs.Nodes.{Node, IsInner}
 use Rattle.uefi_device_nodes.specs.NodeFaults.{fault_place}
 use Rattle.uefi_device_nodes.specs.declared.errors.NodeError.{NodeError}
 use Rattle.uefi_device_nodes.specs.declared.errors.NodeError.TheVariants.{Missing, TruncatedHeader, UnknownEnd, LengthBelowHeader, EndWithData, BeyondEnd}
-use Rattle.uefi_device_path.specs.StyledReading.{IsReadAs, Reads, ReadingStopsAt, Stops}
+use Rattle.uefi_device_path.specs.StyledReading.{IsReadAs, Reads, ReadingStopsAt, StopsBeingRead}
 use Rattle.uefi_device_path.specs.PathReading.{AreTold, StopsAt}
 use Rattle.uefi_text.specs.Packed.{IsByte}
 use Rattle.uefi_field_texts.specs.ShownTexts.{IsShown}
@@ -105,7 +105,7 @@ ReadMeans = (style : TextStyle) (text : List ℕ) (nodes : List Node)
 -- and it has this fault if and only if it stops being the text of nodes there
 abbrev pub StopMeans : Type 0
 StopMeans = (style : TextStyle) (text : List ℕ) (fault : TextFault)
-    → ReadingStopsAt style text fault ↔ Stops style text fault
+    → ReadingStopsAt style text fault ↔ StopsBeingRead style text fault
 
 -- the wrong byte does not stand before the node that it belongs to, nor after the end of the text
 abbrev pub FaultsWithin : Type 0

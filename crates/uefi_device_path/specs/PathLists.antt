@@ -3,7 +3,7 @@ use Rattle.std.specs.Prelude.{◌≡◌, ◌≢◌, ℕ, ◌+◌, ◌==◌, ◌&
 use Rattle.std.specs.List.{flat_map, onto_first}
 use Rattle.uefi_device_nodes.specs.NodeFaults.{node_fault}
 use Rattle.uefi_device_nodes.specs.Nodes.{Node, IsInner}
-use Rattle.uefi_device_path.specs.Paths.{joined, nodes_in, path_bytes}
+use Rattle.uefi_device_path.specs.Paths.{nodes_bytes, nodes_in, path_bytes}
 use Rattle.uefi_device_path.specs.Faults.{RefusedFor}
 use Rattle.uefi_device_path.specs.declared.errors.DevicePathError.{DevicePathError}
 use Rattle.uefi_device_nodes.specs.declared.errors.NodeError.{NodeError}
@@ -66,7 +66,7 @@ pub record Breaks (bytes : List ℕ) (paths : List (List Node)) (nodes : List No
     (rest : List ℕ) : Type 0 where
   pub are_paths : ArePaths paths
   pub inner : All IsInner nodes
-  pub join : bytes ≡ list_bytes paths ++ (joined nodes ++ rest)
+  pub join : bytes ≡ list_bytes paths ++ (nodes_bytes nodes ++ rest)
   pub cause_is : node_fault rest ≡ Some cause
 
 abbrev pub BreaksAfter : List ℕ → List (List Node) → List Node → NodeError → Type 0

@@ -4,7 +4,7 @@ use Rattle.uefi_device_nodes.specs.Nodes.{Node}
 use Rattle.uefi_device_path.specs.Building.{path_length}
 use Rattle.uefi_device_path.specs.PathReading.{end_instance, is_after_instance}
 use Rattle.uefi_device_path.specs.Faults.{RefusedFor}
-use Rattle.uefi_device_path.specs.Paths.{IsPath, joined, nodes_in, without_end}
+use Rattle.uefi_device_path.specs.Paths.{IsPath, nodes_bytes, nodes_in, without_end}
 use Rattle.uefi_device_path.specs.declared.lenient_errors.LenientTextError.{LenientTextError}
 use Rattle.uefi_device_path.specs.declared.lenient_errors.LenientTextError.TheVariants.{NoNode, OutOfMemory}
 use Rattle.uefi_device_path.specs.declared.lenient_errors.PushLenientTextError.{PushLenientTextError}
@@ -46,17 +46,17 @@ node_then text place next (Err found) = Err (fault_from text place found)
 
 -- the nodes of what is left of a text, where an instance begins or a slash stands, and fewer bytes than this
 -- are left: a comma ends an instance
-abbrev pub nodes_left : TextStyle → List ℕ → ℕ → Bool → List ℕ → Result (List Node) TextFault
-nodes_left style text zero at_start rest = Ok []
-nodes_left style text (suc most) at_start [] = Ok []
-nodes_left style text (suc most) at_start (c ∷ cs) =
-    if c == 44 then more_nodes end_instance (nodes_left style text most true cs)
-    else node_then text (if at_start then c ∷ cs else cs) (nodes_left style text most false)
+abbrev pub nodes_of_rest : TextStyle → List ℕ → ℕ → Bool → List ℕ → Result (List Node) TextFault
+nodes_of_rest style text zero at_start rest = Ok []
+nodes_of_rest style text (suc most) at_start [] = Ok []
+nodes_of_rest style text (suc most) at_start (c ∷ cs) =
+    if c == 44 then more_nodes end_instance (nodes_of_rest style text most true cs)
+    else node_then text (if at_start then c ∷ cs else cs) (nodes_of_rest style text most false)
     (place_read style text (if at_start then c ∷ cs else cs))
 
 -- the nodes that a text is read as in a style, or its fault
 unfoldable pub path_read : TextStyle → List ℕ → Result (List Node) TextFault
-path_read style text = nodes_left style text (suc (length text)) true text
+path_read style text = nodes_of_rest style text (suc (length text)) true text
 
 -- a text is read as nodes to its end
 abbrev pub IsReadAs : TextStyle → List ℕ → List Node → Type 0
@@ -101,23 +101,23 @@ pub record ReadingStops (style : TextStyle) (text : List ℕ) (fault : TextFault
   pub expected : fault.expected ≡ found.expected
 
 -- a text stops being that of nodes where this fault says
-abbrev pub Stops : TextStyle → List ℕ → TextFault → Type 0
-Stops style text fault = (nodes : List Node) × (at_start : Bool) × (rest : List ℕ)
+abbrev pub StopsBeingRead : TextStyle → List ℕ → TextFault → Type 0
+StopsBeingRead style text fault = (nodes : List Node) × (at_start : Bool) × (rest : List ℕ)
     × ReadingStops style text fault nodes at_start rest
 
 -- how many bytes a path of `len` bytes has with these nodes, as far as a `usize` counts
 abbrev pub grown_length : ℕ → List Node → ℕ
-grown_length len nodes = min (len + length (joined nodes)) (2 ^ 64 - 1)
+grown_length len nodes = min (len + length (nodes_bytes nodes)) (2 ^ 64 - 1)
 
 -- the nodes of the path that the first bytes of a buffer are
-abbrev pub nodes_before : ℕ → List ℕ → List Node
-nodes_before len buffer = nodes_in (without_end (take len buffer))
+abbrev pub nodes_up_to : ℕ → List ℕ → List Node
+nodes_up_to len buffer = nodes_in (without_end (take len buffer))
 
 -- a buffer that was `old` begins with the path of these nodes, and what follows it is unchanged
 pub record Holds (old : List ℕ) (nodes : List Node) (new : List ℕ) (end : ℕ) : Type 0 where
   pub within : end ≤ length new
   pub path : IsPath (take end new)
-  pub shown : nodes_before end new ≡ nodes
+  pub shown : nodes_up_to end new ≡ nodes
   pub same : length new ≡ length old
   pub rest : drop end new ≡ drop end old
 

@@ -8,7 +8,7 @@ ghost use Rattle.uefi_text.specs.Units.{IsText, nul_terminated};
 ghost use Rattle.uefi_text.specs.Views.{text_of};
 ghost use Rattle.uefi_device_path.specs.FilePaths.{FilePathRefusedFor, IsReadable, file_path};
 ghost use Rattle.uefi_device_nodes.specs.Nodes.{IsInner, is_end_instance};
-ghost use Rattle.uefi_device_path.specs.Paths.{AreNodes, joined, nodes_in};
+ghost use Rattle.uefi_device_path.specs.Paths.{AreNodes, nodes_bytes, nodes_in};
 ghost use Rattle.uefi_device_path.specs.Instances.{instances, instances_in};
 ghost use Rattle.uefi_device_nodes.specs.NodeViews.{node_of};
 ghost use Rattle.uefi_text.specs.Runs.{GivesEach};
@@ -73,7 +73,7 @@ impl<'a> DevicePathInstance<'a> {
 
     /// The bytes of the nodes.
     pub fn as_bytes(&self) -> &'a [u8]
-        ensures bytes { result.now ≡ joined (instance_nodes self.now) }
+        ensures bytes { result.now ≡ nodes_bytes (instance_nodes self.now) }
         ensures inner { All IsInner (instance_nodes self.now) }
     {
         self.bytes
@@ -158,9 +158,9 @@ impl<'a> DevicePathInstance<'a> {
 impl<'a> PartialEq for DevicePathInstance<'a> {
     ghost use Rattle.uefi_device_path.specs.Views.{instance_nodes};
 
-    ghost eq = { λ a b. pointwise nat_eq (joined (instance_nodes a)) (joined (instance_nodes b)) };
+    ghost eq = { λ a b. pointwise nat_eq (nodes_bytes (instance_nodes a)) (nodes_bytes (instance_nodes b)) };
 
-    ghost laws = { on_per (λ a. joined (instance_nodes a)) (partial_equiv_from_equiv nat_list_eq_equiv) };
+    ghost laws = { on_per (λ a. nodes_bytes (instance_nodes a)) (partial_equiv_from_equiv nat_list_eq_equiv) };
 
     fn eq(&self, other: &Self) -> bool {
         self.as_bytes() == other.as_bytes()
@@ -170,7 +170,7 @@ impl<'a> PartialEq for DevicePathInstance<'a> {
 impl<'a> Eq for DevicePathInstance<'a> {
     ghost use Rattle.uefi_device_path.specs.Views.{instance_nodes};
 
-    ghost laws = { on_texts_equal (λ a. joined (instance_nodes a)) };
+    ghost laws = { on_texts_equal (λ a. nodes_bytes (instance_nodes a)) };
 }
 
 /// Hashes the bytes.
@@ -180,7 +180,7 @@ impl<'a> Hash for DevicePathInstance<'a> {
     ghost use Rattle.std.specs.Cmp.Rules.{comparing, hashing};
     ghost use Rattle.uefi_device_path.specs.Views.{instance_nodes};
 
-    ghost hash_input = { λ a. fed.slice fed.u8 (joined (instance_nodes a)) };
+    ghost hash_input = { λ a. fed.slice fed.u8 (nodes_bytes (instance_nodes a)) };
 
     ghost respects_eq = { Prim.search (hashing, comparing, rules) };
 

@@ -4,9 +4,9 @@
 ghost use Rattle.std.specs.Prelude.{take, true, false, if◌then◌else◌, drop, ◌++◌, ◌∷◌, ◌≡◌, ◌+◌, ◌-◌, ◌<◌, ◌≤◌, ◌^◌, min, [], List, IfOk, IfErr, MatchOption, OnOk, Err, length};
 ghost use Rattle.std.specs.Result.{result_map_both};
 ghost use Rattle.uefi_device_nodes.specs.Nodes.{Node};
-ghost use Rattle.uefi_device_path.specs.StyledReading.{GivesText, Holds, IsReadAs, IsStyledText, fault_from, grown_length, follows_comma, nodes_before, path_read, place_read};
+ghost use Rattle.uefi_device_path.specs.StyledReading.{GivesText, Holds, IsReadAs, IsStyledText, fault_from, grown_length, follows_comma, nodes_up_to, path_read, place_read};
 ghost use Rattle.uefi_device_path.specs.PathReading.{end_instance, is_after_instance};
-ghost use Rattle.uefi_device_path.specs.Paths.{IsPath, joined};
+ghost use Rattle.uefi_device_path.specs.Paths.{IsPath, nodes_bytes};
 ghost use Rattle.uefi_built_nodes.specs.RawNodes.{raw_node};
 ghost use Rattle.uefi_node_reader.specs.NamedFiles.{IsTold};
 ghost use Rattle.uefi_node_reader.specs.Styles.{HasScratch};
@@ -133,7 +133,7 @@ pub(crate) fn put_text(
         ≡ result_map_both (grown_length len) (λ fault. fault) (path_read style text.now) }
     ensures put { (nodes : List Node) → IsReadAs style text.now nodes
         → IfOk result (λ end. end ≤ length buffer.old
-        → Holds buffer.old (nodes_before len buffer.old ++ nodes) buffer.new end) }
+        → Holds buffer.old (nodes_up_to len buffer.old ++ nodes) buffer.new end) }
 {
     nodes_are_read();
     styled_nodes_are_read();

@@ -3,22 +3,22 @@ use Rattle.std.proofs.Common.{◌≡◌, ℕ, zero, suc, ◌+◌, ◌-◌, ◌^�
 use Rattle.std.proofs.lemmas.List.{append-nil, drop-set-lt, drop_all, length-set, length-take-le, set_past, take_all, take_at, take_more_set, take-append-drop}
 use Rattle.std.proofs.Math.Seq.{take-append-add}
 use Rattle.std.proofs.lemmas.Bool.{leb-false, leb-true, ltb-false, ltb-true}
-use Rattle.uefi_node_reader.specs.Counted.{pushed, pushed_byte}
+use Rattle.uefi_node_reader.specs.Counted.{pushed_bytes, pushed_byte}
 
 -- first some, and then others
-pub pushed-append : (state : List ℕ × ℕ) (xs ys : List ℕ) → pushed state (xs ++ ys) ≡ pushed (pushed state xs) ys
-pushed-append state [] ys = refl
-pushed-append state (x ∷ xs) ys = pushed-append (pushed_byte state x) xs ys
+pub pushed_bytes-append : (state : List ℕ × ℕ) (xs ys : List ℕ) → pushed_bytes state (xs ++ ys) ≡ pushed_bytes (pushed_bytes state xs) ys
+pushed_bytes-append state [] ys = refl
+pushed_bytes-append state (x ∷ xs) ys = pushed_bytes-append (pushed_byte state x) xs ys
 
 -- a byte, before the count is as high as it gets
 step : (p : List ℕ) (n b : ℕ) → n + 1 ≤ 2 ^ 64 - 1 → pushed_byte (p, n) b ≡ (set p n b, n + 1)
 step p n b few = let same : min (n + 1) (2 ^ 64 - 1) ≡ n + 1 = omega (arith, few) in ap (λ (k : ℕ). (set p n b, k)) same
 
 -- bytes for which there is no room
-past : (c p : List ℕ) (n : ℕ) → length p ≤ n → n + length c ≤ 2 ^ 64 - 1 → pushed (p, n) c ≡ (p, n + length c)
+past : (c p : List ℕ) (n : ℕ) → length p ≤ n → n + length c ≤ 2 ^ 64 - 1 → pushed_bytes (p, n) c ≡ (p, n + length c)
 past [] p n l few = ap (λ (k : ℕ). (p, k)) {x = n} {y = n + 0} (omega arith)
 past (b ∷ bs) p n l few =
-    ap (λ (s : List ℕ × ℕ). pushed s bs) (step p n b (omega (arith, few)) ∙ ap (λ (l : List ℕ). (l, n + 1)) (set_past p n b l))
+    ap (λ (s : List ℕ × ℕ). pushed_bytes s bs) (step p n b (omega (arith, few)) ∙ ap (λ (l : List ℕ). (l, n + 1)) (set_past p n b l))
     ∙ past bs p (n + 1) (omega (arith, l)) (omega (arith, few))
     ∙ ap (λ (k : ℕ). (p, k)) {x = n + 1 + length bs} {y = n + length (b ∷ bs)} (omega arith)
 
@@ -28,22 +28,22 @@ no_bytes (suc k) = refl
 
 -- bytes from a place of a buffer on
 pub pushed_is : (c p : List ℕ) (n : ℕ) → n ≤ length p → n + length c ≤ 2 ^ 64 - 1
-    → pushed (p, n) c ≡ (take n p ++ (take (length p - n) c ++ drop (n + length c) p), n + length c)
+    → pushed_bytes (p, n) c ≡ (take n p ++ (take (length p - n) c ++ drop (n + length c) p), n + length c)
 pushed_is [] p n l few =
     (λ i. (sym (take-append-drop n p) i, n)) ∙ ap (λ (k : ℕ). (take n p ++ ([] ++ drop k p), k)) {x = n} {y = n + 0} (omega arith)
     ∙ ap (λ (f : List ℕ). (take n p ++ (f ++ drop (n + 0) p), n + 0)) (no_bytes (length p - n))
 pushed_is (b ∷ bs) p n l few = by (ltb n (length p)) refl (pushed_is bs (set p n b) (n + 1))
   where
     by : (t : Bool) → ltb n (length p) ≡ t → (n + 1 ≤ length (set p n b) → n + 1 + length bs ≤ 2 ^ 64 - 1
-        → pushed (set p n b, n + 1) bs ≡ (take (n + 1) (set p n b) ++ (take (length (set p n b) - (n + 1)) bs ++ drop (n + 1 + length bs) (set p n b)), n + 1 + length bs))
-        → pushed (pushed_byte (p, n) b) bs ≡ (take n p ++ (take (length p - n) (b ∷ bs) ++ drop (n + length (b ∷ bs)) p), n + length (b ∷ bs))
+        → pushed_bytes (set p n b, n + 1) bs ≡ (take (n + 1) (set p n b) ++ (take (length (set p n b) - (n + 1)) bs ++ drop (n + 1 + length bs) (set p n b)), n + 1 + length bs))
+        → pushed_bytes (pushed_byte (p, n) b) bs ≡ (take n p ++ (take (length p - n) (b ∷ bs) ++ drop (n + length (b ∷ bs)) p), n + length (b ∷ bs))
     by true e others =
         let h : n < length p = ltb-true n (length p) e in
         let q : List ℕ = set p n b in
         let size : length q ≡ length p = length-set p n b in
         let left : length p - n ≡ suc (length p - (n + 1)) = omega (arith, h) in
         let rest : List ℕ = take (length p - (n + 1)) bs ++ drop (n + 1 + length bs) p in
-        ap (λ (s : List ℕ × ℕ). pushed s bs) (step p n b (omega (arith, few)))
+        ap (λ (s : List ℕ × ℕ). pushed_bytes s bs) (step p n b (omega (arith, few)))
         ∙ others (omega (arith, h, size)) (omega (arith, few))
         ∙ (λ i. (take_more_set p n b h i ++ (take (size i - (n + 1)) bs ++ drop-set-lt (n + 1 + length bs) p n b (omega arith) i), n + 1 + length bs))
         ∙ ap (λ (f : List ℕ). (f, n + 1 + length bs)) (append_assoc (take n p) (b ∷ []) rest)
@@ -58,14 +58,14 @@ pushed_is (b ∷ bs) p n l few = by (ltb n (length p)) refl (pushed_is bs (set p
         ∙ ap (λ (k : ℕ). (take n p ++ (take k (b ∷ bs) ++ drop (n + length (b ∷ bs)) p), n + length (b ∷ bs))) (sym none)
 
 -- what stands before the place is kept
-pub front_kept : (c p : List ℕ) (n : ℕ) → n ≤ length p → n + length c ≤ 2 ^ 64 - 1 → take n (pushed (p, n) c).0 ≡ take n p
+pub front_kept : (c p : List ℕ) (n : ℕ) → n ≤ length p → n + length c ≤ 2 ^ 64 - 1 → take n (pushed_bytes (p, n) c).0 ≡ take n p
 front_kept c p n l few =
     ap (λ (s : List ℕ × ℕ). take n s.0) (pushed_is c p n l few)
     ∙ take_at (take n p) (take (length p - n) c ++ drop (n + length c) p) n (length-take-le n p l)
 
 -- the first bytes of a part and those after it, as many as there is room for
 pub first_shown : (c p : List ℕ) (n : ℕ) → n ≤ length p → n + length c ≤ 2 ^ 64 - 1
-    → take (n + length c) (pushed (p, n) c).0 ≡ take (length p) (take n p ++ c)
+    → take (n + length c) (pushed_bytes (p, n) c).0 ≡ take (length p) (take n p ++ c)
 first_shown c p n l few = ap (λ (s : List ℕ × ℕ). take (n + length c) s.0) (pushed_is c p n l few) ∙ by (leb (n + length c) (length p)) refl
   where
     size : length (take n p) ≡ n
@@ -92,15 +92,15 @@ first_shown c p n l few = ap (λ (s : List ℕ × ℕ). take (n + length c) s.0)
         ∙ sym (take-append-add (take n p) c (length p - n)) ∙ ap (λ (k : ℕ). take k (take n p ++ c)) sum
 
 -- a whole buffer is what was put into it
-pub whole_written : (a c p : List ℕ) → length p ≡ length (a ++ c) → length p ≤ 2 ^ 64 - 1 → (pushed (pushed (p, 0) a) c).0 ≡ a ++ c
+pub whole_written : (a c p : List ℕ) → length p ≡ length (a ++ c) → length p ≤ 2 ^ 64 - 1 → (pushed_bytes (pushed_bytes (p, 0) a) c).0 ≡ a ++ c
 whole_written a c p same few =
     let all : List ℕ = a ++ c in
-    ap (λ (s : List ℕ × ℕ). s.0) (sym (pushed-append (p, 0) a c) ∙ pushed_is all p 0 (omega arith) (omega (arith, same, few)))
+    ap (λ (s : List ℕ × ℕ). s.0) (sym (pushed_bytes-append (p, 0) a c) ∙ pushed_is all p 0 (omega arith) (omega (arith, same, few)))
     ∙ (λ i. take_all (length p - 0) all (omega (arith, same)) i ++ drop_all (0 + length all) p (omega (arith, same)) i)
     ∙ append-nil all
 
 -- how many bytes were put, as far as they are counted
-pub counted : (c p : List ℕ) (n : ℕ) → n ≤ 2 ^ 64 - 1 → (pushed (p, n) c).1 ≡ min (n + length c) (2 ^ 64 - 1)
+pub counted : (c p : List ℕ) (n : ℕ) → n ≤ 2 ^ 64 - 1 → (pushed_bytes (p, n) c).1 ≡ min (n + length c) (2 ^ 64 - 1)
 counted [] p n l = omega (arith, l)
 counted (b ∷ bs) p n l =
     let next : ℕ = min (n + 1) (2 ^ 64 - 1) in
@@ -108,7 +108,7 @@ counted (b ∷ bs) p n l =
     counted bs (set p n b) next small ∙ omega (arith, l)
 
 -- bytes that were put at the start of a longer buffer
-pub copied : (old new bytes : List ℕ) (len : ℕ) → (new, len) ≡ pushed (old, 0) bytes → length bytes ≤ length old
+pub copied : (old new bytes : List ℕ) (len : ℕ) → (new, len) ≡ pushed_bytes (old, 0) bytes → length bytes ≤ length old
     → length bytes ≤ 2 ^ 64 - 1 → (len ≤ length old) × (take len new ≡ bytes)
 copied old new bytes len e l few =
     let count : len ≡ min (0 + length bytes) (2 ^ 64 - 1) = ap (λ (s : List ℕ × ℕ). s.1) e ∙ counted bytes old 0 (omega arith) in

@@ -15,7 +15,7 @@ use Rattle.uefi_node_reader.specs.FieldReading.{read_if}
 use Rattle.uefi_device_nodes.specs.NodeTexts.{node_text}
 use Rattle.uefi_node_reader.specs.LenientFields.{after_letter, after_literal, begins_base, literal_left, past_base, pieces_set}
 use Rattle.uefi_node_reader.specs.Ambiguous.{ambiguous_stop}
-use Rattle.uefi_node_reader.specs.LenientNodes.{IsRestOf, bare_read, begins_call, begins_name, call_in, call_told, call_tried, cut_call, end_fault, ended, ended_at, exact_or, fault_at_byte, file_in, file_or_call, form_told, form_tried, forms_tried, is_bare, is_textless, lenient_read, named_read, named_told, or_fault, or_next, path_told, rooted, stop_fault, tidied, told_in, whole, written_read}
+use Rattle.uefi_node_reader.specs.LenientNodes.{IsRestOf, bare_read, begins_call, begins_call_name, call_in, call_told, call_tried, cut_call, end_fault, ended, ended_at, exact_or, fault_at_byte, file_in, file_or_call, form_told, form_tried, forms_tried, is_bare, is_textless, lenient_read, named_read, named_told, or_fault, or_next, path_told, rooted, stop_fault, tidied, told_in, whole, written_read}
 use Rattle.uefi_node_reader.specs.Stops.{◌>?◌, further, rest_end, stop_at, stop_of}
 use Rattle.uefi_node_reader.specs.NamedFiles.{IsTold, ends_name, is_after_node, is_name, name_bytes, name_data, name_read, node_read}
 use Rattle.uefi_node_reader.specs.PlainNodes.{plain_read, types_read}
@@ -113,7 +113,7 @@ form_is_told form sound mode text node e =
     (form_set_in form sound mode start.0 told.0.0 told.0.1 fields.0 start.2 told.1) told.2))
 
 tried_told : (form : Form) → is_sound form ≡ true → (text : List ℕ) (node : Node) → form_tried form text ≡ Ok node → IsTold node
-tried_told form sound text node e = by (begins_name form.start text) form.mode refl e
+tried_told form sound text node e = by (begins_call_name form.start text) form.mode refl e
   where
     textless : (b : Bool) → is_read form.mode ≡ true
         → cond b (result_map_both (λ (n : Node). n) (λ (s : Stop). Some s) (form_told form text)) (Err (Some (stop_at text AsPrinted))) ≡ Ok node

@@ -3,9 +3,9 @@ use Rattle.std.proofs.Common.{◌≡◌, ℕ, zero, suc, List, ◌++◌, refl, s
 use Rattle.std.specs.Prelude.{Option, Some, None, option_and_then}
 use Rattle.std.proofs.Math.ListN.{replicate}
 use Rattle.uefi_node_table.specs.Rows.{Item}
-use Rattle.uefi_node_reader.specs.Counted.{pushed, put_on}
+use Rattle.uefi_node_reader.specs.Counted.{pushed_bytes, put_on}
 use Rattle.uefi_node_reader.specs.FieldReading.{◌>>=◌}
-use Rattle.uefi_node_reader.proofs.CountedBytes.{pushed-append}
+use Rattle.uefi_node_reader.proofs.CountedBytes.{pushed_bytes-append}
 use Rattle.uefi_node_reader.proofs.Digits.{some_pair}
 use Rattle.uefi_node_reader.specs.WordReading.{after}
 use Rattle.uefi_node_reader.specs.TableReading.{items_read, more_items, pieces_put}
@@ -47,13 +47,13 @@ module _ (item : Item) (most : ℕ) (state : List ℕ × ℕ) (rest fields : Lis
   next_item more left e = by first e ∙ sym goes
     where
       joined : (part : List ℕ) (o : Option (List ℕ × List ℕ))
-          → option_and_then (put_on (pushed state part)) o ≡ option_and_then (put_on state) (o >>= λ others. Some (part ++ others.0, others.1))
+          → option_and_then (put_on (pushed_bytes state part)) o ≡ option_and_then (put_on state) (o >>= λ others. Some (part ++ others.0, others.1))
       joined part None = refl
-      joined part (Some others) = ap (λ (s : List ℕ × ℕ). Some (s, others.1)) (sym (pushed-append state part others.0))
+      joined part (Some others) = ap (λ (s : List ℕ × ℕ). Some (s, others.1)) (sym (pushed_bytes-append state part others.0))
 
       by : (o : Option (List ℕ × List ℕ)) → Some (more, left) ≡ option_and_then (put_on state) o
           → option_and_then (put_on more) (items_read most item left) ≡ go o
       by None p = cc
       by (Some read) p =
-          let same = some_pair (more, left) (pushed state read.0, read.1) p in
+          let same = some_pair (more, left) (pushed_bytes state read.0, read.1) p in
           (λ i. option_and_then (put_on (same.0 i)) (items_read most item (same.1 i))) ∙ joined read.0 (items_read most item read.1)

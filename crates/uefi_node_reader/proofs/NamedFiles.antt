@@ -20,9 +20,9 @@ use Rattle.uefi_text.proofs.Surrogates.{lone_first, pair_first}
 use Rattle.uefi_field_texts.specs.FieldTexts.{is_escaped, shown_char, shown_units, until_nul, utf16_text}
 use Rattle.uefi_device_nodes.specs.Nodes.{Node, node_with}
 use Rattle.uefi_device_nodes.specs.NodeTexts.{irregular_text, node_text}
-use Rattle.uefi_node_reader.specs.Counted.{pushed}
+use Rattle.uefi_node_reader.specs.Counted.{pushed_bytes}
 use Rattle.uefi_node_reader.specs.FieldReading.{read_if}
-use Rattle.uefi_node_reader.proofs.CountedBytes.{pushed-append}
+use Rattle.uefi_node_reader.proofs.CountedBytes.{pushed_bytes-append}
 use Rattle.uefi_node_reader.proofs.Digits.{some_pair}
 use Rattle.uefi_node_reader.specs.NamedFiles.{begins_name, ends_name, is_after_node, is_name, is_name_char, IsNamedNode, name_bytes, name_data, name_read}
 
@@ -188,11 +188,11 @@ name_takes text node rest e =
 
 -- a character more
 pub text_more : (state : List ℕ × ℕ) (so_far : List ℕ) (c : ℕ)
-    → pushed (pushed state (unit_bytes (flat_map encode_utf16 so_far))) (unit_bytes (encode_utf16 c))
-    ≡ pushed state (unit_bytes (flat_map encode_utf16 (so_far ++ c ∷ [])))
+    → pushed_bytes (pushed_bytes state (unit_bytes (flat_map encode_utf16 so_far))) (unit_bytes (encode_utf16 c))
+    ≡ pushed_bytes state (unit_bytes (flat_map encode_utf16 (so_far ++ c ∷ [])))
 text_more state so_far c =
-    sym (pushed-append state (unit_bytes (flat_map encode_utf16 so_far)) (unit_bytes (encode_utf16 c)))
-    ∙ ap (pushed state) (sym (unit_bytes-append (flat_map encode_utf16 so_far) (encode_utf16 c))
+    sym (pushed_bytes-append state (unit_bytes (flat_map encode_utf16 so_far)) (unit_bytes (encode_utf16 c)))
+    ∙ ap (pushed_bytes state) (sym (unit_bytes-append (flat_map encode_utf16 so_far) (encode_utf16 c))
     ∙ ap unit_bytes (flat_map_more encode_utf16 [] so_far c))
 
 -- and the NUL after them

@@ -7,7 +7,7 @@ use Rattle.std.proofs.Math.Seq.{take-append-add}
 use Rattle.std.proofs.lemmas.List.{drop-take, drop_at, length-take-le, take_at}
 use Rattle.uefi_node_table.specs.Rows.{Form}
 use Rattle.uefi_device_nodes.specs.Nodes.{Node, node_with}
-use Rattle.uefi_node_reader.specs.Counted.{pushed, put_on}
+use Rattle.uefi_node_reader.specs.Counted.{pushed_bytes, put_on}
 use Rattle.uefi_node_reader.specs.FieldReading.{read_if}
 use Rattle.uefi_node_reader.specs.TableReading.{added, form_place, kept, prints}
 use Rattle.uefi_node_reader.specs.TextNodes.{read_data, fitting}
@@ -33,7 +33,7 @@ module _ (start : List ℕ) (fixed : ℕ) (small : fixed ≤ 64) (room : length 
       → None ≡ fitting (option_and_then (added (take fixed start)) o)
   tail_long None head len rest e l = cc
   tail_long (Some read) head len rest e l =
-      let same = some_pair ((head, len), rest) (pushed (start, fixed) read.0, read.1) e in
+      let same = some_pair ((head, len), rest) (pushed_bytes (start, fixed) read.0, read.1) e in
       let count : len ≡ min (fixed + length read.0) (2 ^ 64 - 1) =
       ap (λ (s : List ℕ × ℕ). s.1) same.0 ∙ counted read.0 start fixed (omega (arith, small)) in
       let size = all_size read.0 in
@@ -50,12 +50,12 @@ module _ (start : List ℕ) (fixed : ℕ) (small : fixed ≤ 64) (room : length 
       → Some ((head, len), rest) ≡ option_and_then (put_on (start, fixed)) o → len ≤ 0xfffb → IsRead o head len rest
   tail_fits None head len rest e l = cc
   tail_fits (Some read) head len rest e l =
-      let same = some_pair ((head, len), rest) (pushed (start, fixed) read.0, read.1) e in
+      let same = some_pair ((head, len), rest) (pushed_bytes (start, fixed) read.0, read.1) e in
       let count : len ≡ min (fixed + length read.0) (2 ^ 64 - 1) =
       ap (λ (s : List ℕ × ℕ). s.1) same.0 ∙ counted read.0 start fixed (omega (arith, small)) in
       let exact : len ≡ fixed + length read.0 = omega (arith, l, count) in
       let size = all_size read.0 in
-      let bytes : head ≡ (pushed (start, fixed) read.0).0 = ap (λ (s : List ℕ × ℕ). s.0) same.0 in
+      let bytes : head ≡ (pushed_bytes (start, fixed) read.0).0 = ap (λ (s : List ℕ × ℕ). s.0) same.0 in
       let front : take fixed head ≡ take fixed start =
       ap (λ (x : List ℕ). take fixed x) bytes ∙ front_kept read.0 start fixed (omega (arith, small, room)) (omega (arith, exact, l)) in
       let shown : take len head ≡ take 64 (take fixed start ++ read.0) =
@@ -70,17 +70,17 @@ module _ (start : List ℕ) (fixed : ℕ) (small : fixed ≤ 64) (room : length 
 
 -- all data, written to as many places
 pub tail_written : (front places written head : List ℕ) (o : Option (List ℕ × List ℕ)) (len : ℕ) (r : Option (ℕ × Bor (List ℕ)))
-    → is_some o ≡ true → length places ≡ length (front ++ read_data o) → length places ≤ 2 ^ 64 - 1 → (written, len) ≡ pushed (places, 0) front
+    → is_some o ≡ true → length places ≡ length (front ++ read_data o) → length places ≤ 2 ^ 64 - 1 → (written, len) ≡ pushed_bytes (places, 0) front
     → option_map (λ (x : ℕ × Bor (List ℕ)). ((head, x.0), x.1.now)) r ≡ option_and_then (put_on (written, len)) o → head ≡ front ++ read_data o
 tail_written front places written head None len r some size few first e = absurd (true≢false (sym some))
 tail_written front places written head (Some read) len None some size few first e = cc
 tail_written front places written head (Some read) len (Some x) some size few first e =
-    let same = some_pair ((head, x.0), x.1.now) (pushed (written, len) read.0, read.1) e in
-    ap (λ (s : List ℕ × ℕ). s.0) (same.0 ∙ ap (λ (s : List ℕ × ℕ). pushed s read.0) first)
+    let same = some_pair ((head, x.0), x.1.now) (pushed_bytes (written, len) read.0, read.1) e in
+    ap (λ (s : List ℕ × ℕ). s.0) (same.0 ∙ ap (λ (s : List ℕ × ℕ). pushed_bytes s read.0) first)
     ∙ whole_written front read.0 places size few
 
 -- the first bytes of a whole, and how many it has
-pub whole_shown : (start head bytes : List ℕ) (len : ℕ) → length start ≡ 64 → (head, len) ≡ pushed (start, 0) bytes → len ≤ 0xfffb
+pub whole_shown : (start head bytes : List ℕ) (len : ℕ) → length start ≡ 64 → (head, len) ≡ pushed_bytes (start, 0) bytes → len ≤ 0xfffb
     → (len ≡ length bytes) × (take len head ≡ take 64 bytes)
 whole_shown start head bytes len room e l =
     let count : len ≡ min (0 + length bytes) (2 ^ 64 - 1) = ap (λ (s : List ℕ × ℕ). s.1) e ∙ counted bytes start 0 (omega arith) in
@@ -89,7 +89,7 @@ whole_shown start head bytes len room e l =
       (λ i. take (exact i) (e i).0) ∙ first_shown bytes start 0 (omega arith) (omega (arith, exact, l)) ∙ ap (λ (n : ℕ). take n bytes) room,
     )
 
-pub whole_long : (start head bytes : List ℕ) (len : ℕ) → (head, len) ≡ pushed (start, 0) bytes → 0xfffb < len → leb (length bytes) 0xfffb ≡ false
+pub whole_long : (start head bytes : List ℕ) (len : ℕ) → (head, len) ≡ pushed_bytes (start, 0) bytes → 0xfffb < len → leb (length bytes) 0xfffb ≡ false
 whole_long start head bytes len e l =
     let count : len ≡ min (0 + length bytes) (2 ^ 64 - 1) = ap (λ (s : List ℕ × ℕ). s.1) e ∙ counted bytes start 0 (omega arith) in
     lt-leb (length bytes) 0xfffb (omega (arith, l, count))

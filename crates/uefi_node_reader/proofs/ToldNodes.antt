@@ -19,7 +19,7 @@ use Rattle.uefi_node_table.specs.declared.rows.Tail.{Tail}
 use Rattle.uefi_node_table.specs.declared.rows.Tail.TheVariants.{Nothing, Bytes, Text, Utf16, Name, Padded, Ids, Repeated}
 use Rattle.uefi_node_table.proofs.Forms.{found, long_enough}
 use Rattle.uefi_device_nodes.specs.Nodes.{Node, node_with}
-use Rattle.uefi_node_reader.specs.Counted.{pushed}
+use Rattle.uefi_node_reader.specs.Counted.{pushed_bytes}
 use Rattle.uefi_node_reader.specs.FieldReading.{field_kept}
 use Rattle.uefi_node_reader.specs.TableReading.{AreItems, IsTabled, IsTailTold, blank, is_filled, is_read, is_sound, overlay, prints, put_at}
 use Rattle.uefi_node_reader.specs.Telling.{are_items, tells, tells_data, tells_fixed, tells_tail}
@@ -162,7 +162,7 @@ tells_is read node form shown is fits fixed tail f t =
 
 -- a field that was put in its place byte by byte
 pub put_is : (p : Piece) (value content new : List ℕ) (count : ℕ) → length value ≡ p.width → p.place + p.width ≤ length content
-    → p.place + p.width ≤ 2 ^ 64 - 1 → (new, count) ≡ pushed (content, p.place) value → new ≡ put_at p value content
+    → p.place + p.width ≤ 2 ^ 64 - 1 → (new, count) ≡ pushed_bytes (content, p.place) value → new ≡ put_at p value content
 put_is p value content new count w l few e =
     ap (λ (s : List ℕ × ℕ). s.0) (e ∙ pushed_is value content p.place (omega (arith, l)) (omega (arith, w, few)))
     ∙ ap (λ (x : List ℕ). take p.place content ++ (x ++ drop (p.place + length value) content))

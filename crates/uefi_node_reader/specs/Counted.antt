@@ -6,10 +6,10 @@ abbrev pub pushed_byte : List ℕ × ℕ → ℕ → List ℕ × ℕ
 pushed_byte state byte = (slice_set state.0 state.1 byte, min (state.1 + 1) (2 ^ 64 - 1))
 
 -- the same after these bytes
-abbrev pub pushed : List ℕ × ℕ → List ℕ → List ℕ × ℕ
-pushed state [] = state
-pushed state (byte ∷ bytes) = pushed (pushed_byte state byte) bytes
+abbrev pub pushed_bytes : List ℕ × ℕ → List ℕ → List ℕ × ℕ
+pushed_bytes state [] = state
+pushed_bytes state (byte ∷ bytes) = pushed_bytes (pushed_byte state byte) bytes
 
 -- the same after data that were read, and what stands after them
 abbrev pub put_on : List ℕ × ℕ → List ℕ × List ℕ → Option ((List ℕ × ℕ) × List ℕ)
-put_on state read = Some (pushed state read.0, read.1)
+put_on state read = Some (pushed_bytes state read.0, read.1)

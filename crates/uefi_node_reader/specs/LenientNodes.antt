@@ -61,11 +61,11 @@ form_told form text = after_literal form.start text
     >? λ read. ok_or (told_in form (rest_read form read)) (stop_of (rest_end form.tail form.close read.1))
 
 -- the test for a text that begins with the name of a call, up to its `(`, in either case
-abbrev pub begins_name : List ℕ → List ℕ → Bool
-begins_name [] text = true
-begins_name (c ∷ cs) [] = false
-begins_name (c ∷ cs) (t ∷ ts) =
-    (to_ascii_uppercase c == to_ascii_uppercase t) && ((c == 40) || begins_name cs ts)
+abbrev pub begins_call_name : List ℕ → List ℕ → Bool
+begins_call_name [] text = true
+begins_call_name (c ∷ cs) [] = false
+begins_call_name (c ∷ cs) (t ∷ ts) =
+    (to_ascii_uppercase c == to_ascii_uppercase t) && ((c == 40) || begins_call_name cs ts)
 
 -- the same of a form whose name the text begins with: those that hold texts are read as printed alone
 abbrev pub named_told : Mode → Form → List ℕ → Result Node (Option Stop)
@@ -77,7 +77,7 @@ named_told Display form text = Err None
 
 -- the same of any form
 abbrev pub form_tried : Form → List ℕ → Result Node (Option Stop)
-form_tried form text = if begins_name form.start text then named_told form.mode form text else Err None
+form_tried form text = if begins_call_name form.start text then named_told form.mode form text else Err None
 
 -- the node that was read, or else what is read next, by where that stopped
 abbrev pub or_next : Result Node (Option Stop) → (Option Stop → Result Node (Option Stop))

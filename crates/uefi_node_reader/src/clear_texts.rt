@@ -4,7 +4,7 @@
 ghost use Rattle.std.specs.Prelude.{◌≡◌, ◌++◌, ◌∷◌, [], not};
 ghost use Rattle.std.specs.List.{position};
 ghost use Rattle.uefi_text.specs.UnitBytes.{unit_bytes};
-ghost use Rattle.uefi_node_reader.specs.Counted.{pushed};
+ghost use Rattle.uefi_node_reader.specs.Counted.{pushed_bytes};
 ghost use Rattle.uefi_node_reader.specs.FieldReading.{clear_run, is_clear};
 ghost use Rattle.uefi_node_reader.specs.TableReading.{first_of};
 
@@ -50,7 +50,7 @@ pub(crate) fn push_clear<'a>(
     stop: u8,
     text: &'a [u8],
 ) -> (usize, &'a [u8])
-    ensures state { (places.new, result.0) ≡ pushed (places.old, len) (clear_run stop text.now).0 }
+    ensures state { (places.new, result.0) ≡ pushed_bytes (places.old, len) (clear_run stop text.now).0 }
     ensures rest { result.1.now ≡ (clear_run stop text.now).1 }
 {
     let mut count = len;
@@ -73,7 +73,7 @@ pub(crate) fn push_clear_name<'a>(
     text: &'a [u8],
 ) -> (usize, &'a [u8])
     ensures state { (places.new, result.0)
-        ≡ pushed (places.old, len) ((clear_run stop text.now).0 ++ 0 ∷ []) }
+        ≡ pushed_bytes (places.old, len) ((clear_run stop text.now).0 ++ 0 ∷ []) }
     ensures rest { result.1.now ≡ (clear_run stop text.now).1 }
 {
     let (count, rest) = push_clear(places, len, stop, text);
@@ -88,7 +88,7 @@ pub(crate) fn push_clear_units<'a>(
     text: &'a [u8],
 ) -> (usize, &'a [u8])
     ensures state { (places.new, result.0)
-        ≡ pushed (places.old, len) (unit_bytes (clear_run stop text.now).0) }
+        ≡ pushed_bytes (places.old, len) (unit_bytes (clear_run stop text.now).0) }
     ensures rest { result.1.now ≡ (clear_run stop text.now).1 }
 {
     let mut count = len;

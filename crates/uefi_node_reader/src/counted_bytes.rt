@@ -2,7 +2,7 @@
 #![tactic(auto)]
 
 ghost use Rattle.std.specs.Prelude.{◌≡◌};
-ghost use Rattle.uefi_node_reader.specs.Counted.{pushed, pushed_byte};
+ghost use Rattle.uefi_node_reader.specs.Counted.{pushed_bytes, pushed_byte};
 
 /// Puts a byte after `len` others, where there is room. Returns how many bytes these are.
 pub(crate) fn push(places: &mut [u8], len: usize, byte: u8) -> usize
@@ -16,7 +16,7 @@ pub(crate) fn push(places: &mut [u8], len: usize, byte: u8) -> usize
 
 /// Puts bytes after `len` others. Returns how many bytes these are.
 pub(crate) fn push_all(places: &mut [u8], len: usize, bytes: &[u8]) -> usize
-    ensures { (places.new, result) ≡ pushed (places.old, len) bytes.now }
+    ensures { (places.new, result) ≡ pushed_bytes (places.old, len) bytes.now }
 {
     let mut count = len;
     for byte in bytes {

@@ -8,7 +8,7 @@ ghost use Rattle.std.specs.Result.{result_map_both};
 ghost use Rattle.uefi_node_table.specs.Rows.{as_form};
 ghost use Rattle.uefi_node_table.specs.Table.{forms};
 ghost use Rattle.uefi_node_reader.specs.LenientFields.{after_literal};
-ghost use Rattle.uefi_node_reader.specs.LenientNodes.{begins_name, call_in, call_told, cut_call, form_told, form_tried, forms_tried, is_blank, is_textless, named_told, open_fault, path_told, place_at, stop_fault, tidied, tidied_byte, told_in};
+ghost use Rattle.uefi_node_reader.specs.LenientNodes.{begins_call_name, call_in, call_told, cut_call, form_told, form_tried, forms_tried, is_blank, is_textless, named_told, open_fault, path_told, place_at, stop_fault, tidied, tidied_byte, told_in};
 ghost use Rattle.uefi_node_reader.specs.OtherForms.{pasted_forms};
 ghost use Rattle.uefi_node_reader.specs.TableReading.{form_read, is_filled, is_read, is_sound};
 ghost use Rattle.uefi_node_reader.specs.TextNodeViews.{text_node_data, text_node};
@@ -131,8 +131,8 @@ fn told_row<'a>(row: &Row, text: &'a [u8]) -> Result<TextNode<'a>, Stop>
 }
 
 /// Whether a text begins with the name of a call, up to its `(`, in either case.
-fn begins_name(name: &[u8], text: &[u8]) -> bool
-    ensures { result ≡ begins_name name.now text.now }
+fn begins_call_name(name: &[u8], text: &[u8]) -> bool
+    ensures { result ≡ begins_call_name name.now text.now }
 {
     let mut left = name;
     let mut rest = text;
@@ -177,7 +177,7 @@ fn try_row<'a>(row: &Row, text: &'a [u8]) -> Result<TextNode<'a>, Option<Stop>>
     requires filled { IsTrue (is_filled (as_form row.now)) }
     ensures { result_map_both text_node (λ e. e) result ≡ form_tried (as_form row.now) text.now }
 {
-    if begins_name(row.start.as_bytes(), text) {
+    if begins_call_name(row.start.as_bytes(), text) {
         return named_row(row, text);
     }
     Err(None)

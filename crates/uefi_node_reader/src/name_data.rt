@@ -6,7 +6,7 @@ ghost use Rattle.std.specs.Char.Escape.{encode_utf16};
 ghost use Rattle.std.specs.List.{flat_map};
 ghost use Rattle.std.specs.Str.{chars};
 ghost use Rattle.uefi_text.specs.UnitBytes.{unit_bytes};
-ghost use Rattle.uefi_node_reader.specs.Counted.{pushed};
+ghost use Rattle.uefi_node_reader.specs.Counted.{pushed_bytes};
 ghost use Rattle.uefi_node_reader.specs.NamedFiles.{name_data};
 
 use crate::counted_bytes::push;
@@ -14,7 +14,7 @@ use crate::counted_bytes::push;
 /// Puts the bytes of a character in UTF-16 after `len` others, the low byte of each unit first. Returns how
 /// many bytes these are.
 fn push_char(places: &mut [u8], len: usize, c: char) -> usize
-    ensures { (places.new, result) ≡ pushed (places.old, len) (unit_bytes (encode_utf16 c)) }
+    ensures { (places.new, result) ≡ pushed_bytes (places.old, len) (unit_bytes (encode_utf16 c)) }
 {
     let mut pair = [0; 2];
     let units = c.encode_utf16(&mut pair);
@@ -29,7 +29,7 @@ fn push_char(places: &mut [u8], len: usize, c: char) -> usize
 /// Puts the bytes of a text in UTF-16.
 fn push_text(places: &mut [u8], len: usize, text: &str) -> usize
     ensures { (places.new, result)
-        ≡ pushed (places.old, len) (unit_bytes (flat_map encode_utf16 (chars text.now))) }
+        ≡ pushed_bytes (places.old, len) (unit_bytes (flat_map encode_utf16 (chars text.now))) }
 {
     let mut count = len;
     for c in text.chars() {
@@ -40,7 +40,7 @@ fn push_text(places: &mut [u8], len: usize, text: &str) -> usize
 
 /// Puts the data of a node that has a name: the name in UTF-16, and a NUL.
 pub(crate) fn push_name(places: &mut [u8], len: usize, name: &str) -> usize
-    ensures { (places.new, result) ≡ pushed (places.old, len) (name_data (chars name.now)) }
+    ensures { (places.new, result) ≡ pushed_bytes (places.old, len) (name_data (chars name.now)) }
 {
     let count = push_text(places, len, name);
     let count = push(places, count, 0);

@@ -7,7 +7,7 @@ ghost use Rattle.std.specs.Option.{option_and_then, option_map};
 ghost use Rattle.std.specs.Prelude.{◌≡◌, ◌≤◌, ◌∷◌, [], IsTrue, length, map};
 ghost use Rattle.std.proofs.Math.ListN.{replicate};
 ghost use Rattle.uefi_node_table.specs.Rows.{as_item, as_piece, is_within};
-ghost use Rattle.uefi_node_reader.specs.Counted.{pushed, put_on};
+ghost use Rattle.uefi_node_reader.specs.Counted.{pushed_bytes, put_on};
 ghost use Rattle.uefi_node_reader.specs.FieldReading.{clear_run, comma_read, run_read};
 ghost use Rattle.uefi_node_reader.specs.TableReading.{as_padded, ids_read, list_read, piece_put, pieces_put, tail_read};
 
@@ -48,7 +48,7 @@ pub(crate) fn read_pieces<'a>(
 /// Puts all bytes that stand as two digits each after `len` others. Returns how many bytes these are, and
 /// what stands after them.
 pub(crate) fn push_run<'a>(places: &mut [u8], len: usize, text: &'a [u8]) -> (usize, &'a [u8])
-    ensures state { (places.new, result.0) ≡ pushed (places.old, len) (run_read text.now).0 }
+    ensures state { (places.new, result.0) ≡ pushed_bytes (places.old, len) (run_read text.now).0 }
     ensures rest { result.1.now ≡ (run_read text.now).1 }
 {
     let mut count = len;
@@ -134,7 +134,7 @@ fn push_padded<'a>(
 
 /// Puts a string and a zero after it.
 fn push_string(places: &mut [u8], len: usize, string: &[u8]) -> usize
-    ensures { (places.new, result) ≡ pushed (pushed (places.old, len) string.now) (0 ∷ []) }
+    ensures { (places.new, result) ≡ pushed_bytes (pushed_bytes (places.old, len) string.now) (0 ∷ []) }
 {
     let len = push_all(places, len, string);
     push(places, len, 0)

@@ -2,11 +2,11 @@
 use Rattle.std.proofs.Common.{◌≡◌, ◌∙◌, ◌⊎◌, ℕ, List, [], ◌∷◌, ◌++◌, ap, sym, subst, refl}
 use Rattle.std.proofs.lemmas.List.{map-append}
 use Rattle.uefi_text.specs.Case.{upper, uppers}
-use Rattle.uefi_text.specs.PatternLaws.{IsPlain}
+use Rattle.uefi_text.specs.PatternLaws.{HasNoWildcards}
 use Rattle.uefi_text.specs.Patterns.{HasRange, HasUnit, Matches, Nothing, Any, One, OneOf, Itself}
 use Rattle.uefi_text.proofs.PatternCuts.{only_nothing, same_cut}
 
-pub plain_same : (pattern text : List ℕ) → IsPlain pattern → Matches pattern text → uppers pattern ≡ uppers text
+pub plain_same : (pattern text : List ℕ) → HasNoWildcards pattern → Matches pattern text → uppers pattern ≡ uppers text
 plain_same [] text plain m = sym (ap uppers (only_nothing text m))
 plain_same (c ∷ cs) text plain m =
     let cut = same_cut c cs text plain.0.0 plain.0.1 plain.0.2 m in
@@ -14,7 +14,7 @@ plain_same (c ∷ cs) text plain m =
     let both : uppers (c ∷ cs) ≡ uppers (cut.first ∷ cut.back) = λ i. cut.taken i ∷ rest i in
     both ∙ ap uppers (sym cut.whole)
 
-pub same_plain : (pattern text : List ℕ) → IsPlain pattern → uppers pattern ≡ uppers text → Matches pattern text
+pub same_plain : (pattern text : List ℕ) → HasNoWildcards pattern → uppers pattern ≡ uppers text → Matches pattern text
 same_plain [] [] plain e = Nothing
 same_plain [] (u ∷ us) plain e = absurd (cc)
 same_plain (c ∷ cs) [] plain e = absurd (cc)

@@ -34,13 +34,13 @@ ItselfAlone = (c : ℕ) (pattern text : List ℕ) → c ≢ star → c ≢ quest
     ↔ ((unit : ℕ) × (back : List ℕ) × (text ≡ unit ∷ back) × (upper c ≡ upper unit) × Matches pattern back)
 
 -- units that mean themselves in a pattern
-abbrev pub IsPlain : List ℕ → Type 0
-IsPlain [] = Unit {0}
-IsPlain (c ∷ cs) = ((c ≢ star) × (c ≢ question_mark) × (c ≢ left_bracket)) × IsPlain cs
+abbrev pub HasNoWildcards : List ℕ → Type 0
+HasNoWildcards [] = Unit {0}
+HasNoWildcards (c ∷ cs) = ((c ≢ star) × (c ≢ question_mark) × (c ≢ left_bracket)) × HasNoWildcards cs
 
 -- a pattern of such units matches exactly what is the same without case
 abbrev pub PlainIsSame : Type 0
-PlainIsSame = (pattern text : List ℕ) → IsPlain pattern
+PlainIsSame = (pattern text : List ℕ) → HasNoWildcards pattern
     → Matches pattern text ↔ (uppers pattern ≡ uppers text)
 
 -- the case of a text does not matter

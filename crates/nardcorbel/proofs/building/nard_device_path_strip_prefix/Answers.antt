@@ -2,7 +2,7 @@
 use Rattle.std.proofs.Common.{◌≡◌, ◌+◌, ◌++◌, ◌∙◌, ap, sym, length, length-append, arith}
 use Rattle.std.proofs.lemmas.Grind.{common_steps}
 use Rattle.uefi_device_nodes.specs.Nodes.{end_entire, node_bytes}
-use Rattle.uefi_device_path.specs.Paths.{joined, path_bytes}
+use Rattle.uefi_device_path.specs.Paths.{nodes_bytes, path_bytes}
 use Rattle.nardcorbel.proofs.building.nard_device_path_strip_prefix.Goals as goal
 
 pub returns-then-not-starts_with-clause-begins : goal.returns-then-not-starts_with-clause-begins
@@ -19,5 +19,5 @@ pub returns-clause-place : goal.returns-clause-place
 returns-clause-place c = λ yes others begins.
     let first = c.in-Ok-from_bytes.ensures.only others begins in
     let bytes : length c.as_bytes.result.now ≡ length (path_bytes others) = ap length (c.as_bytes.ensures.bytes ∙ ap path_bytes (sym first)) in
-    let long : length (path_bytes others) ≡ length (joined others) + 4 = length-append (joined others) (node_bytes end_entire) in
+    let long : length (path_bytes others) ≡ length (nodes_bytes others) + 4 = length-append (nodes_bytes others) (node_bytes end_entire) in
     omega (arith, bytes, long)

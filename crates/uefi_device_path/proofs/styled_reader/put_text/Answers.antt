@@ -10,7 +10,7 @@ use Rattle.uefi_device_nodes.specs.Nodes.{Node}
 use Rattle.uefi_node_reader.specs.TextNodeViews.{text_node}
 use Rattle.uefi_node_reader.specs.declared.faults.NodeFault.{NodeFault}
 use Rattle.uefi_device_path.specs.Building.{build_refusal}
-use Rattle.uefi_device_path.specs.StyledReading.{Holds, follows_comma, grown_length, nodes_before}
+use Rattle.uefi_device_path.specs.StyledReading.{Holds, follows_comma, grown_length, nodes_up_to}
 use Rattle.uefi_device_path.proofs.PathReading.{accepted}
 use Rattle.uefi_device_path.proofs.StyledPushes.{puts_next, puts_none}
 use Rattle.uefi_device_path.proofs.StyledReading.{Going, Nodes, all_read, going_comma, going_node, going_stops, place_within, read_once}
@@ -103,5 +103,5 @@ pub returns-clause-put : goal.returns-clause-put
 returns-clause-put c = λ nodes read fits.
     let on = c.nodes.invariant in
     let all = all_read c.args.style c.args.text.now on.nodes c.nodes.at_start c.nodes.rest.now on.on (grind (arith, nat_tests)) in
-    subst (λ (ns : List Node). Holds c.args.buffer.now (nodes_before c.args.len c.args.buffer.now ++ ns) c.nodes.buffer c.nodes.end)
+    subst (λ (ns : List Node). Holds c.args.buffer.now (nodes_up_to c.args.len c.args.buffer.now ++ ns) c.nodes.buffer c.nodes.end)
     (read_once c.args.style c.args.text.now on.nodes nodes all read) (on.holds fits)

@@ -1,11 +1,11 @@
 use Rattle.std.proofs.Common.{◌≡◌, length}
-use Rattle.uefi_node_reader.specs.Counted.{pushed}
+use Rattle.uefi_node_reader.specs.Counted.{pushed_bytes}
 use Rattle.uefi_node_reader.specs.FieldReading.{clear_run}
 use Rattle.uefi_node_reader.proofs.clear_texts.push_clear.Given as goal
 
 abbrev pub invariant-bytes : goal.invariant-bytes
 invariant-bytes l =
-    (pushed (l.places, l.count) (clear_run l.stop l.rest).0 ≡ pushed (l.initial.places, l.len) (clear_run l.stop l.text).0)
+    (pushed_bytes (l.places, l.count) (clear_run l.stop l.rest).0 ≡ pushed_bytes (l.initial.places, l.len) (clear_run l.stop l.text).0)
     × ((clear_run l.stop l.rest).1 ≡ (clear_run l.stop l.text).1)
 
 abbrev pub decreases-bytes : goal.decreases-bytes

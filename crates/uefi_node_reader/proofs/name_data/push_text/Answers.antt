@@ -6,18 +6,18 @@ use Rattle.std.specs.Char.Escape.{encode_utf16}
 use Rattle.std.specs.List.{flat_map}
 use Rattle.std.specs.Str.{chars}
 use Rattle.uefi_text.specs.UnitBytes.{unit_bytes}
-use Rattle.uefi_node_reader.specs.Counted.{pushed}
+use Rattle.uefi_node_reader.specs.Counted.{pushed_bytes}
 use Rattle.uefi_node_reader.proofs.NamedFiles.{text_more}
 use Rattle.uefi_node_reader.proofs.name_data.push_text.Goals as goal
 
 pub loop-c-preserved : goal.loop-c-preserved
 loop-c-preserved c =
     let start : List ℕ × ℕ = (c.args.places.now, c.args.len) in
-    c.push_char-count.ensures ∙ ap (λ (s : List ℕ × ℕ). pushed s (unit_bytes (encode_utf16 c.in-Some.c))) c.loop-c.invariant
+    c.push_char-count.ensures ∙ ap (λ (s : List ℕ × ℕ). pushed_bytes s (unit_bytes (encode_utf16 c.in-Some.c))) c.loop-c.invariant
     ∙ text_more start c.loop-c.yielded c.in-Some.c
 
 pub returns : goal.returns
 returns c =
     let t = YieldsList-end (YieldsList-from_chars c.args.text.now c.utf8.text cc) c.loop-c.yielded _ c.loop-c.yielded_by _ _ c.in-None.is c.next.ensures.steps in
     let all : c.loop-c.yielded ≡ chars c.args.text.now = sym (map-id c.loop-c.yielded) ∙ t.0 in
-    c.loop-c.invariant ∙ ap (λ (x : List ℕ). pushed (c.args.places.now, c.args.len) (unit_bytes (flat_map encode_utf16 x))) all
+    c.loop-c.invariant ∙ ap (λ (x : List ℕ). pushed_bytes (c.args.places.now, c.args.len) (unit_bytes (flat_map encode_utf16 x))) all

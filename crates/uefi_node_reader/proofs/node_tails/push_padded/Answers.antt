@@ -3,12 +3,12 @@ use Rattle.std.proofs.Math.ListN.{replicate}
 use Rattle.std.proofs.lemmas.Bool.{le-leb}
 use Rattle.std.proofs.lemmas.List.{take-replicate}
 use Rattle.std.specs.Prelude.{Option, Some, None, option_and_then}
-use Rattle.uefi_node_reader.specs.Counted.{pushed, put_on}
+use Rattle.uefi_node_reader.specs.Counted.{pushed_bytes, put_on}
 use Rattle.uefi_node_reader.specs.TableReading.{as_padded, padded}
-use Rattle.uefi_node_reader.proofs.CountedBytes.{pushed-append}
+use Rattle.uefi_node_reader.proofs.CountedBytes.{pushed_bytes-append}
 use Rattle.uefi_node_reader.proofs.node_tails.push_padded.Goals as goal
 
-put : (state out : List ℕ × ℕ) (name rest : List ℕ) → length name ≤ 32 → out ≡ pushed state (padded name)
+put : (state out : List ℕ × ℕ) (name rest : List ℕ) → length name ≤ 32 → out ≡ pushed_bytes state (padded name)
     → Some (out, rest) ≡ option_and_then (put_on state) (as_padded (name, rest))
 put state out name rest short e =
     let found : Option (List ℕ × List ℕ) = Some (padded name, rest) in
@@ -23,7 +23,7 @@ returns c =
     let few = c.in_ok-spare.ensures in
     let zeros : take c.in_ok-spare.spare (replicate 32 0) ≡ replicate (32 - length name) 0 =
     ap (λ (n : ℕ). take n (replicate 32 0)) few.1 ∙ take-replicate (32 - length name) 32 0 (omega arith) in
-    let whole : out ≡ pushed state (padded name) = c.push_all.ensures
-    ∙ (λ i. pushed (c.push_all-len.ensures i) (zeros i)) ∙ sym (pushed-append state name (replicate (32 - length name) 0)) in
+    let whole : out ≡ pushed_bytes state (padded name) = c.push_all.ensures
+    ∙ (λ i. pushed_bytes (c.push_all-len.ensures i) (zeros i)) ∙ sym (pushed_bytes-append state name (replicate (32 - length name) 0)) in
     put state out name c.cut_clear.result.1.now few.0 whole
     ∙ ap (λ (r : List ℕ × List ℕ). option_and_then (put_on state) (as_padded r)) c.cut_clear.ensures

@@ -1,11 +1,11 @@
 use Rattle.std.proofs.Common.{◌≡◌, length}
-use Rattle.uefi_node_reader.specs.Counted.{pushed}
+use Rattle.uefi_node_reader.specs.Counted.{pushed_bytes}
 use Rattle.uefi_node_reader.specs.FieldReading.{run_read}
 use Rattle.uefi_node_reader.proofs.node_tails.push_run.Given as goal
 
 abbrev pub invariant-bytes : goal.invariant-bytes
 invariant-bytes l =
-    (pushed (l.places, l.count) (run_read l.rest).0 ≡ pushed (l.initial.places, l.len) (run_read l.text).0)
+    (pushed_bytes (l.places, l.count) (run_read l.rest).0 ≡ pushed_bytes (l.initial.places, l.len) (run_read l.text).0)
     × ((run_read l.rest).1 ≡ (run_read l.text).1)
 
 abbrev pub decreases-bytes : goal.decreases-bytes

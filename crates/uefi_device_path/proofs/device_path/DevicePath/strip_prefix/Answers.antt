@@ -4,7 +4,7 @@ use Rattle.std.proofs.lemmas.Grind.{common_steps}
 use Rattle.std.proofs.lemmas.List.{take-append-drop, take_at}
 use Rattle.std.specs.Cmp.Lexicographic.{bytes_decides, pointwise}
 use Rattle.std.specs.Prelude.{nat_eq}
-use Rattle.uefi_device_path.specs.Paths.{joined, path_bytes}
+use Rattle.uefi_device_path.specs.Paths.{nodes_bytes, path_bytes}
 use Rattle.uefi_device_path.specs.Views.{nodes_of}
 use Rattle.uefi_device_path.proofs.ShortForms.{after_nodes, bytes_of_both, front_of_path}
 use Rattle.uefi_device_path.proofs.Splits.{IsPath-path_bytes}
@@ -19,9 +19,9 @@ of_path-requires c =
     let tested : pointwise nat_eq (take (length first) bytes) first ≡ true = grind (arith, common_steps) in
     let same : take (length first) bytes ≡ first = (bytes_decides (take (length first) bytes) first).0 tested in
     let rest : c.in-Some.rest.now ≡ drop (length first) bytes = grind (arith, common_steps) in
-    let split : path_bytes (nodes_of c.args.self.now) ≡ joined (nodes_of c.args.prefix) ++ c.in-Some.rest.now =
+    let split : path_bytes (nodes_of c.args.self.now) ≡ nodes_bytes (nodes_of c.args.prefix) ++ c.in-Some.rest.now =
     sym c.as_bytes.ensures.bytes ∙ sym (take-append-drop (length first) bytes)
-    ∙ ap (λ k. k ++ drop (length first) bytes) (same ∙ is) ∙ ap (λ k. joined (nodes_of c.args.prefix) ++ k) (sym rest) in
+    ∙ ap (λ k. k ++ drop (length first) bytes) (same ∙ is) ∙ ap (λ k. nodes_bytes (nodes_of c.args.prefix) ++ k) (sym rest) in
     let found = after_nodes (nodes_of c.args.self.now) (nodes_of c.args.prefix) c.in-Some.rest.now c.as_bytes.ensures.inner
     c.as_bytes-front.ensures.inner split in
     (IsPath-path_bytes found.0 c.in-Some.rest.now found.3 found.2).0
@@ -35,9 +35,9 @@ returns-in-Some c =
     let tested : pointwise nat_eq (take (length first) bytes) first ≡ true = grind (arith, common_steps) in
     let same : take (length first) bytes ≡ first = (bytes_decides (take (length first) bytes) first).0 tested in
     let rest : c.in-Some.rest.now ≡ drop (length first) bytes = grind (arith, common_steps) in
-    let split : path_bytes (nodes_of c.args.self.now) ≡ joined (nodes_of c.args.prefix) ++ c.in-Some.rest.now =
+    let split : path_bytes (nodes_of c.args.self.now) ≡ nodes_bytes (nodes_of c.args.prefix) ++ c.in-Some.rest.now =
     sym c.as_bytes.ensures.bytes ∙ sym (take-append-drop (length first) bytes)
-    ∙ ap (λ k. k ++ drop (length first) bytes) (same ∙ is) ∙ ap (λ k. joined (nodes_of c.args.prefix) ++ k) (sym rest) in
+    ∙ ap (λ k. k ++ drop (length first) bytes) (same ∙ is) ∙ ap (λ k. nodes_bytes (nodes_of c.args.prefix) ++ k) (sym rest) in
     let found = after_nodes (nodes_of c.args.self.now) (nodes_of c.args.prefix) c.in-Some.rest.now c.as_bytes.ensures.inner
     c.as_bytes-front.ensures.inner split in
     found.1 ∙ ap (λ ks. nodes_of c.args.prefix ++ ks) (sym (c.of_path.ensures ∙ (IsPath-path_bytes found.0 c.in-Some.rest.now found.3 found.2).1))

@@ -2,7 +2,7 @@ use Rattle.std.proofs.Common.{◌≡◌, ℕ, true, List, ◌++◌, length, take
 use Rattle.std.specs.Prelude.{is_some, option_and_then}
 use Rattle.std.specs.Str.{chars}
 use Rattle.std.proofs.lemmas.Str.{IsUtf8-from_is_utf8}
-use Rattle.uefi_node_reader.specs.Counted.{pushed, put_on}
+use Rattle.uefi_node_reader.specs.Counted.{pushed_bytes, put_on}
 use Rattle.uefi_node_reader.specs.NamedFiles.{name_data}
 use Rattle.uefi_node_reader.specs.TableReading.{tail_read}
 use Rattle.uefi_node_reader.specs.TextNodes.{read_data, decoded, is_coded}
@@ -24,7 +24,7 @@ returns-in-InTail c =
     let same = ap (λ (l : List ℕ). option_and_then (put_on (c.push_all-len.new.places, c.push_all-len.result)) (tail_read c.in-InTail.tail l node.text.now)) c.as_bytes.ensures.value in
     tail_written front c.args.bytes.now c.push_all-len.new.places c.push_tail.new.places (tail_read c.in-InTail.tail node.close.now node.text.now)
     c.push_all-len.result c.push_tail.result some (c.requires ∙ ap length all) (omega (arith, c.requires, node.counted, node.fits))
-    (c.push_all-len.ensures ∙ ap (λ (n : ℕ). pushed (c.args.bytes.now, 0) (take n node.head)) c.from.ensures) (c.push_tail.ensures ∙ same)
+    (c.push_all-len.ensures ∙ ap (λ (n : ℕ). pushed_bytes (c.args.bytes.now, 0) (take n node.head)) c.from.ensures) (c.push_tail.ensures ∙ same)
     ∙ sym all
 
 pub returns-in-Ok : goal.returns-in-Ok
@@ -34,9 +34,9 @@ returns-in-Ok c =
     let front : List ℕ = take node.fixed node.head in
     let name : List ℕ = name_data (chars node.text.now) in
     let all : (text_node node).content ≡ front ++ name = ap (λ (k : Coding). front ++ decoded k node.close.now node.text.now) c.in-InName.is in
-    let first = c.push_all-len.ensures ∙ ap (λ (n : ℕ). pushed (c.args.bytes.now, 0) (take n node.head)) c.from.ensures in
+    let first = c.push_all-len.ensures ∙ ap (λ (n : ℕ). pushed_bytes (c.args.bytes.now, 0) (take n node.head)) c.from.ensures in
     ap (λ (s : List ℕ × ℕ). s.0)
-    (c.push_name.ensures ∙ (λ i. pushed (first i) (name_data (chars (c.in-Ok.ensures.cases.0 i)))))
+    (c.push_name.ensures ∙ (λ i. pushed_bytes (first i) (name_data (chars (c.in-Ok.ensures.cases.0 i)))))
     ∙ whole_written front name c.args.bytes.now (c.requires ∙ ap length all) (omega (arith, c.requires, node.counted, node.fits))
     ∙ sym all
 

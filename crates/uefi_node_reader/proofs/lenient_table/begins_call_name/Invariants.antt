@@ -1,0 +1,9 @@
+use Rattle.std.proofs.Common.{◌≡◌, length}
+use Rattle.uefi_node_reader.specs.LenientNodes.{begins_call_name}
+use Rattle.uefi_node_reader.proofs.lenient_table.begins_call_name.Given as goal
+
+abbrev pub invariant-letters : goal.invariant-letters
+invariant-letters l = begins_call_name l.left l.rest ≡ begins_call_name l.name l.text
+
+abbrev pub decreases-letters : goal.decreases-letters
+decreases-letters l = length l.left

@@ -1,9 +1,0 @@
-use Rattle.std.proofs.Common.{◌≡◌, length}
-use Rattle.uefi_node_reader.specs.LenientNodes.{begins_name}
-use Rattle.uefi_node_reader.proofs.lenient_table.begins_name.Given as goal
-
-abbrev pub invariant-letters : goal.invariant-letters
-invariant-letters l = begins_name l.left l.rest ≡ begins_name l.name l.text
-
-abbrev pub decreases-letters : goal.decreases-letters
-decreases-letters l = length l.left
