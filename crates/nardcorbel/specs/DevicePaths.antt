@@ -17,8 +17,8 @@ abbrev pub node_in : List ℕ → DeviceNode → Node
 node_in bytes node =
     node_with node.device_type node.sub_type (slice_range bytes node.start (node.start + node.length))
 
--- what is reported of how far bytes go from an offset on: where the next node begins, and how many bytes there have
--- to be
+-- what is reported of how far bytes go from an offset on: where the next node begins, and how many bytes
+-- there have to be
 abbrev pub ShowsExtent : ℕ → PathExtent → ℕ → ℕ → Type 0
 ShowsExtent start (Whole len) place needed = (place ≡ start) × (needed ≡ start + len)
 ShowsExtent start (Cut cut) place needed = (place ≡ start + cut.passed) × (needed ≡ start + cut.needed)

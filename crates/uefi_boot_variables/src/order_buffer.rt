@@ -66,7 +66,8 @@ impl<'a> OrderBuffer<'a> {
         ensures ok { OnOk result (numbers_in self.new ≡ once_each (numbers_of order.now)) }
         ensures err { OnErr result (numbers_in self.new ≡ numbers_in self.old) }
         ensures room { room_of self.new ≡ room_of self.old }
-        ensures places { OnOk result (order_places self.new ≡ over (numbers_in self.new) (order_places self.old)) }
+        ensures places { OnOk result
+            (order_places self.new ≡ over (numbers_in self.new) (order_places self.old)) }
         ensures unchanged { OnErr result (order_places self.new ≡ order_places self.old) }
         ensures memory { memory_of self.new ≡ memory_of self.old }
         ensures refused { IsErr result ↔ (room_of self.old < length (once_each (numbers_of order.now))) }

@@ -6,8 +6,8 @@ use Rattle.std.proofs.lemmas.Bool.{le-ltb, lt-ltb}
 use Rattle.std.proofs.lemmas.List.{append-nil, take_all}
 use Rattle.uefi_device_nodes.specs.Nodes.{Node, end_entire, node_bytes, node_length}
 use Rattle.uefi_device_path.specs.Building.{path_length}
-use Rattle.uefi_device_path.specs.StyledReading.{Holds, IsReadAs, lenient_refusal, nodes_up_to, path_read}
-use Rattle.uefi_device_path.specs.Paths.{IsPath, nodes_bytes, nodes_in, path_bytes, without_end}
+use Rattle.uefi_device_path.specs.StyledReading.{Holds, IsReadAs, grown_length, lenient_refusal, nodes_up_to, path_read}
+use Rattle.uefi_device_path.specs.Paths.{IsPath, nodes_in, path_bytes, without_end}
 use Rattle.uefi_device_path.specs.declared.lenient_errors.PushLenientTextError.TheVariants.{BufferTooSmall}
 use Rattle.uefi_device_path.specs.declared.lenient_errors.TextFault.{TextFault}
 use Rattle.uefi_node_reader.specs.declared.styles.TextStyle.{TextStyle}
@@ -20,7 +20,7 @@ pub record Puts (style : TextStyle) (text old : List ℕ) (len : ℕ) (new : Lis
     (rest : List ℕ) : Type 0 where
   pub nodes : List Node
   pub on : Going style text nodes at_start rest
-  pub count : end ≡ min (len + length (nodes_bytes nodes)) (2 ^ 64 - 1)
+  pub count : end ≡ grown_length len nodes
   pub same : length new ≡ length old
   pub holds : end ≤ length old → Holds old (nodes_up_to len old ++ nodes) new end
 
@@ -89,23 +89,23 @@ counts_once count (Err fault) n m one other = cc
 
 -- how many bytes the path of these nodes has with those of a text
 pub needed_by : (style : TextStyle) (text : List ℕ) (nodes read : List Node) (len needed : ℕ) → len ≡ length (path_bytes nodes)
-    → Ok needed ≡ result_map_both (λ (ns : List Node). min (len + length (nodes_bytes ns)) (2 ^ 64 - 1)) (λ (fault : TextFault). fault) (path_read style text)
+    → Ok needed ≡ result_map_both (grown_length len) (λ (fault : TextFault). fault) (path_read style text)
     → IsReadAs style text read → needed ≡ path_length (nodes ++ read)
 needed_by style text nodes read len needed long e is =
-    let (ns, one, count) = counted (λ (ns : List Node). min (len + length (nodes_bytes ns)) (2 ^ 64 - 1)) (path_read style text) needed e in
+    let (ns, one, count) = counted (grown_length len) (path_read style text) needed e in
     needed_is nodes read len needed long
-    (count ∙ ap (λ (l : List Node). min (len + length (nodes_bytes l)) (2 ^ 64 - 1)) (read_once style text ns read one is))
+    (count ∙ ap (grown_length len) (read_once style text ns read one is))
 
 -- the path that a text is read as, in bytes of its own
 pub path_held : (style : TextStyle) (text old new : List ℕ) (needed end : ℕ)
-    → Ok needed ≡ result_map_both (λ (ns : List Node). min (4 + length (nodes_bytes ns)) (2 ^ 64 - 1)) (λ (fault : TextFault). fault) (path_read style text)
-    → Ok end ≡ result_map_both (λ (ns : List Node). min (4 + length (nodes_bytes ns)) (2 ^ 64 - 1)) (λ (fault : TextFault). fault) (path_read style text)
+    → Ok needed ≡ result_map_both (grown_length 4) (λ (fault : TextFault). fault) (path_read style text)
+    → Ok end ≡ result_map_both (grown_length 4) (λ (fault : TextFault). fault) (path_read style text)
     → take 4 old ≡ node_bytes end_entire → length old ≡ needed
     → ((nodes : List Node) → IsReadAs style text nodes → end ≤ length old → Holds old (nodes_up_to 4 old ++ nodes) new end)
     → IsPath new × IsReadAs style text (nodes_in (without_end new))
 path_held style text old new needed end first second begins long put =
-    let (nodes, is, count) = counted (λ (ns : List Node). min (4 + length (nodes_bytes ns)) (2 ^ 64 - 1)) (path_read style text) needed first in
-    let same : end ≡ needed = counts_once (λ (ns : List Node). min (4 + length (nodes_bytes ns)) (2 ^ 64 - 1)) (path_read style text) end needed second first in
+    let (nodes, is, count) = counted (grown_length 4) (path_read style text) needed first in
+    let same : end ≡ needed = counts_once (grown_length 4) (path_read style text) end needed second first in
     let all = all_held old new nodes end begins (long ∙ sym same) (put nodes is (omega (arith, same, long))) in
     (all.0, subst (λ (ns : List Node). IsReadAs style text ns) (sym all.1) is)
 

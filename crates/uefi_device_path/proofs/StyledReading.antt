@@ -1,17 +1,15 @@
 -- A text is read in a style in one way: what the function says is what the relation says.
 use Rattle.std.proofs.Common.{◌≡◌, ◌↔◌, ℕ, zero, suc, ◌+◌, ◌<◌, ◌≤◌, Bool, true, false, cond, List, [], ◌∷◌, ◌++◌, length, drop, inl, inr, refl, ap, sym, subst, ◌∙◌, append_assoc, arith, true≢false}
-use Rattle.std.specs.Prelude.{IfOk, IfErr, None, Result, Ok, Err, ◌==◌, ◌||◌}
+use Rattle.std.specs.Prelude.{None, Result, Ok, Err, ◌==◌, ◌||◌}
 use Rattle.std.proofs.lemmas.List.{append-nil, length-append}
 use Rattle.std.proofs.lemmas.List.Elements.{All-head, All-nil, All-push, All-tail}
 use Rattle.std.proofs.lemmas.Result.{IfErr-at_err}
 use borrow.Author.Tests.{eqb-true}
 use Rattle.uefi_device_nodes.specs.Nodes.{Node}
-use Rattle.uefi_device_path.specs.Laws.{PrintedIsRead, ReadNeverStops, ReadOnce, ReadTold}
+use Rattle.uefi_device_path.specs.Laws.{PrintedIsRead}
 use Rattle.uefi_device_path.specs.StyledReading.{follows_comma, place_read, IsReadAs, Reads, ReadingStopsAt, ReadsTo, StopsBeingRead, fault_from, more_nodes, node_then, nodes_of_rest, path_read}
 use Rattle.uefi_device_path.specs.StyledReading.ReadsTo.{Begins, Comma, OneMore}
 use Rattle.uefi_device_path.specs.PathReading.{AreTold, end_instance, is_after_instance}
-use Rattle.uefi_device_path.specs.declared.lenient_errors.LenientTextError.{LenientTextError}
-use Rattle.uefi_device_path.specs.declared.lenient_errors.LenientTextError.TheVariants.{NoNode, OutOfMemory}
 use Rattle.uefi_device_path.specs.declared.lenient_errors.TextFault.{TextFault}
 use Rattle.uefi_device_path.proofs.PathReading.{IsToldOrEnd, path_text_is, place_is, printed, rest_text, separator}
 use Rattle.uefi_device_path.proofs.TextStops.{end_first, told_first, whole_after}

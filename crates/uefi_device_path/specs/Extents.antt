@@ -24,8 +24,10 @@ is_cut_short BeyondEnd = true
 
 -- bytes are whole nodes, none of which ends a path, and then less than a node
 pub record IsCut (bytes : List ℕ) (cut : PathCut) : Type 0 where
-  pub nodes : (nodes : List Node) × BeginWith bytes nodes (drop cut.passed bytes) × (cut.passed ≡ length (nodes_bytes nodes))
-  pub part : (cause : NodeError) × (node_fault (drop cut.passed bytes) ≡ Some cause) × (is_cut_short cause ≡ true)
+  pub nodes : (nodes : List Node) × BeginWith bytes nodes (drop cut.passed bytes)
+      × (cut.passed ≡ length (nodes_bytes nodes))
+  pub part : (cause : NodeError) × (node_fault (drop cut.passed bytes) ≡ Some cause)
+      × (is_cut_short cause ≡ true)
   pub needed : cut.needed ≡ cut.passed + begun_length (drop cut.passed bytes)
   pub more : length bytes < cut.needed
   pub least : (after : List ℕ) (nodes : List Node) → BeginWithPath (bytes ++ after) nodes
@@ -33,7 +35,8 @@ pub record IsCut (bytes : List ℕ) (cut : PathCut) : Type 0 where
 
 -- bytes go so far: they begin with a path of this length, or end before it does
 abbrev pub HasExtent : List ℕ → PathExtent → Type 0
-HasExtent bytes (Whole len) = (nodes : List Node) × BeginWithPath bytes nodes × (len ≡ length (path_bytes nodes))
+HasExtent bytes (Whole len) =
+    (nodes : List Node) × BeginWithPath bytes nodes × (len ≡ length (path_bytes nodes))
 HasExtent bytes (Cut cut) = IsCut bytes cut
 
 -- no device path begins with these bytes, whatever follows them

@@ -99,11 +99,13 @@ ReadNeverStops = (style : TextStyle) (text : List ℕ) (nodes : List Node) (faul
 
 -- it is read as these nodes if and only if it is their text in the style
 abbrev pub ReadMeans : Type 0
-ReadMeans = (style : TextStyle) (text : List ℕ) (nodes : List Node) → IsReadAs style text nodes ↔ Reads style text nodes
+ReadMeans = (style : TextStyle) (text : List ℕ) (nodes : List Node)
+    → IsReadAs style text nodes ↔ Reads style text nodes
 
 -- and it has this fault if and only if it stops being the text of nodes there
 abbrev pub StopMeans : Type 0
-StopMeans = (style : TextStyle) (text : List ℕ) (fault : TextFault) → ReadingStopsAt style text fault ↔ StopsBeingRead style text fault
+StopMeans = (style : TextStyle) (text : List ℕ) (fault : TextFault)
+    → ReadingStopsAt style text fault ↔ StopsBeingRead style text fault
 
 -- the wrong byte does not stand before the node that it belongs to, nor after the end of the text
 abbrev pub FaultsWithin : Type 0

@@ -1,10 +1,10 @@
 -- Device paths read from texts in a style.
-use Rattle.std.specs.Prelude.{◌≡◌, ◌≤◌, ℕ, zero, suc, drop, take, ◌+◌, ◌-◌, Bool, true, false, nat_lt, ◌==◌, ◌&&◌, if◌then◌else◌, List, [], ◌∷◌, ◌++◌, length, slice_index, codes, Option, Some, None, Result, Ok, Err}
+use Rattle.std.specs.Prelude.{◌≡◌, ◌≤◌, ◌^◌, min, ℕ, zero, suc, drop, take, ◌+◌, ◌-◌, Bool, true, false, nat_lt, ◌==◌, ◌&&◌, if◌then◌else◌, List, [], ◌∷◌, ◌++◌, length, slice_index, codes, Option, Some, None, Result, Ok, Err}
 use Rattle.uefi_device_nodes.specs.Nodes.{Node}
 use Rattle.uefi_device_path.specs.Building.{path_length}
 use Rattle.uefi_device_path.specs.PathReading.{end_instance, is_after_instance}
 use Rattle.uefi_device_path.specs.Faults.{RefusedFor}
-use Rattle.uefi_device_path.specs.Paths.{IsPath, nodes_in, without_end}
+use Rattle.uefi_device_path.specs.Paths.{IsPath, nodes_bytes, nodes_in, without_end}
 use Rattle.uefi_device_path.specs.declared.lenient_errors.LenientTextError.{LenientTextError}
 use Rattle.uefi_device_path.specs.declared.lenient_errors.LenientTextError.TheVariants.{NoNode, OutOfMemory}
 use Rattle.uefi_device_path.specs.declared.lenient_errors.PushLenientTextError.{PushLenientTextError}
@@ -104,6 +104,10 @@ pub record ReadingStops (style : TextStyle) (text : List ℕ) (fault : TextFault
 abbrev pub StopsBeingRead : TextStyle → List ℕ → TextFault → Type 0
 StopsBeingRead style text fault = (nodes : List Node) × (at_start : Bool) × (rest : List ℕ)
     × ReadingStops style text fault nodes at_start rest
+
+-- how many bytes a path of `len` bytes has with these nodes, as far as a `usize` counts
+abbrev pub grown_length : ℕ → List Node → ℕ
+grown_length len nodes = min (len + length (nodes_bytes nodes)) (2 ^ 64 - 1)
 
 -- the nodes of the path that the first bytes of a buffer are
 abbrev pub nodes_up_to : ℕ → List ℕ → List Node

@@ -160,7 +160,8 @@ impl<'a> PartialEq for DevicePathInstance<'a> {
 
     ghost eq = { λ a b. pointwise nat_eq (nodes_bytes (instance_nodes a)) (nodes_bytes (instance_nodes b)) };
 
-    ghost laws = { on_per (λ a. nodes_bytes (instance_nodes a)) (partial_equiv_from_equiv nat_list_eq_equiv) };
+    ghost laws = { on_per (λ a. nodes_bytes (instance_nodes a))
+        (partial_equiv_from_equiv nat_list_eq_equiv) };
 
     fn eq(&self, other: &Self) -> bool {
         self.as_bytes() == other.as_bytes()

@@ -4,7 +4,7 @@
 ghost use Rattle.std.specs.Prelude.{take, true, false, if◌then◌else◌, drop, ◌++◌, ◌∷◌, ◌≡◌, ◌+◌, ◌-◌, ◌<◌, ◌≤◌, ◌^◌, min, [], List, IfOk, IfErr, MatchOption, OnOk, Err, length};
 ghost use Rattle.std.specs.Result.{result_map_both};
 ghost use Rattle.uefi_device_nodes.specs.Nodes.{Node};
-ghost use Rattle.uefi_device_path.specs.StyledReading.{GivesText, Holds, IsReadAs, IsStyledText, fault_from, follows_comma, nodes_up_to, path_read, place_read};
+ghost use Rattle.uefi_device_path.specs.StyledReading.{GivesText, Holds, IsReadAs, IsStyledText, fault_from, grown_length, follows_comma, nodes_up_to, path_read, place_read};
 ghost use Rattle.uefi_device_path.specs.PathReading.{end_instance, is_after_instance};
 ghost use Rattle.uefi_device_path.specs.Paths.{IsPath, nodes_bytes};
 ghost use Rattle.uefi_built_nodes.specs.RawNodes.{raw_node};
@@ -129,8 +129,8 @@ pub(crate) fn put_text(
 ) -> Result<usize, TextFault>
     requires scratch { HasScratch style text.now scratch.old }
     requires is_path { len ≤ length buffer.now → IsPath (take len buffer.now) }
-    ensures len { result ≡ result_map_both (λ nodes. min (len + length (nodes_bytes nodes)) (2 ^ 64 - 1))
-        (λ fault. fault) (path_read style text.now) }
+    ensures len { result
+        ≡ result_map_both (grown_length len) (λ fault. fault) (path_read style text.now) }
     ensures put { (nodes : List Node) → IsReadAs style text.now nodes
         → IfOk result (λ end. end ≤ length buffer.old
         → Holds buffer.old (nodes_up_to len buffer.old ++ nodes) buffer.new end) }

@@ -60,7 +60,8 @@ fn fat_byte(unit: u16) -> u8
 pub fn units_to_fat(units: &[u16], buffer: &mut [u8]) -> FatBytes
     ensures buffer { buffer.new ≡ with_units (fat_bytes units.now) buffer.old }
     ensures len { result.len ≡ min (length (fat_bytes units.now)) (length buffer.old) }
-    ensures replaced { result.is_replaced ≡ list_any is_unfit (take (length buffer.old) (kept_units units.now)) }
+    ensures replaced { result.is_replaced
+        ≡ list_any is_unfit (take (length buffer.old) (kept_units units.now)) }
 {
     let mut len = 0;
     let mut is_replaced = false;

@@ -66,7 +66,8 @@ number_or_word limit text = if has_digit 10 text then any_number limit text
 -- the number of the word that a text begins with, in either case, and what stands after it
 abbrev pub any_word : List words.Word → List ℕ → Option (ℕ × List ℕ)
 any_word [] text = None
-any_word (word ∷ words) text = or_word word.number (result_ok (after_literal word.text text)) (any_word words text)
+any_word (word ∷ words) text =
+    or_word word.number (result_ok (after_literal word.text text)) (any_word words text)
 
 -- the bytes of a field, and what stands after it: digits of bytes may stand after `0x`
 abbrev pub any_field : Shape → ℕ → List ℕ → Option (List ℕ × List ℕ)

@@ -80,7 +80,8 @@ abbrev pub form_tried : Form → List ℕ → Result Node (Option Stop)
 form_tried form text = if begins_call_name form.start text then named_told form.mode form text else Err None
 
 -- the node that was read, or else what is read next, by where that stopped
-abbrev pub or_next : Result Node (Option Stop) → (Option Stop → Result Node (Option Stop)) → Result Node (Option Stop)
+abbrev pub or_next : Result Node (Option Stop) → (Option Stop → Result Node (Option Stop))
+    → Result Node (Option Stop)
 or_next (Ok node) next = Ok node
 or_next (Err stop) next = next stop
 
@@ -109,6 +110,7 @@ call_tried None text = or_next (forms_tried forms None text)
     (λ stop. or_next (forms_tried pasted_forms stop text)
     (λ other. or_next (path_told (after_literal (codes "Path(") text)) (λ last. Err (further other last))))
 
+-- the same of a text by itself
 abbrev pub call_told : List ℕ → Result Node (Option Stop)
 call_told text = call_tried (ambiguous_stop text) text
 
@@ -206,8 +208,8 @@ abbrev pub or_fault : NodeFault → Result (Node × List ℕ) NodeFault → Resu
 or_fault fault (Ok read) = Ok read
 or_fault fault (Err other) = Err fault
 
--- the node that was read exactly, if it ends where a node may end, or else another. The text is at fault where
--- the first ends
+-- the node that was read exactly, if it ends where a node may end, or else another. The text is at
+-- fault where the first ends
 abbrev pub exact_or : List ℕ → Option (Node × List ℕ) → Result (Node × List ℕ) NodeFault
     → Result (Node × List ℕ) NodeFault
 exact_or text None other = other

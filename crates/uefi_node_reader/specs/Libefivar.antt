@@ -55,7 +55,8 @@ own_fault text = cut_call text >>= λ call.
     (own_stop (tidied call.0))
 
 -- what was read in one of its own forms, or else the fault of such a call, or else what people write
-abbrev pub own_or_lenient : Bool → List ℕ → Option (Node × List ℕ) → Option NodeFault → Result (Node × List ℕ) NodeFault
+abbrev pub own_or_lenient : Bool → List ℕ → Option (Node × List ℕ) → Option NodeFault
+    → Result (Node × List ℕ) NodeFault
 own_or_lenient is_rooted text (Some read) fault = ended_at text read
 own_or_lenient is_rooted text None (Some fault) = Err fault
 own_or_lenient is_rooted text None None = lenient_read is_rooted text

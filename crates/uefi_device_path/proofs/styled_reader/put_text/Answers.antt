@@ -1,5 +1,5 @@
 -- The nodes that the text is read as are added one after the other, as long as there is room.
-use Rattle.std.proofs.Common.{◌≤◌, ◌+◌, ◌-◌, ◌^◌, min, ◌∷◌, ◌++◌, [], true, false, List, length, ap, sym, subst, ◌∙◌, arith}
+use Rattle.std.proofs.Common.{◌≤◌, ◌∷◌, ◌++◌, [], true, false, List, length, ap, sym, subst, ◌∙◌, arith}
 use Rattle.std.specs.Prelude.{Ok}
 use Rattle.std.specs.Result.{result_map_both}
 use Rattle.std.proofs.lemmas.Bool.Decides.{nat_tests}
@@ -10,8 +10,7 @@ use Rattle.uefi_device_nodes.specs.Nodes.{Node}
 use Rattle.uefi_node_reader.specs.TextNodeViews.{text_node}
 use Rattle.uefi_node_reader.specs.declared.faults.NodeFault.{NodeFault}
 use Rattle.uefi_device_path.specs.Building.{build_refusal}
-use Rattle.uefi_device_path.specs.Paths.{nodes_bytes}
-use Rattle.uefi_device_path.specs.StyledReading.{Holds, follows_comma, nodes_up_to}
+use Rattle.uefi_device_path.specs.StyledReading.{Holds, follows_comma, grown_length, nodes_up_to}
 use Rattle.uefi_device_path.proofs.PathReading.{accepted}
 use Rattle.uefi_device_path.proofs.StyledPushes.{puts_next, puts_none}
 use Rattle.uefi_device_path.proofs.StyledReading.{Going, Nodes, all_read, going_comma, going_node, going_stops, place_within, read_once}
@@ -61,7 +60,7 @@ fault_at-requires-clause-byte c =
 
 pub returns-in-Err-clause-len : goal.returns-in-Err-clause-len
 returns-in-Err-clause-len c =
-    ap (λ (r : Nodes). result_map_both (λ (nodes : List Node). min (c.args.len + length (nodes_bytes nodes)) (2 ^ 64 - 1)) (λ fault. fault) r)
+    ap (λ (r : Nodes). result_map_both (grown_length c.args.len) (λ fault. fault) r)
     (sym (going_stops c.args.style c.args.text.now c.nodes.invariant.nodes c.nodes.at_start c.nodes.rest.now
     c.node_start-place.result.now c.nodes.invariant.on c.in-None.ensures c.node_start-place.ensures c.in-Err.found
     (sym c.in-Err.ensures) c.fault_at.result c.fault_at.ensures))
@@ -97,7 +96,7 @@ nodes-smaller c =
 pub returns-clause-len : goal.returns-clause-len
 returns-clause-len c =
     ap (λ n. Ok n) c.nodes.invariant.count
-    ∙ ap (λ (r : Nodes). result_map_both (λ (nodes : List Node). min (c.args.len + length (nodes_bytes nodes)) (2 ^ 64 - 1)) (λ fault. fault) r)
+    ∙ ap (λ (r : Nodes). result_map_both (grown_length c.args.len) (λ fault. fault) r)
     (sym (all_read c.args.style c.args.text.now c.nodes.invariant.nodes c.nodes.at_start c.nodes.rest.now c.nodes.invariant.on (grind (arith, nat_tests))))
 
 pub returns-clause-put : goal.returns-clause-put

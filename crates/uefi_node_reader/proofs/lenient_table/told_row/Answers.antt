@@ -22,7 +22,9 @@ returns-in-Some c =
     let fields = rw c.in_ok-rest-2.was at c.set_pieces.ensures in
     let told = rw c.in-Some.is at c.told.ensures in
     told_by form c.args.text.now c.in_ok-rest.rest.now read
-    (start ∙ ap (λ (s : List ℕ). after_literal s c.args.text.now) c.as_bytes.ensures.value) (fields ∙ ap (λ (b : List ℕ). pieces_set form.kind form.sub_kind form.pieces b c.in_ok-rest.rest.now) c.fixed_part-fixed.ensures) (text_node c.in-Some.node)
+    (start ∙ ap (λ (s : List ℕ). after_literal s c.args.text.now) c.as_bytes.ensures.value)
+    (fields ∙ ap (λ (b : List ℕ). pieces_set form.kind form.sub_kind form.pieces b c.in_ok-rest.rest.now)
+    c.fixed_part-fixed.ensures) (text_node c.in-Some.node)
     (told ∙ ap (told_in form) (c.finish_row.ensures.data ∙ ap (λ (l : List ℕ). fitting (rest_read form (l, read.1))) whole) ∙ told_in-fitting form (rest_read form read))
 
 pub returns-in-None : goal.returns-in-None
@@ -36,6 +38,8 @@ returns-in-None c =
     let fields = rw c.in_ok-rest-2.was at c.set_pieces.ensures in
     let told = rw c.in-None.is at c.told.ensures in
     untold_by form c.args.text.now c.in_ok-rest.rest.now read
-    (start ∙ ap (λ (s : List ℕ). after_literal s c.args.text.now) c.as_bytes.ensures.value) (fields ∙ ap (λ (b : List ℕ). pieces_set form.kind form.sub_kind form.pieces b c.in_ok-rest.rest.now) c.fixed_part-fixed.ensures) c.stop_of.result
+    (start ∙ ap (λ (s : List ℕ). after_literal s c.args.text.now) c.as_bytes.ensures.value)
+    (fields ∙ ap (λ (b : List ℕ). pieces_set form.kind form.sub_kind form.pieces b c.in_ok-rest.rest.now)
+    c.fixed_part-fixed.ensures) c.stop_of.result
     (told ∙ ap (told_in form) (c.finish_row.ensures.data ∙ ap (λ (l : List ℕ). fitting (rest_read form (l, read.1))) whole) ∙ told_in-fitting form (rest_read form read))
     (c.stop_of.ensures ∙ ap stop_of (c.rest_end.ensures ∙ ap (λ (s : List ℕ). rest_end form.tail s read.1) c.as_bytes-in-None.ensures.value))
