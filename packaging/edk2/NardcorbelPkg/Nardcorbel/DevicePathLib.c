@@ -1,0 +1,647 @@
+/** @file
+  DevicePathLib over nardcorbel, which says what a path is, where its nodes are, how it is built, and what its text is.
+
+  Here are the fields of single nodes, memory from pools, and how many bytes there are at a pointer, since most functions of this
+  class get no size.
+
+  SPDX-License-Identifier: MIT OR Apache-2.0
+**/
+#include "Nardcorbel.h"
+#include <Library/BaseLib.h>
+#include <Library/BaseMemoryLib.h>
+#include <Library/DebugLib.h>
+#include <Library/DevicePathLib.h>
+#include <Library/MemoryAllocationLib.h>
+#include <Library/PcdLib.h>
+#include <Library/UefiBootServicesTableLib.h>
+#include <Protocol/DevicePath.h>
+
+#define HEADER  sizeof (EFI_DEVICE_PATH_PROTOCOL)
+
+STATIC CONST EFI_DEVICE_PATH_PROTOCOL  mEmpty = {
+  END_DEVICE_PATH_TYPE, END_ENTIRE_DEVICE_PATH_SUBTYPE, { HEADER, 0 }
+};
+
+//
+// The fields of a node.
+//
+
+UINT8
+EFIAPI
+DevicePathType (
+  IN CONST VOID  *Node
+  )
+{
+  ASSERT (Node != NULL);
+  return ((CONST EFI_DEVICE_PATH_PROTOCOL *)Node)->Type;
+}
+
+UINT8
+EFIAPI
+DevicePathSubType (
+  IN CONST VOID  *Node
+  )
+{
+  ASSERT (Node != NULL);
+  return ((CONST EFI_DEVICE_PATH_PROTOCOL *)Node)->SubType;
+}
+
+UINTN
+EFIAPI
+DevicePathNodeLength (
+  IN CONST VOID  *Node
+  )
+{
+  ASSERT (Node != NULL);
+  return ReadUnaligned16 ((CONST UINT16 *)((CONST EFI_DEVICE_PATH_PROTOCOL *)Node)->Length);
+}
+
+EFI_DEVICE_PATH_PROTOCOL *
+EFIAPI
+NextDevicePathNode (
+  IN CONST VOID  *Node
+  )
+{
+  return (EFI_DEVICE_PATH_PROTOCOL *)((UINT8 *)Node + DevicePathNodeLength (Node));
+}
+
+BOOLEAN
+EFIAPI
+IsDevicePathEndType (
+  IN CONST VOID  *Node
+  )
+{
+  return DevicePathType (Node) == END_DEVICE_PATH_TYPE;
+}
+
+BOOLEAN
+EFIAPI
+IsDevicePathEnd (
+  IN CONST VOID  *Node
+  )
+{
+  return IsDevicePathEndType (Node) && DevicePathSubType (Node) == END_ENTIRE_DEVICE_PATH_SUBTYPE;
+}
+
+BOOLEAN
+EFIAPI
+IsDevicePathEndInstance (
+  IN CONST VOID  *Node
+  )
+{
+  return IsDevicePathEndType (Node) && DevicePathSubType (Node) == END_INSTANCE_DEVICE_PATH_SUBTYPE;
+}
+
+UINT16
+EFIAPI
+SetDevicePathNodeLength (
+  IN OUT VOID  *Node,
+  IN UINTN     Length
+  )
+{
+  ASSERT (Node != NULL);
+  ASSERT ((Length >= HEADER) && (Length < SIZE_64KB));
+  return WriteUnaligned16 ((UINT16 *)((EFI_DEVICE_PATH_PROTOCOL *)Node)->Length, (UINT16)Length);
+}
+
+VOID
+EFIAPI
+SetDevicePathEndNode (
+  OUT VOID  *Node
+  )
+{
+  ASSERT (Node != NULL);
+  CopyMem (Node, &mEmpty, HEADER);
+}
+
+//
+// The size of a path.
+//
+
+/**
+  How many bytes to give the library of a path: up to its end node, or up to the first node that it refuses. Reads one header after
+  another, and no byte from MaxSize on.
+**/
+STATIC
+UINTN
+Extent (
+  IN CONST UINT8  *Path,
+  IN UINTN        MaxSize
+  )
+{
+  struct nard_device_node  Node;
+  UINTN                    At;
+  UINTN                    End;
+  UINTN                    Count;
+
+  At = 0;
+  for (Count = PcdGet32 (PcdMaximumDevicePathNodeCount); ; Count--) {
+    if (MaxSize - At < HEADER) {
+      return MaxSize;
+    }
+
+    End = At + MIN (MAX (DevicePathNodeLength (Path + At), HEADER), MaxSize - At);
+    if ((nard_device_path_next_node (Path, End, &At, &Node) != NARD_OK) || (Count == 1)) {
+      return End;
+    }
+  }
+}
+
+/**
+  The size of a path whose file names end in a NUL, or 0: EDK II takes these names for strings.
+**/
+STATIC
+UINTN
+SizeOf (
+  IN CONST VOID  *Path,
+  IN UINTN       MaxSize
+  )
+{
+  struct nard_device_node  Node;
+  UINTN                    Size;
+  UINTN                    At;
+  UINTN                    Length;
+
+  if ((Path == NULL) || (nard_device_path_check (Path, Extent (Path, MaxSize), &Size) != NARD_OK)) {
+    return 0;
+  }
+
+  for (At = 0; nard_device_path_next_node (Path, Size, &At, &Node) == NARD_OK; ) {
+    if ((Node.device_type == MEDIA_DEVICE_PATH) && (Node.sub_type == MEDIA_FILEPATH_DP) &&
+        (nard_packed_until_nul ((CONST UINT8 *)Path + Node.start, Node.length, &Length) != NARD_OK))
+    {
+      return 0;
+    }
+  }
+
+  return Size;
+}
+
+BOOLEAN
+EFIAPI
+IsDevicePathValid (
+  IN CONST EFI_DEVICE_PATH_PROTOCOL  *DevicePath,
+  IN       UINTN                     MaxSize
+  )
+{
+  return SizeOf (DevicePath, MaxSize == 0 ? MAX_INTN : MIN (MaxSize, MAX_INTN)) != 0;
+}
+
+UINTN
+EFIAPI
+GetDevicePathSize (
+  IN CONST EFI_DEVICE_PATH_PROTOCOL  *DevicePath
+  )
+{
+  return SizeOf (DevicePath, MAX_INTN);
+}
+
+//
+// Paths that are built.
+//
+
+EFI_DEVICE_PATH_PROTOCOL *
+EFIAPI
+DuplicateDevicePath (
+  IN CONST EFI_DEVICE_PATH_PROTOCOL  *DevicePath
+  )
+{
+  UINTN  Size;
+
+  Size = GetDevicePathSize (DevicePath);
+  return Size == 0 ? NULL : AllocateCopyPool (Size, DevicePath);
+}
+
+/**
+  A copy of a path, or of none where it is NULL, with room for more bytes; NULL if it is invalid or memory runs out.
+**/
+STATIC
+UINT8 *
+Copied (
+  IN  CONST EFI_DEVICE_PATH_PROTOCOL  *DevicePath  OPTIONAL,
+  IN  UINTN                           More,
+  OUT UINTN                           *Room
+  )
+{
+  UINTN  Size;
+  UINT8  *Buffer;
+
+  DevicePath = DevicePath == NULL ? &mEmpty : DevicePath;
+  Size       = GetDevicePathSize (DevicePath);
+  Buffer     = Size == 0 ? NULL : AllocatePool (Size + More);
+  *Room      = Size + More;
+  return Buffer == NULL ? NULL : CopyMem (Buffer, DevicePath, Size);
+}
+
+/**
+  What was built, or NULL, and no memory, if the library refused it.
+**/
+STATIC
+EFI_DEVICE_PATH_PROTOCOL *
+Built (
+  IN nard_result  Reason,
+  IN UINT8        *Buffer  OPTIONAL
+  )
+{
+  if ((Reason != NARD_OK) && (Buffer != NULL)) {
+    FreePool (Buffer);
+    Buffer = NULL;
+  }
+
+  return (EFI_DEVICE_PATH_PROTOCOL *)Buffer;
+}
+
+/**
+  A path with the nodes of another, after a node that ends an instance if IsInstance.
+**/
+STATIC
+EFI_DEVICE_PATH_PROTOCOL *
+Appended (
+  IN CONST EFI_DEVICE_PATH_PROTOCOL  *First   OPTIONAL,
+  IN CONST EFI_DEVICE_PATH_PROTOCOL  *Second  OPTIONAL,
+  IN BOOLEAN                         IsInstance
+  )
+{
+  UINT8        *Buffer;
+  UINTN        Size;
+  UINTN        Room;
+  UINTN        Length;
+  nard_result  Reason;
+
+  Second = Second == NULL ? &mEmpty : Second;
+  Size   = GetDevicePathSize (Second);
+  Buffer = Size == 0 ? NULL : Copied (First, Size, &Room);
+  if (Buffer == NULL) {
+    return NULL;
+  }
+
+  Reason = NARD_OK;
+  if (IsInstance) {
+    Reason = nard_device_path_push (
+               Buffer,
+               Room,
+               END_DEVICE_PATH_TYPE,
+               END_INSTANCE_DEVICE_PATH_SUBTYPE,
+               NULL,
+               0,
+               &Length
+               );
+  }
+
+  if (Reason == NARD_OK) {
+    Reason = nard_device_path_append (Buffer, Room, (CONST UINT8 *)Second, Size, &Length);
+  }
+
+  return Built (Reason, Buffer);
+}
+
+/**
+  A path with a node of this type and data.
+**/
+STATIC
+EFI_DEVICE_PATH_PROTOCOL *
+Pushed (
+  IN CONST EFI_DEVICE_PATH_PROTOCOL  *DevicePath  OPTIONAL,
+  IN UINT8                           Type,
+  IN UINT8                           SubType,
+  IN CONST VOID                      *Data,
+  IN UINTN                           Size
+  )
+{
+  UINT8  *Buffer;
+  UINTN  Room;
+  UINTN  Length;
+
+  Buffer = Copied (DevicePath, HEADER + Size, &Room);
+  return Buffer == NULL ? NULL : Built (nard_device_path_push (Buffer, Room, Type, SubType, Data, Size, &Length), Buffer);
+}
+
+EFI_DEVICE_PATH_PROTOCOL *
+EFIAPI
+AppendDevicePath (
+  IN CONST EFI_DEVICE_PATH_PROTOCOL  *FirstDevicePath   OPTIONAL,
+  IN CONST EFI_DEVICE_PATH_PROTOCOL  *SecondDevicePath  OPTIONAL
+  )
+{
+  return Appended (FirstDevicePath, SecondDevicePath, FALSE);
+}
+
+EFI_DEVICE_PATH_PROTOCOL *
+EFIAPI
+AppendDevicePathNode (
+  IN CONST EFI_DEVICE_PATH_PROTOCOL  *DevicePath      OPTIONAL,
+  IN CONST EFI_DEVICE_PATH_PROTOCOL  *DevicePathNode  OPTIONAL
+  )
+{
+  //
+  // Callers append the node that ends a path and mean no node.
+  //
+  if ((DevicePathNode == NULL) || IsDevicePathEnd (DevicePathNode)) {
+    return Appended (DevicePath, NULL, FALSE);
+  }
+
+  if (DevicePathNodeLength (DevicePathNode) < HEADER) {
+    return NULL;
+  }
+
+  return Pushed (
+           DevicePath,
+           DevicePathNode->Type,
+           DevicePathNode->SubType,
+           DevicePathNode + 1,
+           DevicePathNodeLength (DevicePathNode) - HEADER
+           );
+}
+
+EFI_DEVICE_PATH_PROTOCOL *
+EFIAPI
+AppendDevicePathInstance (
+  IN CONST EFI_DEVICE_PATH_PROTOCOL  *DevicePath          OPTIONAL,
+  IN CONST EFI_DEVICE_PATH_PROTOCOL  *DevicePathInstance  OPTIONAL
+  )
+{
+  if (DevicePathInstance == NULL) {
+    return NULL;
+  }
+
+  return Appended (DevicePath, DevicePathInstance, DevicePath != NULL);
+}
+
+EFI_DEVICE_PATH_PROTOCOL *
+EFIAPI
+CreateDeviceNode (
+  IN UINT8   NodeType,
+  IN UINT8   NodeSubType,
+  IN UINT16  NodeLength
+  )
+{
+  EFI_DEVICE_PATH_PROTOCOL  *Node;
+
+  Node = NodeLength < HEADER ? NULL : AllocateZeroPool (NodeLength);
+  if (Node != NULL) {
+    Node->Type    = NodeType;
+    Node->SubType = NodeSubType;
+    SetDevicePathNodeLength (Node, NodeLength);
+  }
+
+  return Node;
+}
+
+EFI_DEVICE_PATH_PROTOCOL *
+EFIAPI
+DevicePathFromHandle (
+  IN EFI_HANDLE  Handle
+  )
+{
+  EFI_DEVICE_PATH_PROTOCOL  *DevicePath;
+
+  if (EFI_ERROR (gBS->HandleProtocol (Handle, &gEfiDevicePathProtocolGuid, (VOID **)&DevicePath))) {
+    return NULL;
+  }
+
+  return DevicePath;
+}
+
+EFI_DEVICE_PATH_PROTOCOL *
+EFIAPI
+FileDevicePath (
+  IN EFI_HANDLE    Device  OPTIONAL,
+  IN CONST CHAR16  *FileName
+  )
+{
+  return Pushed (
+           Device == NULL ? NULL : DevicePathFromHandle (Device),
+           MEDIA_DEVICE_PATH,
+           MEDIA_FILEPATH_DP,
+           FileName,
+           StrSize (FileName)
+           );
+}
+
+//
+// Instances.
+//
+
+/**
+  Where the first instance of a path ends, and whether another one follows.
+**/
+STATIC
+BOOLEAN
+EndOfInstance (
+  IN  CONST VOID  *Path,
+  IN  UINTN       Size,
+  OUT UINTN       *End
+  )
+{
+  struct nard_device_node  Node;
+  UINTN                    At;
+
+  At = 0;
+  for (*End = 0; nard_device_path_next_node (Path, Size, &At, &Node) == NARD_OK; *End = At) {
+    if (Node.device_type == END_DEVICE_PATH_TYPE) {
+      return TRUE;
+    }
+  }
+
+  return FALSE;
+}
+
+BOOLEAN
+EFIAPI
+IsDevicePathMultiInstance (
+  IN CONST EFI_DEVICE_PATH_PROTOCOL  *DevicePath
+  )
+{
+  UINTN  Size;
+  UINTN  End;
+
+  Size = GetDevicePathSize (DevicePath);
+  return Size != 0 && EndOfInstance (DevicePath, Size, &End);
+}
+
+EFI_DEVICE_PATH_PROTOCOL *
+EFIAPI
+GetNextDevicePathInstance (
+  IN OUT EFI_DEVICE_PATH_PROTOCOL  **DevicePath,
+  OUT UINTN                        *Size
+  )
+{
+  EFI_DEVICE_PATH_PROTOCOL  *Instance;
+  UINTN                     Whole;
+  UINTN                     End;
+  BOOLEAN                   IsMore;
+
+  ASSERT (Size != NULL);
+  *Size = 0;
+  Whole = DevicePath == NULL ? 0 : GetDevicePathSize (*DevicePath);
+  if (Whole == 0) {
+    return NULL;
+  }
+
+  IsMore   = EndOfInstance (*DevicePath, Whole, &End);
+  *Size    = End + HEADER;
+  Instance = AllocateCopyPool (*Size, *DevicePath);
+  if (Instance != NULL) {
+    SetDevicePathEndNode ((UINT8 *)Instance + End);
+  }
+
+  *DevicePath = IsMore ? (EFI_DEVICE_PATH_PROTOCOL *)((UINT8 *)*DevicePath + *Size) : NULL;
+  return Instance;
+}
+
+//
+// Texts. The first call of the library says how long the text is.
+//
+
+CHAR16 *
+EFIAPI
+ConvertDevicePathToText (
+  IN CONST EFI_DEVICE_PATH_PROTOCOL  *DevicePath,
+  IN BOOLEAN                         DisplayOnly,
+  IN BOOLEAN                         AllowShortcuts
+  )
+{
+  CHAR16       *Text;
+  UINTN        Size;
+  UINTN        Length;
+  nard_result  Reason;
+
+  if (DevicePath == NULL) {
+    return NULL;
+  }
+
+  Size   = Extent ((CONST UINT8 *)DevicePath, MAX_INTN);
+  Reason = nard_device_path_text ((CONST UINT8 *)DevicePath, Size, DisplayOnly != 0, AllowShortcuts != 0, NULL, 0, &Length);
+  if (Reason != NARD_BUFFER_TOO_SMALL) {
+    return NULL;
+  }
+
+  Text = AllocatePool ((Length + 1) * sizeof (CHAR16));
+  return Text == NULL ? NULL : (CHAR16 *)Built (
+                                           nard_device_path_text (
+                                             (CONST UINT8 *)DevicePath,
+                                             Size,
+                                             DisplayOnly != 0,
+                                             AllowShortcuts != 0,
+                                             Text,
+                                             Length + 1,
+                                             &Length
+                                             ),
+                                           (UINT8 *)Text
+                                           );
+}
+
+CHAR16 *
+EFIAPI
+ConvertDeviceNodeToText (
+  IN CONST EFI_DEVICE_PATH_PROTOCOL  *DeviceNode,
+  IN BOOLEAN                         DisplayOnly,
+  IN BOOLEAN                         AllowShortcuts
+  )
+{
+  CHAR16       *Text;
+  UINTN        Size;
+  UINTN        Length;
+  nard_result  Reason;
+
+  if (DeviceNode == NULL) {
+    return NULL;
+  }
+
+  Size   = MAX (DevicePathNodeLength (DeviceNode), HEADER);
+  Reason = nard_node_text ((CONST UINT8 *)DeviceNode, Size, DisplayOnly != 0, AllowShortcuts != 0, NULL, 0, &Length);
+  if (Reason != NARD_BUFFER_TOO_SMALL) {
+    return NULL;
+  }
+
+  Text = AllocatePool ((Length + 1) * sizeof (CHAR16));
+  return Text == NULL ? NULL : (CHAR16 *)Built (
+                                           nard_node_text (
+                                             (CONST UINT8 *)DeviceNode,
+                                             Size,
+                                             DisplayOnly != 0,
+                                             AllowShortcuts != 0,
+                                             Text,
+                                             Length + 1,
+                                             &Length
+                                             ),
+                                           (UINT8 *)Text
+                                           );
+}
+
+/**
+  A text in UTF-8, which the library reads, after as many bytes of scratch; NULL if it holds a lone surrogate or memory runs out.
+**/
+STATIC
+UINT8 *
+Utf8Of (
+  IN  CONST CHAR16  *Text,
+  OUT UINTN         *Length
+  )
+{
+  UINTN  Count;
+  UINT8  *Bytes;
+
+  Count = StrSize (Text) / sizeof (CHAR16);
+  Bytes = AllocatePool (6 * Count);
+  return Bytes == NULL ? NULL : (UINT8 *)Built (nard_utf8_from_string (Text, Count, Bytes + 3 * Count, 3 * Count, Length), Bytes);
+}
+
+EFI_DEVICE_PATH_PROTOCOL *
+EFIAPI
+ConvertTextToDevicePath (
+  IN CONST CHAR16  *TextDevicePath
+  )
+{
+  UINT8        *Scratch;
+  UINT8        *Text;
+  UINT8        *Buffer;
+  UINTN        Length;
+  UINTN        Room;
+  UINTN        Size;
+  nard_result  Reason;
+
+  if ((TextDevicePath == NULL) || (*TextDevicePath == 0)) {
+    return NULL;
+  }
+
+  Scratch = Utf8Of (TextDevicePath, &Length);
+  if (Scratch == NULL) {
+    return NULL;
+  }
+
+  Text   = Scratch + 3 * (StrSize (TextDevicePath) / sizeof (CHAR16));
+  Size   = HEADER;
+  Buffer = NULL;
+  do {
+    Room = Size;
+    if (Buffer != NULL) {
+      FreePool (Buffer);
+    }
+
+    Reason = NARD_NO_NODE;
+    Buffer = Room > MAX_INT32 ? NULL : AllocatePool (Room);
+    if (Buffer != NULL) {
+      SetDevicePathEndNode (Buffer);
+      Reason = nard_device_path_push_lenient_text (Buffer, Room, Text, Length, Scratch, Length + 1, &Size);
+    }
+  } while ((Reason == NARD_BUFFER_TOO_SMALL) && (Room < Size));
+
+  FreePool (Scratch);
+  return Built (Reason, Buffer);
+}
+
+EFI_DEVICE_PATH_PROTOCOL *
+EFIAPI
+ConvertTextToDeviceNode (
+  IN CONST CHAR16  *TextDeviceNode
+  )
+{
+  EFI_DEVICE_PATH_PROTOCOL  *Path;
+
+  //
+  // The bytes of a path begin with its first node.
+  //
+  Path = ConvertTextToDevicePath (TextDeviceNode);
+  return Built ((Path != NULL) && IsDevicePathEnd (Path) ? NARD_NO_NODE : NARD_OK, (UINT8 *)Path);
+}

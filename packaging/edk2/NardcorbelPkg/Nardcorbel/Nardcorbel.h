@@ -1,0 +1,20 @@
+/** @file
+  The calls of nardcorbel with the types of EDK II.
+
+  SPDX-License-Identifier: MIT OR Apache-2.0
+**/
+#ifndef NARDCORBEL_PKG_H_
+#define NARDCORBEL_PKG_H_
+
+#include <Uefi.h>
+
+#define NARD_TYPES
+typedef UINT8    nard_byte;
+typedef CHAR16   nard_unit;
+typedef UINTN    nard_size;
+typedef BOOLEAN  nard_bool;
+typedef UINT32   nard_result;
+typedef INT32    nard_order;
+#include <nardcorbel.h>
+
+#endif

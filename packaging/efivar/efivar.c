@@ -1,0 +1,457 @@
+/*
+ * The calls of libefivar 37 and libefiboot 37 that read and write device paths and load options, over the calls of nardcorbel.
+ * A program that loads this library before the two, such as efibootmgr under LD_PRELOAD, calls these instead.
+ *
+ * The library judges the bytes. Here are memory, errno, and texts in UTF-8. All else is left to libefivar and libefiboot:
+ * variables, GUIDs, the search for a disk, the builders of single nodes, and what the header efivar-dp.h has inline, which a
+ * program compiles in.
+ */
+#include <errno.h>
+#include <stdint.h>
+#include <stdio.h>
+#include <stdlib.h>
+#include <string.h>
+#include <sys/types.h>
+
+#include "nardcorbel.h"
+
+#define API __attribute__((visibility("default")))
+
+enum { HEADER = 4, END = 0x7f, END_INSTANCE = 1, MEDIA = 4, HARD_DRIVE = 1, FILE_PATH = 4 };
+
+/* A path without nodes. */
+static const uint8_t empty[HEADER] = {END, 0xff, HEADER, 0};
+
+/*
+ * The load option that a call was given last with its size, and why it is refused. Some calls get a pointer alone, and programs
+ * ask for the description first.
+ */
+static _Thread_local struct {
+    const uint8_t *bytes;
+    nard_size count;
+    nard_result reason;
+    nard_size offset;
+} last;
+
+/* -1, and errno for a reason. */
+static int refused(nard_result reason)
+{
+    errno = reason == NARD_BUFFER_TOO_SMALL ? ENOSPC : reason == NARD_SCRATCH_TOO_SMALL ? ENOMEM : EINVAL;
+    return -1;
+}
+
+/* ---- Device paths ---- */
+
+/*
+ * How many bytes to give the library of a path whose length the caller does not say: up to the end node, or up to the first
+ * node that the library refuses. Reads one header after another.
+ */
+static nard_size extent(const uint8_t *path)
+{
+    struct nard_device_node node;
+    nard_number length;
+    nard_size at = 0, end;
+    nard_result reason;
+    do {
+        length = 0;
+        end = at + HEADER;
+        if (nard_node_number(path + at, HEADER, 2, 2, &length) == NARD_OK && HEADER < length)
+            end = at + length;
+        reason = nard_device_path_next_node(path, end, &at, &node);
+    } while (reason == NARD_OK);
+    return end;
+}
+
+/* A text that is written as far as there is room; `count` is how many units it has. */
+struct text {
+    nard_unit *units;
+    nard_size room, count;
+};
+
+static void put(struct text *text, const char *ascii)
+{
+    for (; *ascii; ascii++, text->count++)
+        if (text->count < text->room)
+            text->units[text->count] = (nard_unit)*ascii;
+}
+
+/* Adds the text of a node, which a NUL may follow. The numbers of a partition are in lower case, as scripts compare them. */
+static void put_node(struct text *text, const uint8_t *node, nard_size count, bool is_partition)
+{
+    nard_size length = 0, start = text->count, room = start < text->room ? text->room - start : 0;
+    nard_unit *units = room ? text->units + start : NULL;
+    unsigned commas = 0;
+    bool is_written = nard_node_text(node, count, false, false, units, room, &length) == NARD_OK;
+    for (nard_size i = 0; is_written && is_partition && i < length; i++) {
+        commas += units[i] == ',';
+        if (1 < commas && 'A' <= units[i] && units[i] <= 'F')
+            units[i] += 'a' - 'A';
+    }
+    text->count += length;
+}
+
+/* Whether a node of a path is of this kind. */
+static bool is_node(const struct nard_device_node *node, uint8_t device_type, uint8_t sub_type)
+{
+    return node->device_type == device_type && node->sub_type == sub_type;
+}
+
+/* Writes a path in libefivar's style: as the library does, with File(..) around the name of a file, and partitions in lower case. */
+static void put_path(struct text *text, const uint8_t *path, nard_size count)
+{
+    struct nard_device_node node;
+    nard_size at = 0;
+    const char *before = "";
+    while (nard_device_path_next_node(path, count, &at, &node) == NARD_OK) {
+        nard_size start = node.start - HEADER;
+        /* Data that are no units are no name: the library prints such a node as Path(4,4,..). */
+        bool is_file = is_node(&node, MEDIA, FILE_PATH) && node.length && node.length % 2 == 0;
+        if (is_node(&node, END, END_INSTANCE)) {
+            put(text, ",");
+            before = "";
+            continue;
+        }
+        put(text, before);
+        put(text, is_file ? "File(" : "");
+        put_node(text, path + start, count - start, is_node(&node, MEDIA, HARD_DRIVE));
+        put(text, is_file ? ")" : "");
+        before = "/";
+    }
+}
+
+/* Copies bytes as snprintf does: what fits, and a NUL. Returns how many there are. */
+static ssize_t give(char *to, size_t room, const char *bytes, size_t count)
+{
+    if (to && room) {
+        size_t fits = count < room ? count : room - 1;
+        memcpy(to, bytes, fits);
+        to[fits] = 0;
+    }
+    return (ssize_t)count;
+}
+
+/* UTF-8 of units, in memory that the caller frees, or NULL; U+FFFD for a surrogate without a partner. */
+static uint8_t *utf8_of(const nard_unit *units, nard_size count, nard_size *length)
+{
+    nard_size room = 3 * count + 1;
+    uint8_t *bytes = malloc(room);
+    if (bytes && nard_utf8_from_units_lossy(units, count, bytes, room, length) != NARD_OK)
+        *length = 0;
+    return bytes;
+}
+
+/*
+ * The text of a path. A null path is what efi_loadopt_path returned of a malformed load option, since efibootmgr does not look,
+ * and ends where it gets no text: the text is then why.
+ */
+API ssize_t efidp_format_device_path(char *buf, size_t size, const uint8_t *dp, ssize_t limit)
+{
+    struct text text = {NULL, 0, 0};
+    nard_size count, length;
+    nard_result reason;
+    uint8_t *bytes;
+    ssize_t told;
+    if (!dp && last.reason != NARD_OK) {
+        char why[128];
+        told = snprintf(why, sizeof why, "<malformed at offset %zu: %s>", (size_t)last.offset, nard_reason_text(last.reason));
+        return give(buf, size, why, (size_t)told);
+    }
+    count = dp && limit < 0 ? extent(dp) : dp ? (nard_size)limit : 0;
+    reason = nard_device_path_check(dp, count, &length);
+    if (reason != NARD_OK)
+        return refused(reason);
+    put_path(&text, dp, length);
+    /* One more for the NUL of the last node. */
+    text.room = text.count + 1;
+    text.count = 0;
+    text.units = malloc(text.room * sizeof *text.units);
+    if (!text.units)
+        return -1;
+    put_path(&text, dp, length);
+    bytes = utf8_of(text.units, text.count, &length);
+    told = bytes ? give(buf, size, (char *)bytes, length) : -1;
+    free(text.units);
+    free(bytes);
+    return told;
+}
+
+/* Writes the path that a text means to a buffer. */
+static nard_result read_text(const char *text, uint8_t *buffer, nard_size room, nard_size *length)
+{
+    nard_size count = strlen(text);
+    uint8_t *scratch = malloc(count + 1);
+    nard_result reason = scratch ? nard_device_path_begin(buffer, room, length) : NARD_SCRATCH_TOO_SMALL;
+    if (reason == NARD_OK)
+        reason = nard_device_path_push_lenient_text(buffer, room, (const uint8_t *)text, count, scratch, count + 1, length);
+    free(scratch);
+    return reason;
+}
+
+/*
+ * The path that a text means, in the style that efidp_format_device_path writes. A size of 0 asks how many bytes it has; a buffer
+ * that is too small is left as it is.
+ */
+API ssize_t efidp_parse_device_path(const char *text, uint8_t *out, size_t size)
+{
+    uint8_t begun[HEADER];
+    nard_size length = 0;
+    nard_result reason = read_text(text, begun, HEADER, &length);
+    if (reason == NARD_BUFFER_TOO_SMALL)
+        reason = NARD_OK;
+    if (reason == NARD_OK && size)
+        reason = size < length ? NARD_BUFFER_TOO_SMALL : read_text(text, out, size, &length);
+    return reason == NARD_OK ? (ssize_t)length : refused(reason);
+}
+
+API ssize_t efidp_parse_device_node(const char *text, uint8_t *out, size_t size)
+{
+    struct nard_device_node node;
+    nard_size at = 0, end;
+    ssize_t length = efidp_parse_device_path(text, NULL, 0);
+    uint8_t *path = length < 0 ? NULL : malloc((size_t)length);
+    if (!path)
+        return -1;
+    length = efidp_parse_device_path(text, path, (size_t)length);
+    if (length < 0 || nard_device_path_next_node(path, (nard_size)length, &at, &node) != NARD_OK
+        || (end = at, nard_device_path_next_node(path, (nard_size)length, &end, &node)) != NARD_END_OF_PATH)
+        length = refused(NARD_NO_NODE);
+    else if (size && size < at)
+        length = refused(NARD_BUFFER_TOO_SMALL);
+    else
+        length = (ssize_t)at;
+    if (0 < length && size)
+        memcpy(out, path, at);
+    free(path);
+    return length;
+}
+
+/* ---- Paths that are built ---- */
+
+/* The memory of a path that was built, or -1 and none if the library refused it. */
+static int built(nard_result reason, uint8_t *buffer, uint8_t **out)
+{
+    if (reason == NARD_OK) {
+        *out = buffer;
+        return 0;
+    }
+    free(buffer);
+    return refused(reason);
+}
+
+/* A copy of the path, or of none if it is null, with room for more bytes; its end included. */
+static uint8_t *copied(const uint8_t *path, nard_size more, nard_size *room)
+{
+    nard_size count = path ? extent(path) : HEADER;
+    uint8_t *buffer = malloc(count + more);
+    if (buffer)
+        memcpy(buffer, path ? path : empty, count);
+    *room = count + more;
+    return buffer;
+}
+
+static int appended(const uint8_t *dp, bool is_instance, const uint8_t *other, uint8_t **out)
+{
+    nard_size count = other ? extent(other) : HEADER, room, length;
+    uint8_t *buffer = copied(dp, count + HEADER, &room);
+    nard_result reason = NARD_OK;
+    if (!buffer)
+        return -1;
+    if (is_instance)
+        reason = nard_device_path_push(buffer, room, END, END_INSTANCE, NULL, 0, &length);
+    if (reason == NARD_OK)
+        reason = nard_device_path_append(buffer, room, other ? other : empty, count, &length);
+    return built(reason, buffer, out);
+}
+
+API int efidp_duplicate_path(const uint8_t *dp, uint8_t **out)
+{
+    return dp ? appended(dp, false, NULL, out) : refused(NARD_NO_END_NODE);
+}
+
+API int efidp_append_path(const uint8_t *dp0, const uint8_t *dp1, uint8_t **out)
+{
+    return appended(dp0, false, dp1, out);
+}
+
+API int efidp_append_instance(const uint8_t *dp, const uint8_t *dpi, uint8_t **out)
+{
+    return dpi ? appended(dp, dp != NULL, dpi, out) : refused(NARD_NO_END_NODE);
+}
+
+API int efidp_append_node(const uint8_t *dp, const uint8_t *dn, uint8_t **out)
+{
+    nard_number size = 0;
+    nard_size room, length;
+    uint8_t *buffer;
+    if (!dn)
+        return appended(dp, false, NULL, out);
+    if (nard_node_number(dn, HEADER, 2, 2, &size) != NARD_OK || size < HEADER)
+        return refused(NARD_LENGTH_BELOW_HEADER);
+    buffer = copied(dp, size, &room);
+    if (!buffer)
+        return -1;
+    return built(nard_device_path_push(buffer, room, dn[0], dn[1], dn + HEADER, size - HEADER, &length), buffer, out);
+}
+
+/* ---- Load options ---- */
+
+static nard_result read_option(const uint8_t *opt, size_t size, struct nard_load_option *parts)
+{
+    last.bytes = opt;
+    last.count = size;
+    last.reason = nard_load_option_read(opt, size, parts, &last.offset);
+    return last.reason;
+}
+
+API int efi_loadopt_is_valid(const uint8_t *opt, size_t size)
+{
+    struct nard_load_option parts;
+    return read_option(opt, size, &parts) == NARD_OK;
+}
+
+/* The attributes are the first four bytes. The call gets no size: it takes the one that the option was given with last. */
+API uint32_t efi_loadopt_attrs(const uint8_t *opt)
+{
+    nard_number attributes = 0;
+    nard_size count = opt == last.bytes && last.count < 4 ? last.count : 4;
+    return nard_node_number(opt, count, 0, 4, &attributes) == NARD_OK ? (uint32_t)attributes : 0;
+}
+
+static void set_attrs(uint8_t *opt, uint32_t attributes)
+{
+    for (int i = 0; i < 4; i++)
+        opt[i] = (uint8_t)(attributes >> 8 * i);
+}
+
+API void efi_loadopt_attr_set(uint8_t *opt, uint16_t attr)
+{
+    set_attrs(opt, efi_loadopt_attrs(opt) | attr);
+}
+
+API void efi_loadopt_attr_clear(uint8_t *opt, uint16_t attr)
+{
+    set_attrs(opt, efi_loadopt_attrs(opt) & ~(uint32_t)attr);
+}
+
+/* The file path list, or NULL of a malformed load option; efi_loadopt_pathlen says how many bytes it has. */
+API const uint8_t *efi_loadopt_path(const uint8_t *opt, ssize_t limit)
+{
+    struct nard_load_option parts;
+    if (limit < 0 || read_option(opt, (size_t)limit, &parts) != NARD_OK) {
+        errno = EINVAL;
+        return NULL;
+    }
+    return opt + parts.list_start;
+}
+
+API uint16_t efi_loadopt_pathlen(const uint8_t *opt, ssize_t limit)
+{
+    struct nard_load_option parts;
+    if (limit < 0 || read_option(opt, (size_t)limit, &parts) != NARD_OK) {
+        errno = EINVAL;
+        return 0;
+    }
+    return (uint16_t)parts.list_length;
+}
+
+/* The description, or of a malformed load option what there is of it. It lasts until the next call. */
+API const unsigned char *efi_loadopt_desc(const uint8_t *opt, ssize_t limit)
+{
+    static _Thread_local uint8_t *kept;
+    struct nard_load_option parts;
+    nard_size start = 6, count = 0, length = 0;
+    nard_unit *units;
+    free(kept);
+    kept = NULL;
+    if (limit < 0) {
+        errno = EINVAL;
+        return NULL;
+    }
+    read_option(opt, (size_t)limit, &parts);
+    if (start < (nard_size)limit && nard_packed_until_nul(opt + start, (nard_size)limit - start, &count) != NARD_OK) {
+        /* No NUL: all units. */
+    }
+    units = malloc((count + 1) * sizeof *units);
+    if (units && nard_units_from_bytes(opt + start, 2 * count, units, count, &length) == NARD_OK)
+        kept = utf8_of(units, count, &length);
+    free(units);
+    return kept;
+}
+
+/* The optional data. A malformed load option has none: efibootmgr ends where the call fails. */
+API int efi_loadopt_optional_data(uint8_t *opt, size_t size, unsigned char **data, size_t *length)
+{
+    struct nard_load_option parts;
+    if (read_option(opt, size, &parts) != NARD_OK) {
+        parts.optional_start = size;
+        parts.optional_length = 0;
+    }
+    *data = opt + parts.optional_start;
+    if (length)
+        *length = parts.optional_length;
+    return 0;
+}
+
+API ssize_t efi_loadopt_optional_data_size(uint8_t *opt, size_t size)
+{
+    struct nard_load_option parts;
+    nard_result reason = read_option(opt, size, &parts);
+    return reason == NARD_OK ? (ssize_t)parts.optional_length : refused(reason);
+}
+
+/* The string that a text in UTF-8 is, in memory that the caller frees, or NULL; *length is in units, without the NUL. */
+static nard_unit *string_of(const uint8_t *utf8, nard_size *length)
+{
+    nard_size count = strlen((const char *)utf8);
+    nard_unit *units = malloc((count + 1) * sizeof *units);
+    nard_result reason = units ? nard_string_from_utf8(utf8, count, units, count + 1, length) : NARD_OK;
+    if (reason != NARD_OK) {
+        free(units);
+        units = NULL;
+        refused(reason);
+    }
+    return units;
+}
+
+/* Optional data that is a text, without its NUL. A size of 0 asks how many bytes it has. */
+API ssize_t efi_loadopt_args_as_ucs2(uint16_t *buf, ssize_t size, const uint8_t *utf8)
+{
+    nard_size length = 0;
+    nard_unit *units = string_of(utf8, &length);
+    ssize_t told = units ? (ssize_t)(length * sizeof *units) : -1;
+    if (units && size && size < told)
+        told = refused(NARD_BUFFER_TOO_SMALL);
+    else if (units && size)
+        memcpy(buf, units, length * sizeof *units);
+    free(units);
+    return told;
+}
+
+/*
+ * Writes a load option of one path, which has to be all of `dp_size` bytes. A size of 0 asks how many bytes it has. efibootmgr asks
+ * before it has the path and the data, so the library cannot: it has 6 bytes before the description.
+ */
+API ssize_t efi_loadopt_create(uint8_t *buf, ssize_t size, uint32_t attributes, const uint8_t *dp, ssize_t dp_size,
+                               const unsigned char *description, const uint8_t *optional, size_t optional_size)
+{
+    nard_size length = 0, list = 0;
+    nard_result reason;
+    nard_unit *units;
+    if (size < 0 || dp_size < 0 || 0xffff < dp_size || PTRDIFF_MAX / 2 < optional_size)
+        return refused(NARD_LIST_TOO_LONG);
+    units = string_of(description, &length);
+    if (!units)
+        return -1;
+    length += 1;
+    if (!size) {
+        free(units);
+        return (ssize_t)(6 + length * sizeof *units + (size_t)dp_size + optional_size);
+    }
+    reason = nard_device_path_check(dp, dp ? (nard_size)dp_size : 0, &list);
+    if (reason == NARD_OK && (list != (nard_size)dp_size || !buf || (!optional && optional_size)))
+        reason = NARD_LIST_BEYOND_END;
+    if (reason == NARD_OK)
+        reason = nard_load_option_write(attributes, units, length, dp, list, optional, optional_size, buf, (nard_size)size, &length);
+    free(units);
+    return reason == NARD_OK ? (ssize_t)length : refused(reason);
+}
