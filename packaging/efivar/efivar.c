@@ -42,24 +42,11 @@ static int refused(nard_result reason)
 
 /* ---- Device paths ---- */
 
-/*
- * How many bytes to give the library of a path whose length the caller does not say: up to the end node, or up to the first
- * node that the library refuses. Reads one header after another.
- */
+/* How many bytes a path has whose length the caller does not say: none if it is malformed, which every call then refuses. */
 static nard_size extent(const uint8_t *path)
 {
-    struct nard_device_node node;
-    nard_number length;
-    nard_size at = 0, end;
-    nard_result reason;
-    do {
-        length = 0;
-        end = at + HEADER;
-        if (nard_node_number(path + at, HEADER, 2, 2, &length) == NARD_OK && HEADER < length)
-            end = at + length;
-        reason = nard_device_path_next_node(path, end, &at, &node);
-    } while (reason == NARD_OK);
-    return end;
+    nard_size length = 0;
+    return nard_device_path_size(path, SIZE_MAX, &length) == NARD_OK ? length : 0;
 }
 
 /* A text that is written as far as there is room; `count` is how many units it has. */

@@ -1,8 +1,7 @@
 /** @file
   DevicePathLib over nardcorbel, which says what a path is, where its nodes are, how it is built, and what its text is.
 
-  Here are the fields of single nodes, memory from pools, and how many bytes there are at a pointer, since most functions of this
-  class get no size.
+  Here are the fields of single nodes, and memory from pools.
 
   SPDX-License-Identifier: MIT OR Apache-2.0
 **/
@@ -119,35 +118,6 @@ SetDevicePathEndNode (
 //
 
 /**
-  How many bytes to give the library of a path: up to its end node, or up to the first node that it refuses. Reads one header after
-  another, and no byte from MaxSize on.
-**/
-STATIC
-UINTN
-Extent (
-  IN CONST UINT8  *Path,
-  IN UINTN        MaxSize
-  )
-{
-  struct nard_device_node  Node;
-  UINTN                    At;
-  UINTN                    End;
-  UINTN                    Count;
-
-  At = 0;
-  for (Count = PcdGet32 (PcdMaximumDevicePathNodeCount); ; Count--) {
-    if (MaxSize - At < HEADER) {
-      return MaxSize;
-    }
-
-    End = At + MIN (MAX (DevicePathNodeLength (Path + At), HEADER), MaxSize - At);
-    if ((nard_device_path_next_node (Path, End, &At, &Node) != NARD_OK) || (Count == 1)) {
-      return End;
-    }
-  }
-}
-
-/**
   The size of a path whose file names end in a NUL, or 0: EDK II takes these names for strings.
 **/
 STATIC
@@ -161,12 +131,18 @@ SizeOf (
   UINTN                    Size;
   UINTN                    At;
   UINTN                    Length;
+  UINTN                    Count;
 
-  if ((Path == NULL) || (nard_device_path_check (Path, Extent (Path, MaxSize), &Size) != NARD_OK)) {
+  if ((Path == NULL) || (nard_device_path_size (Path, MaxSize, &Size) != NARD_OK)) {
     return 0;
   }
 
-  for (At = 0; nard_device_path_next_node (Path, Size, &At, &Node) == NARD_OK; ) {
+  Count = PcdGet32 (PcdMaximumDevicePathNodeCount);
+  for (At = 0; nard_device_path_next_node (Path, Size, &At, &Node) == NARD_OK; Count--) {
+    if (Count == 1) {
+      return 0;
+    }
+
     if ((Node.device_type == MEDIA_DEVICE_PATH) && (Node.sub_type == MEDIA_FILEPATH_DP) &&
         (nard_packed_until_nul ((CONST UINT8 *)Path + Node.start, Node.length, &Length) != NARD_OK))
     {
@@ -506,11 +482,10 @@ ConvertDevicePathToText (
   UINTN        Length;
   nard_result  Reason;
 
-  if (DevicePath == NULL) {
+  if ((DevicePath == NULL) || (nard_device_path_size ((CONST UINT8 *)DevicePath, MAX_INTN, &Size) != NARD_OK)) {
     return NULL;
   }
 
-  Size   = Extent ((CONST UINT8 *)DevicePath, MAX_INTN);
   Reason = nard_device_path_text ((CONST UINT8 *)DevicePath, Size, DisplayOnly != 0, AllowShortcuts != 0, NULL, 0, &Length);
   if (Reason != NARD_BUFFER_TOO_SMALL) {
     return NULL;
