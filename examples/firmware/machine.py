@@ -84,7 +84,7 @@ class Machine:
     """Runs with the variables in its flash. `lines` is what its serial line printed, without what a terminal obeys."""
 
     def __init__(self, processor, disk, flash, entries, *added):
-        self.said, self.deadline = b"", time.monotonic() + 55
+        self.said, self.deadline = b"", time.monotonic() + 110
         self.process = subprocess.Popen(
             [*command(processor, disk, flash, entries, "stdio", *added), "-monitor", "none"],
             stdin=subprocess.PIPE, stdout=subprocess.PIPE, stderr=subprocess.STDOUT)
