@@ -59,7 +59,8 @@ pub extern "C" fn nard_units_make_uppercase(buffer: &mut [u16]) -> usize
     len
 }
 
-/// The same in lower case, as `StrLwr` does.
+/// Puts the text in lower case, as `StrLwr` does, and returns its length. What follows it is unchanged.
+/// Takes no memory.
 #[unsafe(no_mangle)]
 pub extern "C" fn nard_units_make_lowercase(buffer: &mut [u16]) -> usize
     ensures length { result ≡ length (text_until_nul buffer.old) }

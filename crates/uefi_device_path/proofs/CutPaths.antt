@@ -1,15 +1,14 @@
 -- Bytes that are the first part of a device path, and those with which no path begins.
-use Rattle.std.proofs.Common.{◌≡◌, ◌≢◌, ◌∙◌, ap, sym, refl, subst, ℕ, ◌+◌, ◌-◌, ◌<◌, ◌≤◌, Bool, true, false, ltb, true≢false, List, [], ◌∷◌, ◌++◌, All, None, Some, length, drop, append_assoc, length-append, arith}
+use Rattle.std.proofs.Common.{◌≡◌, ◌∙◌, ap, sym, refl, ℕ, ◌+◌, ◌<◌, ◌≤◌, Bool, true, false, ltb, List, [], ◌∷◌, ◌++◌, All, None, Some, length, drop, append_assoc, length-append, arith}
 use Rattle.std.proofs.lemmas.Grind.{common_steps}
 use Rattle.std.proofs.lemmas.List.{drop_at}
 use Rattle.std.proofs.lemmas.List.Elements.{All-head, All-tail}
 use Rattle.uefi_device_nodes.specs.NodeFaults.{node_fault}
 use Rattle.uefi_device_nodes.specs.Nodes.{IsInner, IsSound, Node, end_entire, node_bytes, node_length, stated_length}
 use Rattle.uefi_device_nodes.specs.declared.errors.NodeError.{NodeError}
-use Rattle.uefi_device_nodes.specs.declared.errors.NodeError.TheVariants.{Missing, TruncatedHeader, UnknownEnd, LengthBelowHeader, EndWithData, BeyondEnd}
 use Rattle.uefi_device_path.specs.Extents.{BeginNoPath, begun_length, is_cut_short}
 use Rattle.uefi_device_path.specs.Paths.{BeginWith, BeginWithPath, nodes_bytes, path_bytes}
-use Rattle.uefi_device_path.proofs.Splits.{begin_long, no_fault, prefix_free, stated-node_bytes}
+use Rattle.uefi_device_path.proofs.Splits.{no_fault, prefix_free, stated-node_bytes}
 
 -- the header of bytes with one says the same whatever follows
 same_header : (rest after : List ℕ) → 4 ≤ length rest → stated_length (rest ++ after) ≡ stated_length rest
