@@ -1,2 +1,3 @@
 pub mod SoundNodes
 pub mod ShownNodes
+pub mod FieldsRead

@@ -1,17 +1,18 @@
 -- No text of a node holds a character that texts escape.
-use Rattle.std.proofs.Common.{◌==◌, ◌&&◌, Bool, true, false, if◌then◌else◌, List, [], ◌∷◌, codes, drop, length, ℕ, refl}
+use Rattle.std.proofs.Common.{◌==◌, ◌&&◌, Bool, true, false, if◌then◌else◌, List, [], ◌∷◌, codes, length, ℕ, refl}
 use Rattle.std.specs.Prelude.{All}
 use Rattle.std.specs.Fmt.{decimal}
 use Rattle.std.specs.List.{concat}
 use Rattle.uefi_text.specs.Packed.{IsByte}
 use Rattle.uefi_field_texts.specs.FieldTexts.{comma_bytes, eisa_text, shown_bytes, uid_string, utf16_text}
 use Rattle.uefi_field_texts.specs.ShownTexts.{AsciiShown, BytesShown, IsShown, JoinedShown, NamesShown, NumbersShown, UnitsShown}
+use Rattle.uefi_node_table.specs.declared.layouts.TheConstants.{EXPANDED_CID, EXPANDED_HID, EXPANDED_ID_STRINGS, MESSAGING_TYPE, MESSAGING_VENDOR, MESSAGING_VENDOR_LEAST}
 use Rattle.uefi_node_table.specs.ShownTexts.{TableShown}
 use Rattle.uefi_node_table.specs.Table.{has_form, table_text}
 use Rattle.uefi_device_nodes.specs.Nodes.{Node}
 use Rattle.uefi_device_nodes.specs.NodeTexts.{expanded_text, has_uid_text, irregular_text, is_file_node, is_irregular, node_text, short_name, unknown_text}
 use Rattle.uefi_device_nodes.specs.ShownNodes.{NodesShown}
-use Rattle.uefi_device_nodes.specs.TypedNodes.{is_kind, number_at}
+use Rattle.uefi_device_nodes.specs.TypedNodes.{bytes_from, number_at, number_in}
 
 module _ (joined : JoinedShown) (ascii : AsciiShown) (numbers : NumbersShown) (bytes_are : BytesShown) (names : NamesShown) (units : UnitsShown) (table : TableShown) where
   none : IsShown []
@@ -35,15 +36,15 @@ module _ (joined : JoinedShown) (ascii : AsciiShown) (numbers : NumbersShown) (b
 
   expanded : (content : List ℕ) → IsShown (expanded_text content)
   expanded content =
-      let uid : List ℕ = uid_string (drop 12 content) in
-      let hid_id : List ℕ = eisa_text (number_at 0 4 content) in
-      let cid_id : List ℕ = eisa_text (number_at 8 4 content) in
+      let uid : List ℕ = uid_string (bytes_from EXPANDED_ID_STRINGS content) in
+      let hid_id : List ℕ = eisa_text (number_in EXPANDED_HID content) in
+      let cid_id : List ℕ = eisa_text (number_in EXPANDED_CID content) in
       let comma = ascii (codes ",") refl in
       row (codes "AcpiExp(" ∷ hid_id ∷ codes "," ∷ cid_id ∷ codes "," ∷ shown_bytes uid ∷ codes ")" ∷ []) (
         ascii (codes "AcpiExp(") refl,
         (
-          (names (number_at 0 4 content) 0).0,
-          (comma, ((names (number_at 8 4 content) 0).0, (comma, (text uid, (ascii (codes ")") refl, tt))))),
+          (names (number_in EXPANDED_HID content) 0).0,
+          (comma, ((names (number_in EXPANDED_CID content) 0).0, (comma, (text uid, (ascii (codes ")") refl, tt))))),
         ),
       )
 
@@ -66,7 +67,7 @@ module _ (joined : JoinedShown) (ascii : AsciiShown) (numbers : NumbersShown) (b
 
   short : (node : Node) → IsShown (short_name node)
   short node =
-      pick ((node.device_type == 3) && ((node.sub_type == 10) && (length node.content == 16))) _ []
+      pick ((node.device_type == MESSAGING_TYPE) && ((node.sub_type == MESSAGING_VENDOR) && (length node.content == MESSAGING_VENDOR_LEAST))) _ []
       (names (number_at 0 8 node.content) (number_at 8 8 node.content)).1 none
 
   irregular : (display_only shortcuts : Bool) (node : Node) → All IsByte node.content → IsShown (irregular_text display_only shortcuts node)

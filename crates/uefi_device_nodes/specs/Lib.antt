@@ -5,6 +5,7 @@ pub mod NodeViews
 pub mod NodeErrorTexts
 pub mod TypedNodes
 pub mod NodeTexts
-pub mod Layouts
 pub mod NodeEnums
 pub mod ShownNodes
+pub mod RawNodes
+pub mod NodeFields

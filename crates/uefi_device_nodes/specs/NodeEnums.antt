@@ -1,9 +1,10 @@
 -- Nodes by their kinds.
-use Rattle.std.specs.Prelude.{◌≡◌, ℕ, ◌==◌, nat_lt, if◌then◌else◌, List, [], ◌∷◌, length, Option, Some, None}
+use Rattle.std.specs.Prelude.{◌≡◌, ℕ, ◌==◌, nat_lt, if◌then◌else◌, List, [], ◌∷◌, ◌++◌, length, Option, Some, None}
 use Rattle.uefi_device_nodes.specs.Nodes.{Node}
 use Rattle.uefi_device_nodes.specs.NodeViews.{data_of, file_node}
 use Rattle.uefi_device_nodes.specs.FileNodes.{IsFilePath, file_path_refusal, is_file}
 use Rattle.uefi_device_nodes.specs.TypedNodes.{IsOfKind}
+use Rattle.uefi_node_table.specs.declared.layouts.TheConstants.{ACPI, ACPI_LEAST, ACPI_TYPE, ADR, ADR_LEAST, ATAPI, ATAPI_LEAST, BIOS_BOOT_SPEC_TYPE, BLUETOOTH, BLUETOOTH_LE, BLUETOOTH_LEAST, BLUETOOTH_LE_LEAST, BMC, BMC_LEAST, BOOT_SPECIFICATION, BOOT_SPECIFICATION_LEAST, CD_ROM, CD_ROM_LEAST, CONTROLLER, CONTROLLER_LEAST, DEVICE_LOGICAL_UNIT, DEVICE_LOGICAL_UNIT_LEAST, DNS, DNS_LEAST, EMMC, EMMC_LEAST, EXPANDED, EXPANDED_LEAST, FIBRE_CHANNEL, FIBRE_CHANNEL_EX, FIBRE_CHANNEL_EX_LEAST, FIBRE_CHANNEL_LEAST, FIRMWARE_FILE, FIRMWARE_FILE_LEAST, FIRMWARE_VOLUME, FIRMWARE_VOLUME_LEAST, HARDWARE_TYPE, HARDWARE_VENDOR, HARDWARE_VENDOR_LEAST, HARD_DRIVE, HARD_DRIVE_LEAST, I2O, I2O_LEAST, IEEE1394, IEEE1394_LEAST, INFINIBAND, INFINIBAND_LEAST, IPV4, IPV4_LEAST, IPV6, IPV6_LEAST, ISCSI, ISCSI_LEAST, MAC_ADDRESS, MAC_ADDRESS_LEAST, MEDIA_TYPE, MEDIA_VENDOR, MEDIA_VENDOR_LEAST, MEMORY_MAPPED, MEMORY_MAPPED_LEAST, MESSAGING_TYPE, MESSAGING_VENDOR, MESSAGING_VENDOR_LEAST, NVDIMM, NVDIMM_LEAST, NVDIMM_NAMESPACE, NVDIMM_NAMESPACE_LEAST, NVME_NAMESPACE, NVME_NAMESPACE_LEAST, NVME_OF_NAMESPACE, NVME_OF_NAMESPACE_LEAST, PCCARD, PCCARD_LEAST, PCI, PCI_LEAST, PROTOCOL, PROTOCOL_LEAST, RAM_DISK, RAM_DISK_LEAST, RELATIVE_OFFSET_RANGE, RELATIVE_OFFSET_RANGE_LEAST, REST_SERVICE, REST_SERVICE_LEAST, SAS_EX, SAS_EX_LEAST, SATA, SATA_LEAST, SCSI, SCSI_LEAST, SD, SD_LEAST, UART, UART_LEAST, UFS, UFS_LEAST, URI, URI_LEAST, USB, USB_CLASS, USB_CLASS_LEAST, USB_LEAST, USB_WWID, USB_WWID_LEAST, VLAN, VLAN_LEAST, WIFI, WIFI_LEAST}
 use Rattle.uefi_device_nodes.specs.declared.errors.NodeConversionError.{NodeConversionError}
 use Rattle.uefi_device_nodes.specs.declared.errors.NodeConversionError.TheVariants.{InvalidLength, UnsupportedType}
 use Rattle.uefi_device_nodes.specs.declared.typed_node.TypedNode.{TypedNode}
@@ -74,34 +75,51 @@ IsNodeOf (view.BiosBootSpecBootSpecification shown) node = Shows shown node
 -- the kinds of type Hardware whose nodes have fields: the sub-type of each, and how many bytes of data
 -- a node has at least
 abbrev pub hardware_kinds : List (ℕ × ℕ)
-hardware_kinds = (1, 2) ∷ (2, 1) ∷ (3, 20) ∷ (4, 16) ∷ (5, 4) ∷ (6, 9) ∷ []
+hardware_kinds = (PCI, PCI_LEAST) ∷ (PCCARD, PCCARD_LEAST) ∷ (MEMORY_MAPPED, MEMORY_MAPPED_LEAST) ∷
+    (HARDWARE_VENDOR, HARDWARE_VENDOR_LEAST) ∷ (CONTROLLER, CONTROLLER_LEAST) ∷ (BMC, BMC_LEAST) ∷
+    []
 
 -- those of type ACPI
 abbrev pub acpi_kinds : List (ℕ × ℕ)
-acpi_kinds = (1, 8) ∷ (2, 15) ∷ (3, 4) ∷ (4, 4) ∷ []
+acpi_kinds = (ACPI, ACPI_LEAST) ∷ (EXPANDED, EXPANDED_LEAST) ∷ (ADR, ADR_LEAST) ∷
+    (NVDIMM, NVDIMM_LEAST) ∷ []
 
--- those of type Messaging with sub-types above 23
-abbrev pub third_messaging_kinds : List (ℕ × ℕ)
-third_messaging_kinds = (24, 0) ∷ (25, 2) ∷ (26, 1) ∷ (27, 6) ∷ (28, 32) ∷ (29, 1) ∷ (30, 7) ∷ (31, 1) ∷
-    (32, 16) ∷ (33, 2) ∷ (34, 17) ∷ []
+-- those of type Messaging that are devices on buses, serial ports and vendors' own
+abbrev pub bus_kinds : List (ℕ × ℕ)
+bus_kinds = (IEEE1394, IEEE1394_LEAST) ∷ (USB, USB_LEAST) ∷ (I2O, I2O_LEAST) ∷
+    (MESSAGING_VENDOR, MESSAGING_VENDOR_LEAST) ∷ (UART, UART_LEAST) ∷ (USB_CLASS, USB_CLASS_LEAST) ∷
+    (USB_WWID, USB_WWID_LEAST) ∷ []
 
--- and above 13
-abbrev pub second_messaging_kinds : List (ℕ × ℕ)
-second_messaging_kinds = (14, 15) ∷ (15, 7) ∷ (16, 6) ∷ (17, 1) ∷ (18, 6) ∷ (19, 14) ∷ (20, 2) ∷ (21, 20) ∷
-    (22, 20) ∷ (23, 12) ∷ third_messaging_kinds
+-- those that are storage
+abbrev pub storage_kinds : List (ℕ × ℕ)
+storage_kinds = (ATAPI, ATAPI_LEAST) ∷ (SCSI, SCSI_LEAST) ∷ (FIBRE_CHANNEL, FIBRE_CHANNEL_LEAST) ∷
+    (DEVICE_LOGICAL_UNIT, DEVICE_LOGICAL_UNIT_LEAST) ∷ (SATA, SATA_LEAST) ∷
+    (FIBRE_CHANNEL_EX, FIBRE_CHANNEL_EX_LEAST) ∷ (SAS_EX, SAS_EX_LEAST) ∷
+    (NVME_NAMESPACE, NVME_NAMESPACE_LEAST) ∷ (UFS, UFS_LEAST) ∷ (SD, SD_LEAST) ∷
+    (EMMC, EMMC_LEAST) ∷ (NVDIMM_NAMESPACE, NVDIMM_NAMESPACE_LEAST) ∷ []
+
+-- those that name networks, and what is reached over them
+abbrev pub network_kinds : List (ℕ × ℕ)
+network_kinds = (INFINIBAND, INFINIBAND_LEAST) ∷ (MAC_ADDRESS, MAC_ADDRESS_LEAST) ∷
+    (IPV4, IPV4_LEAST) ∷ (IPV6, IPV6_LEAST) ∷ (ISCSI, ISCSI_LEAST) ∷ (VLAN, VLAN_LEAST) ∷
+    (URI, URI_LEAST) ∷ (BLUETOOTH, BLUETOOTH_LEAST) ∷ (WIFI, WIFI_LEAST) ∷
+    (BLUETOOTH_LE, BLUETOOTH_LE_LEAST) ∷ (DNS, DNS_LEAST) ∷ (REST_SERVICE, REST_SERVICE_LEAST) ∷
+    (NVME_OF_NAMESPACE, NVME_OF_NAMESPACE_LEAST) ∷ []
 
 -- all of type Messaging
 abbrev pub messaging_kinds : List (ℕ × ℕ)
-messaging_kinds = (1, 4) ∷ (2, 4) ∷ (3, 20) ∷ (4, 12) ∷ (5, 2) ∷ (6, 4) ∷ (9, 44) ∷ (10, 16) ∷ (11, 33) ∷
-    (12, 15) ∷ (13, 56) ∷ second_messaging_kinds
+messaging_kinds = bus_kinds ++ (storage_kinds ++ network_kinds)
 
 -- those of type Media
 abbrev pub media_kinds : List (ℕ × ℕ)
-media_kinds = (1, 38) ∷ (2, 20) ∷ (3, 16) ∷ (5, 16) ∷ (6, 16) ∷ (7, 16) ∷ (8, 20) ∷ (9, 34) ∷ []
+media_kinds = (HARD_DRIVE, HARD_DRIVE_LEAST) ∷ (CD_ROM, CD_ROM_LEAST) ∷
+    (MEDIA_VENDOR, MEDIA_VENDOR_LEAST) ∷ (PROTOCOL, PROTOCOL_LEAST) ∷
+    (FIRMWARE_FILE, FIRMWARE_FILE_LEAST) ∷ (FIRMWARE_VOLUME, FIRMWARE_VOLUME_LEAST) ∷
+    (RELATIVE_OFFSET_RANGE, RELATIVE_OFFSET_RANGE_LEAST) ∷ (RAM_DISK, RAM_DISK_LEAST) ∷ []
 
 -- those of type BIOS Boot Specification
 abbrev pub bios_boot_spec_kinds : List (ℕ × ℕ)
-bios_boot_spec_kinds = (1, 5) ∷ []
+bios_boot_spec_kinds = (BOOT_SPECIFICATION, BOOT_SPECIFICATION_LEAST) ∷ []
 
 -- why a node is of none of these kinds, or none
 abbrev pub refusal_among : List (ℕ × ℕ) → Node → Option NodeConversionError
@@ -113,9 +131,9 @@ refusal_among (kind ∷ kinds) node = if node.sub_type == kind.0
 -- why a node has no view, or none
 abbrev pub enum_refusal : Node → Option NodeConversionError
 enum_refusal node = if is_file node then file_path_refusal node
-    else if node.device_type == 1 then refusal_among hardware_kinds node
-    else if node.device_type == 2 then refusal_among acpi_kinds node
-    else if node.device_type == 3 then refusal_among messaging_kinds node
-    else if node.device_type == 4 then refusal_among media_kinds node
-    else if node.device_type == 5 then refusal_among bios_boot_spec_kinds node
+    else if node.device_type == HARDWARE_TYPE then refusal_among hardware_kinds node
+    else if node.device_type == ACPI_TYPE then refusal_among acpi_kinds node
+    else if node.device_type == MESSAGING_TYPE then refusal_among messaging_kinds node
+    else if node.device_type == MEDIA_TYPE then refusal_among media_kinds node
+    else if node.device_type == BIOS_BOOT_SPEC_TYPE then refusal_among bios_boot_spec_kinds node
     else Some UnsupportedType

@@ -1,27 +1,30 @@
 -- What is printed of nodes, in UTF-8 (UEFI Specification 2.10, section 10.6.1): by the table of kinds,
 -- and of those nodes whose text no row of it can say.
-use Rattle.std.specs.Prelude.{ℕ, ◌%◌, ◌==◌, ◌&&◌, ◌||◌, not, Bool, if◌then◌else◌, List, [], ◌∷◌, codes, drop, length}
+use Rattle.std.specs.Prelude.{ℕ, ◌%◌, ◌==◌, ◌&&◌, ◌||◌, not, Bool, if◌then◌else◌, List, [], ◌∷◌, codes, length}
 use Rattle.std.specs.Fmt.{decimal}
 use Rattle.std.specs.List.{concat}
 use Rattle.uefi_field_texts.specs.FieldTexts.{comma_bytes, eisa_text, has_uid_alone, shown_bytes, uid_string, utf16_text, vendor_name}
 use Rattle.uefi_node_table.specs.Table.{has_form, table_text}
+use Rattle.uefi_node_table.specs.declared.layouts.TheConstants.{ACPI_TYPE, EXPANDED, EXPANDED_CID, EXPANDED_HID, EXPANDED_ID_STRINGS, EXPANDED_LEAST, MESSAGING_TYPE, MESSAGING_VENDOR, MESSAGING_VENDOR_LEAST}
 use Rattle.uefi_device_nodes.specs.Nodes.{Node}
 use Rattle.uefi_device_nodes.specs.FileNodes.{is_file}
-use Rattle.uefi_device_nodes.specs.TypedNodes.{is_kind, number_at}
+use Rattle.uefi_device_nodes.specs.TypedNodes.{bytes_from, is_kind, number_at, number_in}
 
 -- the shorter text of a device that ACPI names by the string of its _UID alone
 abbrev pub expanded_text : List ℕ → List ℕ
-expanded_text content = concat (codes "AcpiExp(" ∷ eisa_text (number_at 0 4 content)
-    ∷ codes "," ∷ eisa_text (number_at 8 4 content)
-    ∷ codes "," ∷ shown_bytes (uid_string (drop 12 content)) ∷ codes ")" ∷ [])
+expanded_text content = concat (codes "AcpiExp(" ∷ eisa_text (number_in EXPANDED_HID content)
+    ∷ codes "," ∷ eisa_text (number_in EXPANDED_CID content)
+    ∷ codes "," ∷ shown_bytes (uid_string (bytes_from EXPANDED_ID_STRINGS content)) ∷ codes ")" ∷ [])
 
 -- the test for a node with that text, where such texts are wanted
 abbrev pub has_uid_text : Bool → Node → Bool
-has_uid_text shortcuts node = shortcuts && (is_kind 2 2 15 node && has_uid_alone (drop 12 node.content))
+has_uid_text shortcuts node = shortcuts && (is_kind ACPI_TYPE EXPANDED EXPANDED_LEAST node
+    && has_uid_alone (bytes_from EXPANDED_ID_STRINGS node.content))
 
 -- the shorter name of a vendor's node of messages without data, or nothing
 abbrev pub short_name : Node → List ℕ
-short_name node = if (node.device_type == 3) && ((node.sub_type == 10) && (length node.content == 16))
+short_name node = if (node.device_type == MESSAGING_TYPE)
+    && ((node.sub_type == MESSAGING_VENDOR) && (length node.content == MESSAGING_VENDOR_LEAST))
     then vendor_name (number_at 0 8 node.content) (number_at 8 8 node.content) else []
 
 -- a node of no kind: its type, its sub-type and its data

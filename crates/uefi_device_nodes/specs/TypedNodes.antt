@@ -1,6 +1,7 @@
 -- Nodes whose data have fields at fixed places.
-use Rattle.std.specs.Prelude.{◌≡◌, ℕ, ◌+◌, ◌≤◌, ◌==◌, ◌&&◌, nat_le, nat_lt, Bool, if◌then◌else◌, List, length, slice_range, Option, Some, None}
+use Rattle.std.specs.Prelude.{◌≡◌, ℕ, ◌+◌, ◌≤◌, ◌==◌, ◌&&◌, nat_le, nat_lt, Bool, if◌then◌else◌, List, drop, length, slice_range, Option, Some, None}
 use Rattle.uefi_text.specs.Packed.{little_endian}
+use Rattle.uefi_node_table.specs.declared.layouts.Field.{Field}
 use Rattle.uefi_device_nodes.specs.Nodes.{Node}
 use Rattle.uefi_device_nodes.specs.declared.errors.NodeConversionError.{NodeConversionError}
 use Rattle.uefi_device_nodes.specs.declared.errors.NodeConversionError.TheVariants.{DifferentType, InvalidLength}
@@ -26,3 +27,19 @@ kind_refusal kind sub_kind least node =
 -- the number that `size` bytes of data encode, from a place on, the low byte first
 abbrev pub number_at : ℕ → ℕ → List ℕ → ℕ
 number_at place size content = little_endian (slice_range content place (place + size))
+
+-- where a field ends
+abbrev pub end_of : Field → ℕ
+end_of field = field.place + field.width
+
+-- the number in a field of data
+abbrev pub number_in : Field → List ℕ → ℕ
+number_in field content = number_at field.place field.width content
+
+-- the bytes of a field of data
+abbrev pub bytes_in : Field → List ℕ → List ℕ
+bytes_in field content = slice_range content field.place (end_of field)
+
+-- the bytes of data from where a field begins
+abbrev pub bytes_from : Field → List ℕ → List ℕ
+bytes_from field content = drop field.place content

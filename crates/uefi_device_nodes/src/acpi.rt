@@ -3,13 +3,18 @@
 
 ghost use Rattle.std.specs.Prelude.{◌≡◌, ◌/◌, drop, length};
 ghost use Rattle.uefi_field_texts.specs.FieldTexts.{cid_string, hid_string, uid_string};
-ghost use Rattle.uefi_device_nodes.specs.TypedNodes.{number_at};
+ghost use Rattle.uefi_device_nodes.specs.TypedNodes.{bytes_from, bytes_in, end_of, number_in};
 ghost use Rattle.uefi_text.specs.Packed.{packed_items};
 ghost use Rattle.uefi_text.specs.Views.{items_of};
 ghost use Rattle.uefi_device_nodes.specs.NodeViews.{data_of};
 
 use crate::typed_node::TypedNode;
 use uefi_field_texts::ids::id_strings;
+use uefi_node_table::layouts::{
+    ACPI, ACPI_HID, ACPI_LEAST, ACPI_TYPE, ACPI_UID, ADR, ADR_ADR, ADR_LEAST, EXPANDED,
+    EXPANDED_CID, EXPANDED_HID, EXPANDED_ID_STRINGS, EXPANDED_LEAST, EXPANDED_UID, NVDIMM,
+    NVDIMM_LEAST, NVDIMM_NFIT_DEVICE_HANDLE,
+};
 use uefi_text::UnalignedSlice;
 
 /// A device that ACPI names by two numbers.
@@ -19,21 +24,21 @@ use uefi_text::UnalignedSlice;
 /// let root = acpi::Acpi::from_node(node)?;
 /// assert_eq!(rt; (root.hid(), root.uid()), (0x0a03_41d0, 1));
 /// ```
-pub type Acpi<'a> = TypedNode<'a, 2, 1, 8>;
+pub type Acpi<'a> = TypedNode<'a, ACPI_TYPE, ACPI, ACPI_LEAST>;
 
 impl<'a> Acpi<'a> {
     /// The number of its hardware ID, `_HID`.
     pub fn hid(&self) -> u32
-        ensures { result ≡ number_at 0 4 (data_of self.now) }
+        ensures { result ≡ number_in ACPI_HID (data_of self.now) }
     {
-        self.number(0)
+        self.number(ACPI_HID)
     }
 
     /// The number of its unique ID, `_UID`.
     pub fn uid(&self) -> u32
-        ensures { result ≡ number_at 4 4 (data_of self.now) }
+        ensures { result ≡ number_in ACPI_UID (data_of self.now) }
     {
-        self.number(4)
+        self.number(ACPI_UID)
     }
 }
 
@@ -47,54 +52,54 @@ impl<'a> Acpi<'a> {
 /// assert_eq!(rt; (device.uid_str(), device.cid_str()), (b"u".as_slice(), b"dev".as_slice()));
 /// assert!(rt; device.hid_str().is_empty() && device.id_strings().len() == 7);
 /// ```
-pub type Expanded<'a> = TypedNode<'a, 2, 2, 15>;
+pub type Expanded<'a> = TypedNode<'a, ACPI_TYPE, EXPANDED, EXPANDED_LEAST>;
 
 impl<'a> Expanded<'a> {
     /// The number of its hardware ID, `_HID`.
     pub fn hid(&self) -> u32
-        ensures { result ≡ number_at 0 4 (data_of self.now) }
+        ensures { result ≡ number_in EXPANDED_HID (data_of self.now) }
     {
-        self.number(0)
+        self.number(EXPANDED_HID)
     }
 
     /// The number of its unique ID, `_UID`.
     pub fn uid(&self) -> u32
-        ensures { result ≡ number_at 4 4 (data_of self.now) }
+        ensures { result ≡ number_in EXPANDED_UID (data_of self.now) }
     {
-        self.number(4)
+        self.number(EXPANDED_UID)
     }
 
     /// The number of its compatible ID, `_CID`.
     pub fn cid(&self) -> u32
-        ensures { result ≡ number_at 8 4 (data_of self.now) }
+        ensures { result ≡ number_in EXPANDED_CID (data_of self.now) }
     {
-        self.number(8)
+        self.number(EXPANDED_CID)
     }
 
     /// The three strings of its IDs, each up to a NUL: those of `_HID`, `_UID` and `_CID`.
     pub fn id_strings(&self) -> &'a [u8]
-        ensures { result.now ≡ drop 12 (data_of self.now) }
+        ensures { result.now ≡ bytes_from EXPANDED_ID_STRINGS (data_of self.now) }
     {
-        self.tail(12)
+        self.tail(EXPANDED_ID_STRINGS)
     }
 
     /// The string of `_HID`, without its NUL.
     pub fn hid_str(&self) -> &'a [u8]
-        ensures { result.now ≡ hid_string (drop 12 (data_of self.now)) }
+        ensures { result.now ≡ hid_string (bytes_from EXPANDED_ID_STRINGS (data_of self.now)) }
     {
         id_strings(self.id_strings()).hid
     }
 
     /// The string of `_UID`, without its NUL; empty where the data ends before it.
     pub fn uid_str(&self) -> &'a [u8]
-        ensures { result.now ≡ uid_string (drop 12 (data_of self.now)) }
+        ensures { result.now ≡ uid_string (bytes_from EXPANDED_ID_STRINGS (data_of self.now)) }
     {
         id_strings(self.id_strings()).uid
     }
 
     /// The string of `_CID`, without its NUL; empty where the data ends before it.
     pub fn cid_str(&self) -> &'a [u8]
-        ensures { result.now ≡ cid_string (drop 12 (data_of self.now)) }
+        ensures { result.now ≡ cid_string (bytes_from EXPANDED_ID_STRINGS (data_of self.now)) }
     {
         id_strings(self.id_strings()).cid
     }
@@ -108,15 +113,16 @@ impl<'a> Expanded<'a> {
 /// assert_eq!(rt; outputs.adr().len(), 2);
 /// assert_eq!(rt; outputs.adr().get(1), Some(0x8001_0300));
 /// ```
-pub type Adr<'a> = TypedNode<'a, 2, 3, 4>;
+pub type Adr<'a> = TypedNode<'a, ACPI_TYPE, ADR, ADR_LEAST>;
 
 impl<'a> Adr<'a> {
     /// The `_ADR` values of the outputs, one or more. Bytes after the last whole one are left out.
     pub fn adr(&self) -> UnalignedSlice<'a, u32>
-        ensures { items_of result ≡ packed_items 4 (length (data_of self.now) / 4) (data_of self.now) }
+        ensures { items_of result
+            ≡ packed_items ADR_ADR.width (length (data_of self.now) / ADR_ADR.width) (data_of self.now) }
     {
         let values = self.data();
-        UnalignedSlice::new(values, values.len() / 4)
+        UnalignedSlice::new(values, values.len() / ADR_ADR.width)
     }
 }
 
@@ -127,13 +133,13 @@ impl<'a> Adr<'a> {
 /// let module = acpi::Nvdimm::from_node(node)?;
 /// assert_eq!(rt; module.nfit_device_handle(), 0x21);
 /// ```
-pub type Nvdimm<'a> = TypedNode<'a, 2, 4, 4>;
+pub type Nvdimm<'a> = TypedNode<'a, ACPI_TYPE, NVDIMM, NVDIMM_LEAST>;
 
 impl<'a> Nvdimm<'a> {
     /// The handle of the module in the table NFIT.
     pub fn nfit_device_handle(&self) -> u32
-        ensures { result ≡ number_at 0 4 (data_of self.now) }
+        ensures { result ≡ number_in NVDIMM_NFIT_DEVICE_HANDLE (data_of self.now) }
     {
-        self.number(0)
+        self.number(NVDIMM_NFIT_DEVICE_HANDLE)
     }
 }

@@ -2,10 +2,14 @@
 #![tactic(auto)]
 
 ghost use Rattle.std.specs.Prelude.{◌≡◌, drop};
-ghost use Rattle.uefi_device_nodes.specs.TypedNodes.{number_at};
+ghost use Rattle.uefi_device_nodes.specs.TypedNodes.{bytes_from, bytes_in, end_of, number_in};
 ghost use Rattle.uefi_device_nodes.specs.NodeViews.{data_of};
 
 use crate::typed_node::TypedNode;
+use uefi_node_table::layouts::{
+    BIOS_BOOT_SPEC_TYPE, BOOT_SPECIFICATION, BOOT_SPECIFICATION_DESCRIPTION_STRING,
+    BOOT_SPECIFICATION_DEVICE_TYPE, BOOT_SPECIFICATION_LEAST, BOOT_SPECIFICATION_STATUS_FLAG,
+};
 
 /// A device that a legacy BIOS can boot.
 ///
@@ -15,27 +19,32 @@ use crate::typed_node::TypedNode;
 /// assert_eq!(rt; (device.device_type(), device.status_flag()), (2, 0x1f));
 /// assert_eq!(rt; device.description_string(), b"SATA\0".as_slice());
 /// ```
-pub type BootSpecification<'a> = TypedNode<'a, 5, 1, 5>;
+pub type BootSpecification<'a> = TypedNode<
+    'a,
+    BIOS_BOOT_SPEC_TYPE,
+    BOOT_SPECIFICATION,
+    BOOT_SPECIFICATION_LEAST,
+>;
 
 impl<'a> BootSpecification<'a> {
     /// The type of the device, by the BIOS Boot Specification.
     pub fn device_type(&self) -> u16
-        ensures { result ≡ number_at 0 2 (data_of self.now) }
+        ensures { result ≡ number_in BOOT_SPECIFICATION_DEVICE_TYPE (data_of self.now) }
     {
-        self.number(0)
+        self.number(BOOT_SPECIFICATION_DEVICE_TYPE)
     }
 
     /// Its flags, by the BIOS Boot Specification.
     pub fn status_flag(&self) -> u16
-        ensures { result ≡ number_at 2 2 (data_of self.now) }
+        ensures { result ≡ number_in BOOT_SPECIFICATION_STATUS_FLAG (data_of self.now) }
     {
-        self.number(2)
+        self.number(BOOT_SPECIFICATION_STATUS_FLAG)
     }
 
     /// The bytes of its description, with their NUL.
     pub fn description_string(&self) -> &'a [u8]
-        ensures { result.now ≡ drop 4 (data_of self.now) }
+        ensures { result.now ≡ bytes_from BOOT_SPECIFICATION_DESCRIPTION_STRING (data_of self.now) }
     {
-        self.tail(4)
+        self.tail(BOOT_SPECIFICATION_DESCRIPTION_STRING)
     }
 }

@@ -2,11 +2,19 @@
 #![tactic(auto)]
 
 ghost use Rattle.std.specs.Prelude.{◌≡◌, drop, slice_range};
-ghost use Rattle.uefi_device_nodes.specs.TypedNodes.{number_at};
+ghost use Rattle.uefi_device_nodes.specs.TypedNodes.{bytes_from, bytes_in, end_of, number_in};
 ghost use Rattle.uefi_device_nodes.specs.NodeViews.{data_of};
 
 use crate::typed_node::TypedNode;
 use uefi_field_texts::guid::Guid;
+use uefi_node_table::layouts::{
+    BMC, BMC_BASE_ADDRESS, BMC_INTERFACE_TYPE, BMC_LEAST, CONTROLLER, CONTROLLER_CONTROLLER_NUMBER,
+    CONTROLLER_LEAST, HARDWARE_TYPE, HARDWARE_VENDOR, HARDWARE_VENDOR_LEAST,
+    HARDWARE_VENDOR_VENDOR_DEFINED_DATA, HARDWARE_VENDOR_VENDOR_GUID, MEMORY_MAPPED,
+    MEMORY_MAPPED_ENDING_ADDRESS, MEMORY_MAPPED_LEAST, MEMORY_MAPPED_MEMORY_TYPE,
+    MEMORY_MAPPED_STARTING_ADDRESS, PCCARD, PCCARD_FUNCTION, PCCARD_LEAST, PCI, PCI_DEVICE,
+    PCI_FUNCTION, PCI_LEAST,
+};
 
 /// A device on a PCI bus.
 ///
@@ -15,21 +23,21 @@ use uefi_field_texts::guid::Guid;
 /// let pci = hardware::Pci::from_node(node)?;
 /// assert_eq!(rt; (pci.device(), pci.function()), (0x1f, 2));
 /// ```
-pub type Pci<'a> = TypedNode<'a, 1, 1, 2>;
+pub type Pci<'a> = TypedNode<'a, HARDWARE_TYPE, PCI, PCI_LEAST>;
 
 impl<'a> Pci<'a> {
     /// The number of the function.
     pub fn function(&self) -> u8
-        ensures { result ≡ number_at 0 1 (data_of self.now) }
+        ensures { result ≡ number_in PCI_FUNCTION (data_of self.now) }
     {
-        self.number(0)
+        self.number(PCI_FUNCTION)
     }
 
     /// The number of the device on its bus.
     pub fn device(&self) -> u8
-        ensures { result ≡ number_at 1 1 (data_of self.now) }
+        ensures { result ≡ number_in PCI_DEVICE (data_of self.now) }
     {
-        self.number(1)
+        self.number(PCI_DEVICE)
     }
 }
 
@@ -40,14 +48,14 @@ impl<'a> Pci<'a> {
 /// let card = hardware::Pccard::from_node(node)?;
 /// assert_eq!(rt; card.function(), 1);
 /// ```
-pub type Pccard<'a> = TypedNode<'a, 1, 2, 1>;
+pub type Pccard<'a> = TypedNode<'a, HARDWARE_TYPE, PCCARD, PCCARD_LEAST>;
 
 impl<'a> Pccard<'a> {
     /// The number of the function, from 0 on.
     pub fn function(&self) -> u8
-        ensures { result ≡ number_at 0 1 (data_of self.now) }
+        ensures { result ≡ number_in PCCARD_FUNCTION (data_of self.now) }
     {
-        self.number(0)
+        self.number(PCCARD_FUNCTION)
     }
 }
 
@@ -61,28 +69,28 @@ impl<'a> Pccard<'a> {
 /// assert_eq!(rt; memory.starting_address(), 0x8000_0000);
 /// assert_eq!(rt; memory.ending_address(), 0x8000_ffff);
 /// ```
-pub type MemoryMapped<'a> = TypedNode<'a, 1, 3, 20>;
+pub type MemoryMapped<'a> = TypedNode<'a, HARDWARE_TYPE, MEMORY_MAPPED, MEMORY_MAPPED_LEAST>;
 
 impl<'a> MemoryMapped<'a> {
     /// The type of the memory, as in the memory map of the firmware.
     pub fn memory_type(&self) -> u32
-        ensures { result ≡ number_at 0 4 (data_of self.now) }
+        ensures { result ≡ number_in MEMORY_MAPPED_MEMORY_TYPE (data_of self.now) }
     {
-        self.number(0)
+        self.number(MEMORY_MAPPED_MEMORY_TYPE)
     }
 
     /// The address of its first byte.
     pub fn starting_address(&self) -> u64
-        ensures { result ≡ number_at 4 8 (data_of self.now) }
+        ensures { result ≡ number_in MEMORY_MAPPED_STARTING_ADDRESS (data_of self.now) }
     {
-        self.number(4)
+        self.number(MEMORY_MAPPED_STARTING_ADDRESS)
     }
 
     /// The address of its last byte.
     pub fn ending_address(&self) -> u64
-        ensures { result ≡ number_at 12 8 (data_of self.now) }
+        ensures { result ≡ number_in MEMORY_MAPPED_ENDING_ADDRESS (data_of self.now) }
     {
-        self.number(12)
+        self.number(MEMORY_MAPPED_ENDING_ADDRESS)
     }
 }
 
@@ -94,7 +102,7 @@ impl<'a> MemoryMapped<'a> {
 /// assert_eq!(rt; vendor.vendor_guid(), Guid::from_bytes(*b"abcdefghijklmnop"));
 /// assert_eq!(rt; vendor.vendor_defined_data(), [1, 2].as_slice());
 /// ```
-pub type HardwareVendor<'a> = TypedNode<'a, 1, 4, 16>;
+pub type HardwareVendor<'a> = TypedNode<'a, HARDWARE_TYPE, HARDWARE_VENDOR, HARDWARE_VENDOR_LEAST>;
 
 /// The same, as the Rust crate `uefi` names it.
 pub type Vendor<'a> = HardwareVendor<'a>;
@@ -102,16 +110,16 @@ pub type Vendor<'a> = HardwareVendor<'a>;
 impl<'a> HardwareVendor<'a> {
     /// The GUID that names the vendor.
     pub fn vendor_guid(&self) -> Guid
-        ensures { result ≡ slice_range (data_of self.now) 0 16 }
+        ensures { result ≡ bytes_in HARDWARE_VENDOR_VENDOR_GUID (data_of self.now) }
     {
-        self.guid_at(0)
+        self.guid_in(HARDWARE_VENDOR_VENDOR_GUID)
     }
 
     /// The data that the vendor defines.
     pub fn vendor_defined_data(&self) -> &'a [u8]
-        ensures { result.now ≡ drop 16 (data_of self.now) }
+        ensures { result.now ≡ bytes_from HARDWARE_VENDOR_VENDOR_DEFINED_DATA (data_of self.now) }
     {
-        self.tail(16)
+        self.tail(HARDWARE_VENDOR_VENDOR_DEFINED_DATA)
     }
 }
 
@@ -122,14 +130,14 @@ impl<'a> HardwareVendor<'a> {
 /// let controller = hardware::Controller::from_node(node)?;
 /// assert_eq!(rt; controller.controller_number(), 0x12a);
 /// ```
-pub type Controller<'a> = TypedNode<'a, 1, 5, 4>;
+pub type Controller<'a> = TypedNode<'a, HARDWARE_TYPE, CONTROLLER, CONTROLLER_LEAST>;
 
 impl<'a> Controller<'a> {
     /// The number of the controller.
     pub fn controller_number(&self) -> u32
-        ensures { result ≡ number_at 0 4 (data_of self.now) }
+        ensures { result ≡ number_in CONTROLLER_CONTROLLER_NUMBER (data_of self.now) }
     {
-        self.number(0)
+        self.number(CONTROLLER_CONTROLLER_NUMBER)
     }
 }
 
@@ -140,20 +148,20 @@ impl<'a> Controller<'a> {
 /// let bmc = hardware::Bmc::from_node(node)?;
 /// assert_eq!(rt; (bmc.interface_type(), bmc.base_address()), (1, 0xca3));
 /// ```
-pub type Bmc<'a> = TypedNode<'a, 1, 6, 9>;
+pub type Bmc<'a> = TypedNode<'a, HARDWARE_TYPE, BMC, BMC_LEAST>;
 
 impl<'a> Bmc<'a> {
     /// The type of the interface: 0 unknown, 1 KCS, 2 SMIC, 3 BT.
     pub fn interface_type(&self) -> u8
-        ensures { result ≡ number_at 0 1 (data_of self.now) }
+        ensures { result ≡ number_in BMC_INTERFACE_TYPE (data_of self.now) }
     {
-        self.number(0)
+        self.number(BMC_INTERFACE_TYPE)
     }
 
     /// The base address of the interface; its lowest bit is set for I/O ports, and clear for memory.
     pub fn base_address(&self) -> u64
-        ensures { result ≡ number_at 1 8 (data_of self.now) }
+        ensures { result ≡ number_in BMC_BASE_ADDRESS (data_of self.now) }
     {
-        self.number(1)
+        self.number(BMC_BASE_ADDRESS)
     }
 }

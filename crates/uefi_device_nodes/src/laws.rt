@@ -1,10 +1,19 @@
-//! Laws of what is printed of nodes.
+//! Laws of what is printed of nodes, and of nodes that are built.
 #![tactic(auto)]
 
+ghost use Rattle.std.specs.Prelude.{◌≡◌, ◌+◌, drop, length};
+ghost use Rattle.uefi_device_nodes.specs.FileNodes.{IsFilePath};
+ghost use Rattle.uefi_device_nodes.specs.NodeFields.{HasValues, content_of};
+ghost use Rattle.uefi_device_nodes.specs.Nodes.{node_with};
 ghost use Rattle.uefi_device_nodes.specs.ShownNodes.{NodesShown};
+ghost use Rattle.uefi_device_nodes.specs.TypedNodes.{IsOfKind};
+ghost use Rattle.uefi_text.specs.UnitBytes.{unit_bytes, units_of_bytes};
 
+use crate::fields::Fields;
+use crate::typed_node::Kind;
 use uefi_field_texts::laws::fields_are_shown;
 use uefi_node_table::laws::table_is_shown;
+use uefi_node_table::layouts::{FILE_PATH, MEDIA_TYPE};
 
 /// No text of a node holds a character that texts escape.
 pub fn nodes_are_shown()
@@ -13,3 +22,25 @@ pub fn nodes_are_shown()
     fields_are_shown();
     table_is_shown();
 }
+
+/// A view of a built node has each of its fields, and what follows them: for all kinds.
+pub fn view_of_built<T: Fields>(node: &T)
+    ensures of_kind { IsOfKind T.Layout.DEVICE_TYPE T.Layout.SUB_TYPE T.Layout.LEAST
+        (node_with T.Layout.DEVICE_TYPE T.Layout.SUB_TYPE
+        (content_of T.Layout.LEAST (T.fields node.now) (T.after node.now))) }
+    ensures length { length (content_of T.Layout.LEAST (T.fields node.now) (T.after node.now))
+        ≡ T.Layout.LEAST + length (T.after node.now) }
+    ensures fields { HasValues (content_of T.Layout.LEAST (T.fields node.now) (T.after node.now))
+        (T.fields node.now) }
+    ensures after { drop T.Layout.LEAST (content_of T.Layout.LEAST (T.fields node.now)
+        (T.after node.now)) ≡ T.after node.now }
+{
+    let _tail = (*node).tail();
+}
+
+/// Code units that are written to bytes are read from them, and the bytes are whole units: for the name of a
+/// file and a serial number.
+pub fn units_in_bytes(units: &[u16])
+    ensures read { units_of_bytes (unit_bytes units.now) ≡ units.now }
+    ensures file { IsFilePath (node_with MEDIA_TYPE FILE_PATH (unit_bytes units.now)) }
+{}

@@ -5,7 +5,7 @@ ghost use Rattle.std.specs.Prelude.{◌≡◌, ◌==◌, ◌↔◌, IfOk, IsOk, 
 ghost use Rattle.std.specs.Result.{result_err};
 ghost use Rattle.uefi_device_nodes.specs.Nodes.{first_node};
 ghost use Rattle.uefi_device_nodes.specs.FileNodes.{IsFilePath, file_path_refusal};
-ghost use Rattle.uefi_device_nodes.specs.TypedNodes.{number_at};
+ghost use Rattle.uefi_device_nodes.specs.TypedNodes.{bytes_from, bytes_in, end_of, number_in};
 ghost use Rattle.uefi_text.specs.UnitBytes.{unit_bytes, units_of_bytes};
 ghost use Rattle.uefi_text.specs.Views.{items_of};
 
@@ -13,6 +13,18 @@ use crate::errors::NodeConversionError;
 use crate::node::{DevicePathNode, DeviceSubType, DeviceType};
 use crate::typed_node::TypedNode;
 use uefi_field_texts::guid::Guid;
+use uefi_node_table::layouts::{
+    CD_ROM, CD_ROM_BOOT_ENTRY, CD_ROM_LEAST, CD_ROM_PARTITION_SIZE, CD_ROM_PARTITION_START,
+    FIRMWARE_FILE, FIRMWARE_FILE_FILE_NAME, FIRMWARE_FILE_LEAST, FIRMWARE_VOLUME,
+    FIRMWARE_VOLUME_LEAST, FIRMWARE_VOLUME_VOLUME_NAME, HARD_DRIVE, HARD_DRIVE_LEAST,
+    HARD_DRIVE_PARTITION_FORMAT, HARD_DRIVE_PARTITION_NUMBER, HARD_DRIVE_PARTITION_SIGNATURE,
+    HARD_DRIVE_PARTITION_SIZE, HARD_DRIVE_PARTITION_START, HARD_DRIVE_SIGNATURE_TYPE, MEDIA_TYPE,
+    MEDIA_VENDOR, MEDIA_VENDOR_LEAST, MEDIA_VENDOR_VENDOR_DEFINED_DATA, MEDIA_VENDOR_VENDOR_GUID,
+    PROTOCOL, PROTOCOL_LEAST, PROTOCOL_PROTOCOL_GUID, RAM_DISK, RAM_DISK_DISK_INSTANCE,
+    RAM_DISK_DISK_TYPE, RAM_DISK_ENDING_ADDRESS, RAM_DISK_LEAST, RAM_DISK_STARTING_ADDRESS,
+    RELATIVE_OFFSET_RANGE, RELATIVE_OFFSET_RANGE_ENDING_OFFSET, RELATIVE_OFFSET_RANGE_LEAST,
+    RELATIVE_OFFSET_RANGE_STARTING_OFFSET,
+};
 use uefi_text::UnalignedSlice;
 
 /// A node that names a file. A contract sees it as `file_node` of it: the node.
@@ -93,51 +105,51 @@ impl<'a> TryFrom<DevicePathNode<'a>> for FilePath<'a> {
 /// assert_eq!(rt; (disk.partition_size(), disk.partition_format(), disk.signature_type()), (4096, 2, 2));
 /// assert_eq!(rt; disk.partition_signature(), *b"abcdefghijklmnop");
 /// ```
-pub type HardDrive<'a> = TypedNode<'a, 4, 1, 38>;
+pub type HardDrive<'a> = TypedNode<'a, MEDIA_TYPE, HARD_DRIVE, HARD_DRIVE_LEAST>;
 
 impl<'a> HardDrive<'a> {
     ghost use Rattle.uefi_device_nodes.specs.NodeViews.{data_of};
 
     /// The number of the partition, from 1 on; 0 is the whole drive.
     pub fn partition_number(&self) -> u32
-        ensures { result ≡ number_at 0 4 (data_of self.now) }
+        ensures { result ≡ number_in HARD_DRIVE_PARTITION_NUMBER (data_of self.now) }
     {
-        self.number(0)
+        self.number(HARD_DRIVE_PARTITION_NUMBER)
     }
 
     /// The first block of the partition.
     pub fn partition_start(&self) -> u64
-        ensures { result ≡ number_at 4 8 (data_of self.now) }
+        ensures { result ≡ number_in HARD_DRIVE_PARTITION_START (data_of self.now) }
     {
-        self.number(4)
+        self.number(HARD_DRIVE_PARTITION_START)
     }
 
     /// How many blocks it has.
     pub fn partition_size(&self) -> u64
-        ensures { result ≡ number_at 12 8 (data_of self.now) }
+        ensures { result ≡ number_in HARD_DRIVE_PARTITION_SIZE (data_of self.now) }
     {
-        self.number(12)
+        self.number(HARD_DRIVE_PARTITION_SIZE)
     }
 
     /// Its signature, of the type that [`HardDrive::signature_type`] says.
     pub fn partition_signature(&self) -> [u8; 16]
-        ensures { result ≡ slice_range (data_of self.now) 20 36 }
+        ensures { result ≡ bytes_in HARD_DRIVE_PARTITION_SIGNATURE (data_of self.now) }
     {
-        self.bytes(20)
+        self.bytes(HARD_DRIVE_PARTITION_SIGNATURE)
     }
 
     /// The format of the table: 1 is MBR, 2 is GPT.
     pub fn partition_format(&self) -> u8
-        ensures { result ≡ number_at 36 1 (data_of self.now) }
+        ensures { result ≡ number_in HARD_DRIVE_PARTITION_FORMAT (data_of self.now) }
     {
-        self.number(36)
+        self.number(HARD_DRIVE_PARTITION_FORMAT)
     }
 
     /// The type of the signature: 0 is none, 1 is that of an MBR, 2 is a GUID.
     pub fn signature_type(&self) -> u8
-        ensures { result ≡ number_at 37 1 (data_of self.now) }
+        ensures { result ≡ number_in HARD_DRIVE_SIGNATURE_TYPE (data_of self.now) }
     {
-        self.number(37)
+        self.number(HARD_DRIVE_SIGNATURE_TYPE)
     }
 
     /// Returns the GUID that names the partition, which is its signature if
@@ -152,8 +164,8 @@ impl<'a> HardDrive<'a> {
     /// assert_eq!(rt; guid, Some(Guid::from_bytes([7; 16])));
     /// ```
     pub fn partition_guid(&self) -> Option<Guid>
-        ensures { result ≡ (if number_at 37 1 (data_of self.now) == 2
-            then Some (slice_range (data_of self.now) 20 36) else None) }
+        ensures { result ≡ (if number_in HARD_DRIVE_SIGNATURE_TYPE (data_of self.now) == 2
+            then Some (bytes_in HARD_DRIVE_PARTITION_SIGNATURE (data_of self.now)) else None) }
     {
         if self.signature_type() == 2 {
             Some(Guid::from_bytes(self.partition_signature()))
@@ -172,30 +184,30 @@ impl<'a> HardDrive<'a> {
 /// assert_eq!(rt; disc.boot_entry(), 1);
 /// assert_eq!(rt; (disc.partition_start(), disc.partition_size()), (0x2d, 0x800));
 /// ```
-pub type CdRom<'a> = TypedNode<'a, 4, 2, 20>;
+pub type CdRom<'a> = TypedNode<'a, MEDIA_TYPE, CD_ROM, CD_ROM_LEAST>;
 
 impl<'a> CdRom<'a> {
     ghost use Rattle.uefi_device_nodes.specs.NodeViews.{data_of};
 
     /// The number of the entry in the boot catalog.
     pub fn boot_entry(&self) -> u32
-        ensures { result ≡ number_at 0 4 (data_of self.now) }
+        ensures { result ≡ number_in CD_ROM_BOOT_ENTRY (data_of self.now) }
     {
-        self.number(0)
+        self.number(CD_ROM_BOOT_ENTRY)
     }
 
     /// The first block.
     pub fn partition_start(&self) -> u64
-        ensures { result ≡ number_at 4 8 (data_of self.now) }
+        ensures { result ≡ number_in CD_ROM_PARTITION_START (data_of self.now) }
     {
-        self.number(4)
+        self.number(CD_ROM_PARTITION_START)
     }
 
     /// How many blocks it has.
     pub fn partition_size(&self) -> u64
-        ensures { result ≡ number_at 12 8 (data_of self.now) }
+        ensures { result ≡ number_in CD_ROM_PARTITION_SIZE (data_of self.now) }
     {
-        self.number(12)
+        self.number(CD_ROM_PARTITION_SIZE)
     }
 }
 
@@ -207,7 +219,7 @@ impl<'a> CdRom<'a> {
 /// assert_eq!(rt; vendor.vendor_guid(), Guid::from_bytes(*b"abcdefghijklmnop"));
 /// assert_eq!(rt; vendor.vendor_defined_data(), [1, 2].as_slice());
 /// ```
-pub type MediaVendor<'a> = TypedNode<'a, 4, 3, 16>;
+pub type MediaVendor<'a> = TypedNode<'a, MEDIA_TYPE, MEDIA_VENDOR, MEDIA_VENDOR_LEAST>;
 
 /// The same, as the Rust crate `uefi` names it.
 pub type Vendor<'a> = MediaVendor<'a>;
@@ -217,16 +229,16 @@ impl<'a> MediaVendor<'a> {
 
     /// The GUID that names the vendor.
     pub fn vendor_guid(&self) -> Guid
-        ensures { result ≡ slice_range (data_of self.now) 0 16 }
+        ensures { result ≡ bytes_in MEDIA_VENDOR_VENDOR_GUID (data_of self.now) }
     {
-        self.guid_at(0)
+        self.guid_in(MEDIA_VENDOR_VENDOR_GUID)
     }
 
     /// The data that the vendor defines.
     pub fn vendor_defined_data(&self) -> &'a [u8]
-        ensures { result.now ≡ drop 16 (data_of self.now) }
+        ensures { result.now ≡ bytes_from MEDIA_VENDOR_VENDOR_DEFINED_DATA (data_of self.now) }
     {
-        self.tail(16)
+        self.tail(MEDIA_VENDOR_VENDOR_DEFINED_DATA)
     }
 }
 
@@ -237,16 +249,16 @@ impl<'a> MediaVendor<'a> {
 /// let protocol = media::Protocol::from_node(node)?;
 /// assert_eq!(rt; protocol.protocol_guid(), Guid::from_bytes(*b"abcdefghijklmnop"));
 /// ```
-pub type Protocol<'a> = TypedNode<'a, 4, 5, 16>;
+pub type Protocol<'a> = TypedNode<'a, MEDIA_TYPE, PROTOCOL, PROTOCOL_LEAST>;
 
 impl<'a> Protocol<'a> {
     ghost use Rattle.uefi_device_nodes.specs.NodeViews.{data_of};
 
     /// The GUID that names the protocol.
     pub fn protocol_guid(&self) -> Guid
-        ensures { result ≡ slice_range (data_of self.now) 0 16 }
+        ensures { result ≡ bytes_in PROTOCOL_PROTOCOL_GUID (data_of self.now) }
     {
-        self.guid_at(0)
+        self.guid_in(PROTOCOL_PROTOCOL_GUID)
     }
 }
 
@@ -257,7 +269,7 @@ impl<'a> Protocol<'a> {
 /// let file = media::FirmwareFile::from_node(node)?;
 /// assert_eq!(rt; file.file_name(), Guid::from_bytes(*b"abcdefghijklmnop"));
 /// ```
-pub type FirmwareFile<'a> = TypedNode<'a, 4, 6, 16>;
+pub type FirmwareFile<'a> = TypedNode<'a, MEDIA_TYPE, FIRMWARE_FILE, FIRMWARE_FILE_LEAST>;
 
 /// The same, as the Rust crate `uefi` names it.
 pub type PiwgFirmwareFile<'a> = FirmwareFile<'a>;
@@ -267,9 +279,9 @@ impl<'a> FirmwareFile<'a> {
 
     /// The GUID that names the file.
     pub fn file_name(&self) -> Guid
-        ensures { result ≡ slice_range (data_of self.now) 0 16 }
+        ensures { result ≡ bytes_in FIRMWARE_FILE_FILE_NAME (data_of self.now) }
     {
-        self.guid_at(0)
+        self.guid_in(FIRMWARE_FILE_FILE_NAME)
     }
 }
 
@@ -280,7 +292,7 @@ impl<'a> FirmwareFile<'a> {
 /// let volume = media::FirmwareVolume::from_node(node)?;
 /// assert_eq!(rt; volume.volume_name(), Guid::from_bytes(*b"abcdefghijklmnop"));
 /// ```
-pub type FirmwareVolume<'a> = TypedNode<'a, 4, 7, 16>;
+pub type FirmwareVolume<'a> = TypedNode<'a, MEDIA_TYPE, FIRMWARE_VOLUME, FIRMWARE_VOLUME_LEAST>;
 
 /// The same, as the Rust crate `uefi` names it.
 pub type PiwgFirmwareVolume<'a> = FirmwareVolume<'a>;
@@ -290,9 +302,9 @@ impl<'a> FirmwareVolume<'a> {
 
     /// The GUID that names the volume.
     pub fn volume_name(&self) -> Guid
-        ensures { result ≡ slice_range (data_of self.now) 0 16 }
+        ensures { result ≡ bytes_in FIRMWARE_VOLUME_VOLUME_NAME (data_of self.now) }
     {
-        self.guid_at(0)
+        self.guid_in(FIRMWARE_VOLUME_VOLUME_NAME)
     }
 }
 
@@ -304,23 +316,28 @@ impl<'a> FirmwareVolume<'a> {
 /// let range = media::RelativeOffsetRange::from_node(node)?;
 /// assert_eq!(rt; (range.starting_offset(), range.ending_offset()), (0x200, 0x3ff));
 /// ```
-pub type RelativeOffsetRange<'a> = TypedNode<'a, 4, 8, 20>;
+pub type RelativeOffsetRange<'a> = TypedNode<
+    'a,
+    MEDIA_TYPE,
+    RELATIVE_OFFSET_RANGE,
+    RELATIVE_OFFSET_RANGE_LEAST,
+>;
 
 impl<'a> RelativeOffsetRange<'a> {
     ghost use Rattle.uefi_device_nodes.specs.NodeViews.{data_of};
 
     /// Where its first byte lies.
     pub fn starting_offset(&self) -> u64
-        ensures { result ≡ number_at 4 8 (data_of self.now) }
+        ensures { result ≡ number_in RELATIVE_OFFSET_RANGE_STARTING_OFFSET (data_of self.now) }
     {
-        self.number(4)
+        self.number(RELATIVE_OFFSET_RANGE_STARTING_OFFSET)
     }
 
     /// Where its last byte lies.
     pub fn ending_offset(&self) -> u64
-        ensures { result ≡ number_at 12 8 (data_of self.now) }
+        ensures { result ≡ number_in RELATIVE_OFFSET_RANGE_ENDING_OFFSET (data_of self.now) }
     {
-        self.number(12)
+        self.number(RELATIVE_OFFSET_RANGE_ENDING_OFFSET)
     }
 }
 
@@ -333,36 +350,36 @@ impl<'a> RelativeOffsetRange<'a> {
 /// assert_eq!(rt; (disk.starting_address(), disk.ending_address()), (0x10_0000, 0x1f_ffff));
 /// assert_eq!(rt; (disk.disk_type(), disk.disk_instance()), (Guid::from_bytes(*b"abcdefghijklmnop"), 1));
 /// ```
-pub type RamDisk<'a> = TypedNode<'a, 4, 9, 34>;
+pub type RamDisk<'a> = TypedNode<'a, MEDIA_TYPE, RAM_DISK, RAM_DISK_LEAST>;
 
 impl<'a> RamDisk<'a> {
     ghost use Rattle.uefi_device_nodes.specs.NodeViews.{data_of};
 
     /// The address of its first byte.
     pub fn starting_address(&self) -> u64
-        ensures { result ≡ number_at 0 8 (data_of self.now) }
+        ensures { result ≡ number_in RAM_DISK_STARTING_ADDRESS (data_of self.now) }
     {
-        self.number(0)
+        self.number(RAM_DISK_STARTING_ADDRESS)
     }
 
     /// The address of its last byte.
     pub fn ending_address(&self) -> u64
-        ensures { result ≡ number_at 8 8 (data_of self.now) }
+        ensures { result ≡ number_in RAM_DISK_ENDING_ADDRESS (data_of self.now) }
     {
-        self.number(8)
+        self.number(RAM_DISK_ENDING_ADDRESS)
     }
 
     /// The GUID of its type.
     pub fn disk_type(&self) -> Guid
-        ensures { result ≡ slice_range (data_of self.now) 16 32 }
+        ensures { result ≡ bytes_in RAM_DISK_DISK_TYPE (data_of self.now) }
     {
-        self.guid_at(16)
+        self.guid_in(RAM_DISK_DISK_TYPE)
     }
 
     /// The number of the disk.
     pub fn disk_instance(&self) -> u16
-        ensures { result ≡ number_at 32 2 (data_of self.now) }
+        ensures { result ≡ number_in RAM_DISK_DISK_INSTANCE (data_of self.now) }
     {
-        self.number(32)
+        self.number(RAM_DISK_DISK_INSTANCE)
     }
 }

@@ -2,7 +2,7 @@
 #![tactic(auto)]
 
 ghost use Rattle.std.specs.Prelude.{◌≡◌, ◌%◌, ◌↔◌, IfSome, IsSome, drop, length, slice_range};
-ghost use Rattle.uefi_device_nodes.specs.TypedNodes.{number_at};
+ghost use Rattle.uefi_device_nodes.specs.TypedNodes.{bytes_from, bytes_in, end_of, number_in};
 ghost use Rattle.uefi_text.specs.UnitBytes.{units_of_bytes};
 ghost use Rattle.uefi_text.specs.Views.{items_of};
 ghost use Rattle.uefi_device_nodes.specs.NodeViews.{data_of};
@@ -13,6 +13,27 @@ pub use crate::network::{
 };
 use crate::typed_node::TypedNode;
 use uefi_field_texts::guid::Guid;
+use uefi_node_table::layouts::{
+    ATAPI, ATAPI_LEAST, ATAPI_LOGICAL_UNIT_NUMBER, ATAPI_MASTER_SLAVE, ATAPI_PRIMARY_SECONDARY,
+    DEVICE_LOGICAL_UNIT, DEVICE_LOGICAL_UNIT_LEAST, DEVICE_LOGICAL_UNIT_LOGICAL_UNIT_NUMBER, EMMC,
+    EMMC_LEAST, EMMC_SLOT_NUMBER, FIBRE_CHANNEL, FIBRE_CHANNEL_EX, FIBRE_CHANNEL_EX_LEAST,
+    FIBRE_CHANNEL_EX_LOGICAL_UNIT_NUMBER, FIBRE_CHANNEL_EX_WORLD_WIDE_NAME, FIBRE_CHANNEL_LEAST,
+    FIBRE_CHANNEL_LOGICAL_UNIT_NUMBER, FIBRE_CHANNEL_WORLD_WIDE_NAME, I2O, I2O_LEAST,
+    I2O_TARGET_ID, IEEE1394, IEEE1394_GUID, IEEE1394_LEAST, MESSAGING_TYPE, MESSAGING_VENDOR,
+    MESSAGING_VENDOR_LEAST, MESSAGING_VENDOR_VENDOR_DEFINED_DATA, MESSAGING_VENDOR_VENDOR_GUID,
+    NVDIMM_NAMESPACE, NVDIMM_NAMESPACE_LEAST, NVDIMM_NAMESPACE_UUID, NVME_NAMESPACE,
+    NVME_NAMESPACE_IEEE_EXTENDED_UNIQUE_IDENTIFIER, NVME_NAMESPACE_LEAST,
+    NVME_NAMESPACE_NAMESPACE_IDENTIFIER, SAS_EX, SAS_EX_INFO, SAS_EX_LEAST,
+    SAS_EX_LOGICAL_UNIT_NUMBER, SAS_EX_RELATIVE_TARGET_PORT, SAS_EX_SAS_ADDRESS, SATA,
+    SATA_HBA_PORT_NUMBER, SATA_LEAST, SATA_LOGICAL_UNIT_NUMBER, SATA_PORT_MULTIPLIER_PORT_NUMBER,
+    SCSI, SCSI_LEAST, SCSI_LOGICAL_UNIT_NUMBER, SCSI_TARGET_ID, SD, SD_LEAST, SD_SLOT_NUMBER, UART,
+    UART_BAUD_RATE, UART_DATA_BITS, UART_LEAST, UART_PARITY, UART_STOP_BITS, UFS, UFS_LEAST,
+    UFS_LOGICAL_UNIT_NUMBER, UFS_TARGET_ID, USB, USB_CLASS, USB_CLASS_DEVICE_CLASS,
+    USB_CLASS_DEVICE_PROTOCOL, USB_CLASS_DEVICE_SUBCLASS, USB_CLASS_LEAST, USB_CLASS_PRODUCT_ID,
+    USB_CLASS_VENDOR_ID, USB_INTERFACE, USB_LEAST, USB_PARENT_PORT_NUMBER, USB_WWID,
+    USB_WWID_DEVICE_PRODUCT_ID, USB_WWID_DEVICE_VENDOR_ID, USB_WWID_INTERFACE_NUMBER,
+    USB_WWID_LEAST, USB_WWID_SERIAL_NUMBER,
+};
 use uefi_text::UnalignedSlice;
 
 /// A drive on an ATA bus.
@@ -23,28 +44,28 @@ use uefi_text::UnalignedSlice;
 /// assert_eq!(rt; (drive.primary_secondary(), drive.master_slave()), (0, 1));
 /// assert_eq!(rt; drive.logical_unit_number(), 2);
 /// ```
-pub type Atapi<'a> = TypedNode<'a, 3, 1, 4>;
+pub type Atapi<'a> = TypedNode<'a, MESSAGING_TYPE, ATAPI, ATAPI_LEAST>;
 
 impl<'a> Atapi<'a> {
     /// The bus: 0 is the primary one, 1 the secondary one.
     pub fn primary_secondary(&self) -> u8
-        ensures { result ≡ number_at 0 1 (data_of self.now) }
+        ensures { result ≡ number_in ATAPI_PRIMARY_SECONDARY (data_of self.now) }
     {
-        self.number(0)
+        self.number(ATAPI_PRIMARY_SECONDARY)
     }
 
     /// The drive on the bus: 0 is the master, 1 the slave.
     pub fn master_slave(&self) -> u8
-        ensures { result ≡ number_at 1 1 (data_of self.now) }
+        ensures { result ≡ number_in ATAPI_MASTER_SLAVE (data_of self.now) }
     {
-        self.number(1)
+        self.number(ATAPI_MASTER_SLAVE)
     }
 
     /// The logical unit number.
     pub fn logical_unit_number(&self) -> u16
-        ensures { result ≡ number_at 2 2 (data_of self.now) }
+        ensures { result ≡ number_in ATAPI_LOGICAL_UNIT_NUMBER (data_of self.now) }
     {
-        self.number(2)
+        self.number(ATAPI_LOGICAL_UNIT_NUMBER)
     }
 }
 
@@ -55,21 +76,21 @@ impl<'a> Atapi<'a> {
 /// let disk = messaging::Scsi::from_node(node)?;
 /// assert_eq!(rt; (disk.target_id(), disk.logical_unit_number()), (3, 1));
 /// ```
-pub type Scsi<'a> = TypedNode<'a, 3, 2, 4>;
+pub type Scsi<'a> = TypedNode<'a, MESSAGING_TYPE, SCSI, SCSI_LEAST>;
 
 impl<'a> Scsi<'a> {
     /// The number of the target on its bus.
     pub fn target_id(&self) -> u16
-        ensures { result ≡ number_at 0 2 (data_of self.now) }
+        ensures { result ≡ number_in SCSI_TARGET_ID (data_of self.now) }
     {
-        self.number(0)
+        self.number(SCSI_TARGET_ID)
     }
 
     /// The logical unit number.
     pub fn logical_unit_number(&self) -> u16
-        ensures { result ≡ number_at 2 2 (data_of self.now) }
+        ensures { result ≡ number_in SCSI_LOGICAL_UNIT_NUMBER (data_of self.now) }
     {
-        self.number(2)
+        self.number(SCSI_LOGICAL_UNIT_NUMBER)
     }
 }
 
@@ -82,21 +103,21 @@ impl<'a> Scsi<'a> {
 /// assert_eq!(rt; disk.world_wide_name(), 0x2100_0024_ff00_0001);
 /// assert_eq!(rt; disk.logical_unit_number(), 1);
 /// ```
-pub type FibreChannel<'a> = TypedNode<'a, 3, 3, 20>;
+pub type FibreChannel<'a> = TypedNode<'a, MESSAGING_TYPE, FIBRE_CHANNEL, FIBRE_CHANNEL_LEAST>;
 
 impl<'a> FibreChannel<'a> {
     /// The world wide name.
     pub fn world_wide_name(&self) -> u64
-        ensures { result ≡ number_at 4 8 (data_of self.now) }
+        ensures { result ≡ number_in FIBRE_CHANNEL_WORLD_WIDE_NAME (data_of self.now) }
     {
-        self.number(4)
+        self.number(FIBRE_CHANNEL_WORLD_WIDE_NAME)
     }
 
     /// The logical unit number.
     pub fn logical_unit_number(&self) -> u64
-        ensures { result ≡ number_at 12 8 (data_of self.now) }
+        ensures { result ≡ number_in FIBRE_CHANNEL_LOGICAL_UNIT_NUMBER (data_of self.now) }
     {
-        self.number(12)
+        self.number(FIBRE_CHANNEL_LOGICAL_UNIT_NUMBER)
     }
 }
 
@@ -108,21 +129,26 @@ impl<'a> FibreChannel<'a> {
 /// assert_eq!(rt; disk.world_wide_name(), *b"worldwid");
 /// assert_eq!(rt; disk.logical_unit_number(), [0, 1, 0, 0, 0, 0, 0, 0]);
 /// ```
-pub type FibreChannelEx<'a> = TypedNode<'a, 3, 21, 20>;
+pub type FibreChannelEx<'a> = TypedNode<
+    'a,
+    MESSAGING_TYPE,
+    FIBRE_CHANNEL_EX,
+    FIBRE_CHANNEL_EX_LEAST,
+>;
 
 impl<'a> FibreChannelEx<'a> {
     /// The bytes of the world wide name.
     pub fn world_wide_name(&self) -> [u8; 8]
-        ensures { result ≡ slice_range (data_of self.now) 4 12 }
+        ensures { result ≡ bytes_in FIBRE_CHANNEL_EX_WORLD_WIDE_NAME (data_of self.now) }
     {
-        self.bytes(4)
+        self.bytes(FIBRE_CHANNEL_EX_WORLD_WIDE_NAME)
     }
 
     /// The bytes of the logical unit number.
     pub fn logical_unit_number(&self) -> [u8; 8]
-        ensures { result ≡ slice_range (data_of self.now) 12 20 }
+        ensures { result ≡ bytes_in FIBRE_CHANNEL_EX_LOGICAL_UNIT_NUMBER (data_of self.now) }
     {
-        self.bytes(12)
+        self.bytes(FIBRE_CHANNEL_EX_LOGICAL_UNIT_NUMBER)
     }
 }
 
@@ -133,14 +159,14 @@ impl<'a> FibreChannelEx<'a> {
 /// let device = messaging::Ieee1394::from_node(node)?;
 /// assert_eq!(rt; device.guid(), *b"firewire");
 /// ```
-pub type Ieee1394<'a> = TypedNode<'a, 3, 4, 12>;
+pub type Ieee1394<'a> = TypedNode<'a, MESSAGING_TYPE, IEEE1394, IEEE1394_LEAST>;
 
 impl<'a> Ieee1394<'a> {
     /// The bytes of its GUID, of eight bytes.
     pub fn guid(&self) -> [u8; 8]
-        ensures { result ≡ slice_range (data_of self.now) 4 12 }
+        ensures { result ≡ bytes_in IEEE1394_GUID (data_of self.now) }
     {
-        self.bytes(4)
+        self.bytes(IEEE1394_GUID)
     }
 }
 
@@ -151,21 +177,21 @@ impl<'a> Ieee1394<'a> {
 /// let device = messaging::Usb::from_node(node)?;
 /// assert_eq!(rt; (device.parent_port_number(), device.interface()), (3, 1));
 /// ```
-pub type Usb<'a> = TypedNode<'a, 3, 5, 2>;
+pub type Usb<'a> = TypedNode<'a, MESSAGING_TYPE, USB, USB_LEAST>;
 
 impl<'a> Usb<'a> {
     /// The number of the port of its hub.
     pub fn parent_port_number(&self) -> u8
-        ensures { result ≡ number_at 0 1 (data_of self.now) }
+        ensures { result ≡ number_in USB_PARENT_PORT_NUMBER (data_of self.now) }
     {
-        self.number(0)
+        self.number(USB_PARENT_PORT_NUMBER)
     }
 
     /// The number of its interface.
     pub fn interface(&self) -> u8
-        ensures { result ≡ number_at 1 1 (data_of self.now) }
+        ensures { result ≡ number_in USB_INTERFACE (data_of self.now) }
     {
-        self.number(1)
+        self.number(USB_INTERFACE)
     }
 }
 
@@ -178,38 +204,39 @@ impl<'a> Usb<'a> {
 /// assert_eq!(rt; (device.device_vendor_id(), device.device_product_id()), (0x46d, 0x825));
 /// assert_eq!(rt; device.serial_number().map(|it| it.len()), Some(2));
 /// ```
-pub type UsbWwid<'a> = TypedNode<'a, 3, 16, 6>;
+pub type UsbWwid<'a> = TypedNode<'a, MESSAGING_TYPE, USB_WWID, USB_WWID_LEAST>;
 
 impl<'a> UsbWwid<'a> {
     /// The number of its interface.
     pub fn interface_number(&self) -> u16
-        ensures { result ≡ number_at 0 2 (data_of self.now) }
+        ensures { result ≡ number_in USB_WWID_INTERFACE_NUMBER (data_of self.now) }
     {
-        self.number(0)
+        self.number(USB_WWID_INTERFACE_NUMBER)
     }
 
     /// The ID of its vendor.
     pub fn device_vendor_id(&self) -> u16
-        ensures { result ≡ number_at 2 2 (data_of self.now) }
+        ensures { result ≡ number_in USB_WWID_DEVICE_VENDOR_ID (data_of self.now) }
     {
-        self.number(2)
+        self.number(USB_WWID_DEVICE_VENDOR_ID)
     }
 
     /// The ID of the product.
     pub fn device_product_id(&self) -> u16
-        ensures { result ≡ number_at 4 2 (data_of self.now) }
+        ensures { result ≡ number_in USB_WWID_DEVICE_PRODUCT_ID (data_of self.now) }
     {
-        self.number(4)
+        self.number(USB_WWID_DEVICE_PRODUCT_ID)
     }
 
     /// The code units of the last 64 or fewer characters of the serial number, without a NUL, or `None`
     /// where half a unit is left.
     pub fn serial_number(&self) -> Option<UnalignedSlice<'a, u16>>
-        ensures some { IsSome result ↔ (length (drop 6 (data_of self.now)) % 2 ≡ 0) }
+        ensures some { IsSome result
+            ↔ (length (bytes_from USB_WWID_SERIAL_NUMBER (data_of self.now)) % 2 ≡ 0) }
         ensures units { IfSome result (λ units.
-            items_of units ≡ units_of_bytes (drop 6 (data_of self.now))) }
+            items_of units ≡ units_of_bytes (bytes_from USB_WWID_SERIAL_NUMBER (data_of self.now))) }
     {
-        UnalignedSlice::from_unit_bytes(self.tail(6))
+        UnalignedSlice::from_unit_bytes(self.tail(USB_WWID_SERIAL_NUMBER))
     }
 }
 
@@ -222,42 +249,42 @@ impl<'a> UsbWwid<'a> {
 /// assert_eq!(rt; (class.device_class(), class.device_subclass()), (3, 1));
 /// assert_eq!(rt; class.device_protocol(), 2);
 /// ```
-pub type UsbClass<'a> = TypedNode<'a, 3, 15, 7>;
+pub type UsbClass<'a> = TypedNode<'a, MESSAGING_TYPE, USB_CLASS, USB_CLASS_LEAST>;
 
 impl<'a> UsbClass<'a> {
     /// The ID of the vendor; 0xffff is any.
     pub fn vendor_id(&self) -> u16
-        ensures { result ≡ number_at 0 2 (data_of self.now) }
+        ensures { result ≡ number_in USB_CLASS_VENDOR_ID (data_of self.now) }
     {
-        self.number(0)
+        self.number(USB_CLASS_VENDOR_ID)
     }
 
     /// The ID of the product; 0xffff is any.
     pub fn product_id(&self) -> u16
-        ensures { result ≡ number_at 2 2 (data_of self.now) }
+        ensures { result ≡ number_in USB_CLASS_PRODUCT_ID (data_of self.now) }
     {
-        self.number(2)
+        self.number(USB_CLASS_PRODUCT_ID)
     }
 
     /// The class; 0xff is any.
     pub fn device_class(&self) -> u8
-        ensures { result ≡ number_at 4 1 (data_of self.now) }
+        ensures { result ≡ number_in USB_CLASS_DEVICE_CLASS (data_of self.now) }
     {
-        self.number(4)
+        self.number(USB_CLASS_DEVICE_CLASS)
     }
 
     /// The subclass; 0xff is any.
     pub fn device_subclass(&self) -> u8
-        ensures { result ≡ number_at 5 1 (data_of self.now) }
+        ensures { result ≡ number_in USB_CLASS_DEVICE_SUBCLASS (data_of self.now) }
     {
-        self.number(5)
+        self.number(USB_CLASS_DEVICE_SUBCLASS)
     }
 
     /// The protocol; 0xff is any.
     pub fn device_protocol(&self) -> u8
-        ensures { result ≡ number_at 6 1 (data_of self.now) }
+        ensures { result ≡ number_in USB_CLASS_DEVICE_PROTOCOL (data_of self.now) }
     {
-        self.number(6)
+        self.number(USB_CLASS_DEVICE_PROTOCOL)
     }
 }
 
@@ -268,14 +295,19 @@ impl<'a> UsbClass<'a> {
 /// let unit = messaging::DeviceLogicalUnit::from_node(node)?;
 /// assert_eq!(rt; unit.logical_unit_number(), 2);
 /// ```
-pub type DeviceLogicalUnit<'a> = TypedNode<'a, 3, 17, 1>;
+pub type DeviceLogicalUnit<'a> = TypedNode<
+    'a,
+    MESSAGING_TYPE,
+    DEVICE_LOGICAL_UNIT,
+    DEVICE_LOGICAL_UNIT_LEAST,
+>;
 
 impl<'a> DeviceLogicalUnit<'a> {
     /// The logical unit number.
     pub fn logical_unit_number(&self) -> u8
-        ensures { result ≡ number_at 0 1 (data_of self.now) }
+        ensures { result ≡ number_in DEVICE_LOGICAL_UNIT_LOGICAL_UNIT_NUMBER (data_of self.now) }
     {
-        self.number(0)
+        self.number(DEVICE_LOGICAL_UNIT_LOGICAL_UNIT_NUMBER)
     }
 }
 
@@ -286,14 +318,14 @@ impl<'a> DeviceLogicalUnit<'a> {
 /// let device = messaging::I2o::from_node(node)?;
 /// assert_eq!(rt; device.target_id(), 9);
 /// ```
-pub type I2o<'a> = TypedNode<'a, 3, 6, 4>;
+pub type I2o<'a> = TypedNode<'a, MESSAGING_TYPE, I2O, I2O_LEAST>;
 
 impl<'a> I2o<'a> {
     /// The number of the target on its bus.
     pub fn target_id(&self) -> u32
-        ensures { result ≡ number_at 0 4 (data_of self.now) }
+        ensures { result ≡ number_in I2O_TARGET_ID (data_of self.now) }
     {
-        self.number(0)
+        self.number(I2O_TARGET_ID)
     }
 }
 
@@ -306,28 +338,28 @@ impl<'a> I2o<'a> {
 /// assert_eq!(rt; disk.port_multiplier_port_number(), 0xffff);
 /// assert_eq!(rt; disk.logical_unit_number(), 0);
 /// ```
-pub type Sata<'a> = TypedNode<'a, 3, 18, 6>;
+pub type Sata<'a> = TypedNode<'a, MESSAGING_TYPE, SATA, SATA_LEAST>;
 
 impl<'a> Sata<'a> {
     /// The number of the port of the host bus adapter.
     pub fn hba_port_number(&self) -> u16
-        ensures { result ≡ number_at 0 2 (data_of self.now) }
+        ensures { result ≡ number_in SATA_HBA_PORT_NUMBER (data_of self.now) }
     {
-        self.number(0)
+        self.number(SATA_HBA_PORT_NUMBER)
     }
 
     /// The number of the port of a port multiplier; 0xffff where there is none.
     pub fn port_multiplier_port_number(&self) -> u16
-        ensures { result ≡ number_at 2 2 (data_of self.now) }
+        ensures { result ≡ number_in SATA_PORT_MULTIPLIER_PORT_NUMBER (data_of self.now) }
     {
-        self.number(2)
+        self.number(SATA_PORT_MULTIPLIER_PORT_NUMBER)
     }
 
     /// The logical unit number.
     pub fn logical_unit_number(&self) -> u16
-        ensures { result ≡ number_at 4 2 (data_of self.now) }
+        ensures { result ≡ number_in SATA_LOGICAL_UNIT_NUMBER (data_of self.now) }
     {
-        self.number(4)
+        self.number(SATA_LOGICAL_UNIT_NUMBER)
     }
 }
 
@@ -340,35 +372,35 @@ impl<'a> Sata<'a> {
 /// assert_eq!(rt; (disk.sas_address(), disk.logical_unit_number()), (*b"address!", [0; 8]));
 /// assert_eq!(rt; (disk.info(), disk.relative_target_port()), (0, 2));
 /// ```
-pub type SasEx<'a> = TypedNode<'a, 3, 22, 20>;
+pub type SasEx<'a> = TypedNode<'a, MESSAGING_TYPE, SAS_EX, SAS_EX_LEAST>;
 
 impl<'a> SasEx<'a> {
     /// The bytes of the SAS address.
     pub fn sas_address(&self) -> [u8; 8]
-        ensures { result ≡ slice_range (data_of self.now) 0 8 }
+        ensures { result ≡ bytes_in SAS_EX_SAS_ADDRESS (data_of self.now) }
     {
-        self.bytes(0)
+        self.bytes(SAS_EX_SAS_ADDRESS)
     }
 
     /// The bytes of the logical unit number.
     pub fn logical_unit_number(&self) -> [u8; 8]
-        ensures { result ≡ slice_range (data_of self.now) 8 16 }
+        ensures { result ≡ bytes_in SAS_EX_LOGICAL_UNIT_NUMBER (data_of self.now) }
     {
-        self.bytes(8)
+        self.bytes(SAS_EX_LOGICAL_UNIT_NUMBER)
     }
 
     /// What is known of the device and of how it is attached.
     pub fn info(&self) -> u16
-        ensures { result ≡ number_at 16 2 (data_of self.now) }
+        ensures { result ≡ number_in SAS_EX_INFO (data_of self.now) }
     {
-        self.number(16)
+        self.number(SAS_EX_INFO)
     }
 
     /// The relative target port.
     pub fn relative_target_port(&self) -> u16
-        ensures { result ≡ number_at 18 2 (data_of self.now) }
+        ensures { result ≡ number_in SAS_EX_RELATIVE_TARGET_PORT (data_of self.now) }
     {
-        self.number(18)
+        self.number(SAS_EX_RELATIVE_TARGET_PORT)
     }
 }
 
@@ -381,35 +413,35 @@ impl<'a> SasEx<'a> {
 /// assert_eq!(rt; port.baud_rate(), 115_200);
 /// assert_eq!(rt; (port.data_bits(), port.parity(), port.stop_bits()), (8, 2, 1));
 /// ```
-pub type Uart<'a> = TypedNode<'a, 3, 14, 15>;
+pub type Uart<'a> = TypedNode<'a, MESSAGING_TYPE, UART, UART_LEAST>;
 
 impl<'a> Uart<'a> {
     /// The baud rate; 0 is the default of the device.
     pub fn baud_rate(&self) -> u64
-        ensures { result ≡ number_at 4 8 (data_of self.now) }
+        ensures { result ≡ number_in UART_BAUD_RATE (data_of self.now) }
     {
-        self.number(4)
+        self.number(UART_BAUD_RATE)
     }
 
     /// How many data bits; 0 is the default of the device.
     pub fn data_bits(&self) -> u8
-        ensures { result ≡ number_at 12 1 (data_of self.now) }
+        ensures { result ≡ number_in UART_DATA_BITS (data_of self.now) }
     {
-        self.number(12)
+        self.number(UART_DATA_BITS)
     }
 
     /// The parity: 0 default, 1 none, 2 even, 3 odd, 4 mark, 5 space.
     pub fn parity(&self) -> u8
-        ensures { result ≡ number_at 13 1 (data_of self.now) }
+        ensures { result ≡ number_in UART_PARITY (data_of self.now) }
     {
-        self.number(13)
+        self.number(UART_PARITY)
     }
 
     /// The stop bits: 0 default, 1 one, 2 one and a half, 3 two.
     pub fn stop_bits(&self) -> u8
-        ensures { result ≡ number_at 14 1 (data_of self.now) }
+        ensures { result ≡ number_in UART_STOP_BITS (data_of self.now) }
     {
-        self.number(14)
+        self.number(UART_STOP_BITS)
     }
 }
 
@@ -421,7 +453,12 @@ impl<'a> Uart<'a> {
 /// assert_eq!(rt; vendor.vendor_guid(), Guid::from_bytes(*b"abcdefghijklmnop"));
 /// assert_eq!(rt; vendor.vendor_defined_data(), [1].as_slice());
 /// ```
-pub type MessagingVendor<'a> = TypedNode<'a, 3, 10, 16>;
+pub type MessagingVendor<'a> = TypedNode<
+    'a,
+    MESSAGING_TYPE,
+    MESSAGING_VENDOR,
+    MESSAGING_VENDOR_LEAST,
+>;
 
 /// The same, as the Rust crate `uefi` names it.
 pub type Vendor<'a> = MessagingVendor<'a>;
@@ -429,16 +466,16 @@ pub type Vendor<'a> = MessagingVendor<'a>;
 impl<'a> MessagingVendor<'a> {
     /// The GUID that names the vendor.
     pub fn vendor_guid(&self) -> Guid
-        ensures { result ≡ slice_range (data_of self.now) 0 16 }
+        ensures { result ≡ bytes_in MESSAGING_VENDOR_VENDOR_GUID (data_of self.now) }
     {
-        self.guid_at(0)
+        self.guid_in(MESSAGING_VENDOR_VENDOR_GUID)
     }
 
     /// The data that the vendor defines.
     pub fn vendor_defined_data(&self) -> &'a [u8]
-        ensures { result.now ≡ drop 16 (data_of self.now) }
+        ensures { result.now ≡ bytes_from MESSAGING_VENDOR_VENDOR_DEFINED_DATA (data_of self.now) }
     {
-        self.tail(16)
+        self.tail(MESSAGING_VENDOR_VENDOR_DEFINED_DATA)
     }
 }
 
@@ -450,21 +487,21 @@ impl<'a> MessagingVendor<'a> {
 /// assert_eq!(rt; disk.namespace_identifier(), 1);
 /// assert_eq!(rt; disk.ieee_extended_unique_identifier(), 0x0025_38b1_0000_0007);
 /// ```
-pub type NvmeNamespace<'a> = TypedNode<'a, 3, 23, 12>;
+pub type NvmeNamespace<'a> = TypedNode<'a, MESSAGING_TYPE, NVME_NAMESPACE, NVME_NAMESPACE_LEAST>;
 
 impl<'a> NvmeNamespace<'a> {
     /// The number of the namespace.
     pub fn namespace_identifier(&self) -> u32
-        ensures { result ≡ number_at 0 4 (data_of self.now) }
+        ensures { result ≡ number_in NVME_NAMESPACE_NAMESPACE_IDENTIFIER (data_of self.now) }
     {
-        self.number(0)
+        self.number(NVME_NAMESPACE_NAMESPACE_IDENTIFIER)
     }
 
     /// The extended unique identifier, EUI-64.
     pub fn ieee_extended_unique_identifier(&self) -> u64
-        ensures { result ≡ number_at 4 8 (data_of self.now) }
+        ensures { result ≡ number_in NVME_NAMESPACE_IEEE_EXTENDED_UNIQUE_IDENTIFIER (data_of self.now) }
     {
-        self.number(4)
+        self.number(NVME_NAMESPACE_IEEE_EXTENDED_UNIQUE_IDENTIFIER)
     }
 }
 
@@ -475,21 +512,21 @@ impl<'a> NvmeNamespace<'a> {
 /// let disk = messaging::Ufs::from_node(node)?;
 /// assert_eq!(rt; (disk.target_id(), disk.logical_unit_number()), (0, 1));
 /// ```
-pub type Ufs<'a> = TypedNode<'a, 3, 25, 2>;
+pub type Ufs<'a> = TypedNode<'a, MESSAGING_TYPE, UFS, UFS_LEAST>;
 
 impl<'a> Ufs<'a> {
     /// The number of the target on its bus.
     pub fn target_id(&self) -> u8
-        ensures { result ≡ number_at 0 1 (data_of self.now) }
+        ensures { result ≡ number_in UFS_TARGET_ID (data_of self.now) }
     {
-        self.number(0)
+        self.number(UFS_TARGET_ID)
     }
 
     /// The logical unit number.
     pub fn logical_unit_number(&self) -> u8
-        ensures { result ≡ number_at 1 1 (data_of self.now) }
+        ensures { result ≡ number_in UFS_LOGICAL_UNIT_NUMBER (data_of self.now) }
     {
-        self.number(1)
+        self.number(UFS_LOGICAL_UNIT_NUMBER)
     }
 }
 
@@ -500,14 +537,14 @@ impl<'a> Ufs<'a> {
 /// let card = messaging::Sd::from_node(node)?;
 /// assert_eq!(rt; card.slot_number(), 1);
 /// ```
-pub type Sd<'a> = TypedNode<'a, 3, 26, 1>;
+pub type Sd<'a> = TypedNode<'a, MESSAGING_TYPE, SD, SD_LEAST>;
 
 impl<'a> Sd<'a> {
     /// The number of the slot.
     pub fn slot_number(&self) -> u8
-        ensures { result ≡ number_at 0 1 (data_of self.now) }
+        ensures { result ≡ number_in SD_SLOT_NUMBER (data_of self.now) }
     {
-        self.number(0)
+        self.number(SD_SLOT_NUMBER)
     }
 }
 
@@ -518,14 +555,14 @@ impl<'a> Sd<'a> {
 /// let card = messaging::Emmc::from_node(node)?;
 /// assert_eq!(rt; card.slot_number(), 2);
 /// ```
-pub type Emmc<'a> = TypedNode<'a, 3, 29, 1>;
+pub type Emmc<'a> = TypedNode<'a, MESSAGING_TYPE, EMMC, EMMC_LEAST>;
 
 impl<'a> Emmc<'a> {
     /// The number of the slot.
     pub fn slot_number(&self) -> u8
-        ensures { result ≡ number_at 0 1 (data_of self.now) }
+        ensures { result ≡ number_in EMMC_SLOT_NUMBER (data_of self.now) }
     {
-        self.number(0)
+        self.number(EMMC_SLOT_NUMBER)
     }
 }
 
@@ -536,13 +573,18 @@ impl<'a> Emmc<'a> {
 /// let disk = messaging::NvdimmNamespace::from_node(node)?;
 /// assert_eq!(rt; disk.uuid(), Guid::from_bytes(*b"abcdefghijklmnop"));
 /// ```
-pub type NvdimmNamespace<'a> = TypedNode<'a, 3, 32, 16>;
+pub type NvdimmNamespace<'a> = TypedNode<
+    'a,
+    MESSAGING_TYPE,
+    NVDIMM_NAMESPACE,
+    NVDIMM_NAMESPACE_LEAST,
+>;
 
 impl<'a> NvdimmNamespace<'a> {
     /// The UUID that labels the namespace.
     pub fn uuid(&self) -> Guid
-        ensures { result ≡ slice_range (data_of self.now) 0 16 }
+        ensures { result ≡ bytes_in NVDIMM_NAMESPACE_UUID (data_of self.now) }
     {
-        self.guid_at(0)
+        self.guid_in(NVDIMM_NAMESPACE_UUID)
     }
 }

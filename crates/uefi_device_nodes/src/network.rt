@@ -3,11 +3,29 @@
 #![tactic(auto)]
 
 ghost use Rattle.std.specs.Prelude.{◌≡◌, ◌+◌, ◌*◌, ◌/◌, ◌<◌, ◌≤◌, ◌↔◌, IfSome, IsSome, drop, length, slice_range};
-ghost use Rattle.uefi_device_nodes.specs.TypedNodes.{number_at};
+ghost use Rattle.uefi_device_nodes.specs.TypedNodes.{bytes_from, bytes_in, end_of, number_in};
 ghost use Rattle.uefi_device_nodes.specs.NodeViews.{data_of};
 
 use crate::typed_node::TypedNode;
 use uefi_field_texts::guid::Guid;
+use uefi_node_table::layouts::{
+    BLUETOOTH, BLUETOOTH_DEVICE_ADDRESS, BLUETOOTH_LE, BLUETOOTH_LE_ADDRESS_TYPE,
+    BLUETOOTH_LE_DEVICE_ADDRESS, BLUETOOTH_LE_LEAST, BLUETOOTH_LEAST, DNS, DNS_ADDRESS,
+    DNS_ADDRESS_TYPE, DNS_LEAST, INFINIBAND, INFINIBAND_DEVICE_ID,
+    INFINIBAND_IOC_GUID_OR_SERVICE_ID, INFINIBAND_LEAST, INFINIBAND_PORT_GID,
+    INFINIBAND_RESOURCE_FLAGS, INFINIBAND_TARGET_PORT_ID, IPV4, IPV4_GATEWAY_IP_ADDRESS,
+    IPV4_IP_ADDRESS_ORIGIN, IPV4_LEAST, IPV4_LOCAL_IP_ADDRESS, IPV4_LOCAL_PORT, IPV4_PROTOCOL,
+    IPV4_REMOTE_IP_ADDRESS, IPV4_REMOTE_PORT, IPV4_SUBNET_MASK, IPV6, IPV6_GATEWAY_IP_ADDRESS,
+    IPV6_IP_ADDRESS_ORIGIN, IPV6_LEAST, IPV6_LOCAL_IP_ADDRESS, IPV6_LOCAL_PORT, IPV6_PREFIX_LENGTH,
+    IPV6_PROTOCOL, IPV6_REMOTE_IP_ADDRESS, IPV6_REMOTE_PORT, ISCSI, ISCSI_ISCSI_TARGET_NAME,
+    ISCSI_LEAST, ISCSI_LOGICAL_UNIT_NUMBER, ISCSI_OPTIONS, ISCSI_PROTOCOL,
+    ISCSI_TARGET_PORTAL_GROUP_TAG, MAC_ADDRESS, MAC_ADDRESS_INTERFACE_TYPE, MAC_ADDRESS_LEAST,
+    MAC_ADDRESS_MAC_ADDRESS, MESSAGING_TYPE, NVME_OF_NAMESPACE, NVME_OF_NAMESPACE_LEAST,
+    NVME_OF_NAMESPACE_NID, NVME_OF_NAMESPACE_NIDT, NVME_OF_NAMESPACE_SUBSYSTEM_NQN, REST_SERVICE,
+    REST_SERVICE_ACCESS_MODE, REST_SERVICE_LEAST, REST_SERVICE_SERVICE_TYPE,
+    REST_SERVICE_VENDOR_DEFINED_DATA, REST_SERVICE_VENDOR_GUID, URI, URI_LEAST, URI_VALUE, VLAN,
+    VLAN_LEAST, VLAN_VLAN_ID, WIFI, WIFI_LEAST, WIFI_SSID,
+};
 
 /// A network interface.
 ///
@@ -18,21 +36,21 @@ use uefi_field_texts::guid::Guid;
 /// assert_eq!(rt; (card.mac_address()[0], card.mac_address()[5]), (0x52, 0x56));
 /// assert_eq!(rt; card.interface_type(), 1);
 /// ```
-pub type MacAddress<'a> = TypedNode<'a, 3, 11, 33>;
+pub type MacAddress<'a> = TypedNode<'a, MESSAGING_TYPE, MAC_ADDRESS, MAC_ADDRESS_LEAST>;
 
 impl<'a> MacAddress<'a> {
     /// The address, filled up with zeros.
     pub fn mac_address(&self) -> [u8; 32]
-        ensures { result ≡ slice_range (data_of self.now) 0 32 }
+        ensures { result ≡ bytes_in MAC_ADDRESS_MAC_ADDRESS (data_of self.now) }
     {
-        self.bytes(0)
+        self.bytes(MAC_ADDRESS_MAC_ADDRESS)
     }
 
     /// The type of the interface, by RFC 3232.
     pub fn interface_type(&self) -> u8
-        ensures { result ≡ number_at 32 1 (data_of self.now) }
+        ensures { result ≡ number_in MAC_ADDRESS_INTERFACE_TYPE (data_of self.now) }
     {
-        self.number(32)
+        self.number(MAC_ADDRESS_INTERFACE_TYPE)
     }
 }
 
@@ -46,67 +64,67 @@ impl<'a> MacAddress<'a> {
 /// assert_eq!(rt; (ip.local_port(), ip.remote_port(), ip.protocol(), ip.ip_address_origin()), (0, 80, 6, 1));
 /// assert_eq!(rt; (ip.gateway_ip_address(), ip.subnet_mask()), (Some([10, 0, 0, 2]), Some([255, 0, 0, 0])));
 /// ```
-pub type Ipv4<'a> = TypedNode<'a, 3, 12, 15>;
+pub type Ipv4<'a> = TypedNode<'a, MESSAGING_TYPE, IPV4, IPV4_LEAST>;
 
 impl<'a> Ipv4<'a> {
     /// The local address.
     pub fn local_ip_address(&self) -> [u8; 4]
-        ensures { result ≡ slice_range (data_of self.now) 0 4 }
+        ensures { result ≡ bytes_in IPV4_LOCAL_IP_ADDRESS (data_of self.now) }
     {
-        self.bytes(0)
+        self.bytes(IPV4_LOCAL_IP_ADDRESS)
     }
 
     /// The remote address.
     pub fn remote_ip_address(&self) -> [u8; 4]
-        ensures { result ≡ slice_range (data_of self.now) 4 8 }
+        ensures { result ≡ bytes_in IPV4_REMOTE_IP_ADDRESS (data_of self.now) }
     {
-        self.bytes(4)
+        self.bytes(IPV4_REMOTE_IP_ADDRESS)
     }
 
     /// The local port.
     pub fn local_port(&self) -> u16
-        ensures { result ≡ number_at 8 2 (data_of self.now) }
+        ensures { result ≡ number_in IPV4_LOCAL_PORT (data_of self.now) }
     {
-        self.number(8)
+        self.number(IPV4_LOCAL_PORT)
     }
 
     /// The remote port.
     pub fn remote_port(&self) -> u16
-        ensures { result ≡ number_at 10 2 (data_of self.now) }
+        ensures { result ≡ number_in IPV4_REMOTE_PORT (data_of self.now) }
     {
-        self.number(10)
+        self.number(IPV4_REMOTE_PORT)
     }
 
     /// The protocol over IP, as that of UDP or TCP.
     pub fn protocol(&self) -> u16
-        ensures { result ≡ number_at 12 2 (data_of self.now) }
+        ensures { result ≡ number_in IPV4_PROTOCOL (data_of self.now) }
     {
-        self.number(12)
+        self.number(IPV4_PROTOCOL)
     }
 
     /// Zero where the local address came by DHCP.
     pub fn ip_address_origin(&self) -> u8
-        ensures { result ≡ number_at 14 1 (data_of self.now) }
+        ensures { result ≡ number_in IPV4_IP_ADDRESS_ORIGIN (data_of self.now) }
     {
-        self.number(14)
+        self.number(IPV4_IP_ADDRESS_ORIGIN)
     }
 
     /// The address of the gateway, or `None` where the node ends before it: nodes of 19 bytes, from before
     /// the standard had this field, have none.
     pub fn gateway_ip_address(&self) -> Option<[u8; 4]>
-        ensures some { IsSome result ↔ (19 ≤ length (data_of self.now)) }
-        ensures bytes { IfSome result (λ bytes. bytes ≡ slice_range (data_of self.now) 15 19) }
+        ensures some { IsSome result ↔ (end_of IPV4_GATEWAY_IP_ADDRESS ≤ length (data_of self.now)) }
+        ensures bytes { IfSome result (λ bytes. bytes ≡ bytes_in IPV4_GATEWAY_IP_ADDRESS (data_of self.now)) }
     {
-        self.later_bytes(15)
+        self.later_bytes(IPV4_GATEWAY_IP_ADDRESS)
     }
 
     /// The mask of the subnet, or `None` where the node ends before it, as [`Ipv4::gateway_ip_address`]
     /// says.
     pub fn subnet_mask(&self) -> Option<[u8; 4]>
-        ensures some { IsSome result ↔ (23 ≤ length (data_of self.now)) }
-        ensures bytes { IfSome result (λ bytes. bytes ≡ slice_range (data_of self.now) 19 23) }
+        ensures some { IsSome result ↔ (end_of IPV4_SUBNET_MASK ≤ length (data_of self.now)) }
+        ensures bytes { IfSome result (λ bytes. bytes ≡ bytes_in IPV4_SUBNET_MASK (data_of self.now)) }
     {
-        self.later_bytes(19)
+        self.later_bytes(IPV4_SUBNET_MASK)
     }
 }
 
@@ -120,63 +138,63 @@ impl<'a> Ipv4<'a> {
 /// assert_eq!(rt; (ip.local_port(), ip.remote_port(), ip.protocol(), ip.ip_address_origin()), (0, 80, 6, 2));
 /// assert_eq!(rt; (ip.prefix_length(), ip.gateway_ip_address()), (64, [0; 16]));
 /// ```
-pub type Ipv6<'a> = TypedNode<'a, 3, 13, 56>;
+pub type Ipv6<'a> = TypedNode<'a, MESSAGING_TYPE, IPV6, IPV6_LEAST>;
 
 impl<'a> Ipv6<'a> {
     /// The local address.
     pub fn local_ip_address(&self) -> [u8; 16]
-        ensures { result ≡ slice_range (data_of self.now) 0 16 }
+        ensures { result ≡ bytes_in IPV6_LOCAL_IP_ADDRESS (data_of self.now) }
     {
-        self.bytes(0)
+        self.bytes(IPV6_LOCAL_IP_ADDRESS)
     }
 
     /// The remote address.
     pub fn remote_ip_address(&self) -> [u8; 16]
-        ensures { result ≡ slice_range (data_of self.now) 16 32 }
+        ensures { result ≡ bytes_in IPV6_REMOTE_IP_ADDRESS (data_of self.now) }
     {
-        self.bytes(16)
+        self.bytes(IPV6_REMOTE_IP_ADDRESS)
     }
 
     /// The local port.
     pub fn local_port(&self) -> u16
-        ensures { result ≡ number_at 32 2 (data_of self.now) }
+        ensures { result ≡ number_in IPV6_LOCAL_PORT (data_of self.now) }
     {
-        self.number(32)
+        self.number(IPV6_LOCAL_PORT)
     }
 
     /// The remote port.
     pub fn remote_port(&self) -> u16
-        ensures { result ≡ number_at 34 2 (data_of self.now) }
+        ensures { result ≡ number_in IPV6_REMOTE_PORT (data_of self.now) }
     {
-        self.number(34)
+        self.number(IPV6_REMOTE_PORT)
     }
 
     /// The protocol over IP, as that of UDP or TCP.
     pub fn protocol(&self) -> u16
-        ensures { result ≡ number_at 36 2 (data_of self.now) }
+        ensures { result ≡ number_in IPV6_PROTOCOL (data_of self.now) }
     {
-        self.number(36)
+        self.number(IPV6_PROTOCOL)
     }
 
     /// How the local address was set: 0 by hand, 1 automatically without state, 2 automatically with state.
     pub fn ip_address_origin(&self) -> u8
-        ensures { result ≡ number_at 38 1 (data_of self.now) }
+        ensures { result ≡ number_in IPV6_IP_ADDRESS_ORIGIN (data_of self.now) }
     {
-        self.number(38)
+        self.number(IPV6_IP_ADDRESS_ORIGIN)
     }
 
     /// How many bits the prefix has.
     pub fn prefix_length(&self) -> u8
-        ensures { result ≡ number_at 39 1 (data_of self.now) }
+        ensures { result ≡ number_in IPV6_PREFIX_LENGTH (data_of self.now) }
     {
-        self.number(39)
+        self.number(IPV6_PREFIX_LENGTH)
     }
 
     /// The address of the gateway.
     pub fn gateway_ip_address(&self) -> [u8; 16]
-        ensures { result ≡ slice_range (data_of self.now) 40 56 }
+        ensures { result ≡ bytes_in IPV6_GATEWAY_IP_ADDRESS (data_of self.now) }
     {
-        self.bytes(40)
+        self.bytes(IPV6_GATEWAY_IP_ADDRESS)
     }
 }
 
@@ -187,14 +205,14 @@ impl<'a> Ipv6<'a> {
 /// let network = messaging::Vlan::from_node(node)?;
 /// assert_eq!(rt; network.vlan_id(), 7);
 /// ```
-pub type Vlan<'a> = TypedNode<'a, 3, 20, 2>;
+pub type Vlan<'a> = TypedNode<'a, MESSAGING_TYPE, VLAN, VLAN_LEAST>;
 
 impl<'a> Vlan<'a> {
     /// The number of the network, from 0 to 4094.
     pub fn vlan_id(&self) -> u16
-        ensures { result ≡ number_at 0 2 (data_of self.now) }
+        ensures { result ≡ number_in VLAN_VLAN_ID (data_of self.now) }
     {
-        self.number(0)
+        self.number(VLAN_VLAN_ID)
     }
 }
 
@@ -208,43 +226,43 @@ impl<'a> Vlan<'a> {
 /// assert_eq!(rt; (device.ioc_guid_or_service_id(), device.target_port_id()), (1, 2));
 /// assert_eq!(rt; device.device_id(), 3);
 /// ```
-pub type Infiniband<'a> = TypedNode<'a, 3, 9, 44>;
+pub type Infiniband<'a> = TypedNode<'a, MESSAGING_TYPE, INFINIBAND, INFINIBAND_LEAST>;
 
 impl<'a> Infiniband<'a> {
     /// What the node names, in bits: 0 an I/O controller or a service, 1 an extension of the boot
     /// environment, 2 a console, 3 storage, 4 a network.
     pub fn resource_flags(&self) -> u32
-        ensures { result ≡ number_at 0 4 (data_of self.now) }
+        ensures { result ≡ number_in INFINIBAND_RESOURCE_FLAGS (data_of self.now) }
     {
-        self.number(0)
+        self.number(INFINIBAND_RESOURCE_FLAGS)
     }
 
     /// The bytes of the global identifier of the remote fabric port.
     pub fn port_gid(&self) -> [u8; 16]
-        ensures { result ≡ slice_range (data_of self.now) 4 20 }
+        ensures { result ≡ bytes_in INFINIBAND_PORT_GID (data_of self.now) }
     {
-        self.bytes(4)
+        self.bytes(INFINIBAND_PORT_GID)
     }
 
     /// The GUID of the I/O controller, or the identifier of the service.
     pub fn ioc_guid_or_service_id(&self) -> u64
-        ensures { result ≡ number_at 20 8 (data_of self.now) }
+        ensures { result ≡ number_in INFINIBAND_IOC_GUID_OR_SERVICE_ID (data_of self.now) }
     {
-        self.number(20)
+        self.number(INFINIBAND_IOC_GUID_OR_SERVICE_ID)
     }
 
     /// The persistent identifier of the remote port.
     pub fn target_port_id(&self) -> u64
-        ensures { result ≡ number_at 28 8 (data_of self.now) }
+        ensures { result ≡ number_in INFINIBAND_TARGET_PORT_ID (data_of self.now) }
     {
-        self.number(28)
+        self.number(INFINIBAND_TARGET_PORT_ID)
     }
 
     /// The persistent identifier of the remote device.
     pub fn device_id(&self) -> u64
-        ensures { result ≡ number_at 36 8 (data_of self.now) }
+        ensures { result ≡ number_in INFINIBAND_DEVICE_ID (data_of self.now) }
     {
-        self.number(36)
+        self.number(INFINIBAND_DEVICE_ID)
     }
 }
 
@@ -258,42 +276,42 @@ impl<'a> Infiniband<'a> {
 /// assert_eq!(rt; disk.logical_unit_number(), [0, 1, 0, 0, 0, 0, 0, 0]);
 /// assert_eq!(rt; disk.iscsi_target_name(), b"iqn.org:disk".as_slice());
 /// ```
-pub type Iscsi<'a> = TypedNode<'a, 3, 19, 14>;
+pub type Iscsi<'a> = TypedNode<'a, MESSAGING_TYPE, ISCSI, ISCSI_LEAST>;
 
 impl<'a> Iscsi<'a> {
     /// The protocol: 0 is TCP.
     pub fn protocol(&self) -> u16
-        ensures { result ≡ number_at 0 2 (data_of self.now) }
+        ensures { result ≡ number_in ISCSI_PROTOCOL (data_of self.now) }
     {
-        self.number(0)
+        self.number(ISCSI_PROTOCOL)
     }
 
     /// The options of the login: bits for digests and authentication.
     pub fn options(&self) -> u16
-        ensures { result ≡ number_at 2 2 (data_of self.now) }
+        ensures { result ≡ number_in ISCSI_OPTIONS (data_of self.now) }
     {
-        self.number(2)
+        self.number(ISCSI_OPTIONS)
     }
 
     /// The bytes of the logical unit number.
     pub fn logical_unit_number(&self) -> [u8; 8]
-        ensures { result ≡ slice_range (data_of self.now) 4 12 }
+        ensures { result ≡ bytes_in ISCSI_LOGICAL_UNIT_NUMBER (data_of self.now) }
     {
-        self.bytes(4)
+        self.bytes(ISCSI_LOGICAL_UNIT_NUMBER)
     }
 
     /// The tag of the portal group of the target.
     pub fn target_portal_group_tag(&self) -> u16
-        ensures { result ≡ number_at 12 2 (data_of self.now) }
+        ensures { result ≡ number_in ISCSI_TARGET_PORTAL_GROUP_TAG (data_of self.now) }
     {
-        self.number(12)
+        self.number(ISCSI_TARGET_PORTAL_GROUP_TAG)
     }
 
     /// The bytes of the name of the target.
     pub fn iscsi_target_name(&self) -> &'a [u8]
-        ensures { result.now ≡ drop 14 (data_of self.now) }
+        ensures { result.now ≡ bytes_from ISCSI_ISCSI_TARGET_NAME (data_of self.now) }
     {
-        self.tail(14)
+        self.tail(ISCSI_ISCSI_TARGET_NAME)
     }
 }
 
@@ -304,14 +322,14 @@ impl<'a> Iscsi<'a> {
 /// let uri = messaging::Uri::from_node(node)?;
 /// assert_eq!(rt; uri.value(), b"http://a/b.efi".as_slice());
 /// ```
-pub type Uri<'a> = TypedNode<'a, 3, 24, 0>;
+pub type Uri<'a> = TypedNode<'a, MESSAGING_TYPE, URI, URI_LEAST>;
 
 impl<'a> Uri<'a> {
     /// The bytes of the URI.
     pub fn value(&self) -> &'a [u8]
-        ensures { result.now ≡ drop 0 (data_of self.now) }
+        ensures { result.now ≡ bytes_from URI_VALUE (data_of self.now) }
     {
-        self.tail(0)
+        self.tail(URI_VALUE)
     }
 }
 
@@ -322,14 +340,14 @@ impl<'a> Uri<'a> {
 /// let device = messaging::Bluetooth::from_node(node)?;
 /// assert_eq!(rt; device.device_address(), [0x01, 0x23, 0x45, 0x67, 0x89, 0xab]);
 /// ```
-pub type Bluetooth<'a> = TypedNode<'a, 3, 27, 6>;
+pub type Bluetooth<'a> = TypedNode<'a, MESSAGING_TYPE, BLUETOOTH, BLUETOOTH_LEAST>;
 
 impl<'a> Bluetooth<'a> {
     /// The bytes of its address.
     pub fn device_address(&self) -> [u8; 6]
-        ensures { result ≡ slice_range (data_of self.now) 0 6 }
+        ensures { result ≡ bytes_in BLUETOOTH_DEVICE_ADDRESS (data_of self.now) }
     {
-        self.bytes(0)
+        self.bytes(BLUETOOTH_DEVICE_ADDRESS)
     }
 }
 
@@ -341,21 +359,21 @@ impl<'a> Bluetooth<'a> {
 /// assert_eq!(rt; device.device_address(), [0x01, 0x23, 0x45, 0x67, 0x89, 0xab]);
 /// assert_eq!(rt; device.address_type(), 1);
 /// ```
-pub type BluetoothLe<'a> = TypedNode<'a, 3, 30, 7>;
+pub type BluetoothLe<'a> = TypedNode<'a, MESSAGING_TYPE, BLUETOOTH_LE, BLUETOOTH_LE_LEAST>;
 
 impl<'a> BluetoothLe<'a> {
     /// The bytes of its address.
     pub fn device_address(&self) -> [u8; 6]
-        ensures { result ≡ slice_range (data_of self.now) 0 6 }
+        ensures { result ≡ bytes_in BLUETOOTH_LE_DEVICE_ADDRESS (data_of self.now) }
     {
-        self.bytes(0)
+        self.bytes(BLUETOOTH_LE_DEVICE_ADDRESS)
     }
 
     /// The type of the address: 0 is public, 1 is random.
     pub fn address_type(&self) -> u8
-        ensures { result ≡ number_at 6 1 (data_of self.now) }
+        ensures { result ≡ number_in BLUETOOTH_LE_ADDRESS_TYPE (data_of self.now) }
     {
-        self.number(6)
+        self.number(BLUETOOTH_LE_ADDRESS_TYPE)
     }
 }
 
@@ -367,14 +385,14 @@ impl<'a> BluetoothLe<'a> {
 /// let network = messaging::Wifi::from_node(node)?;
 /// assert!(rt; network.ssid().starts_with(b"home\0"));
 /// ```
-pub type Wifi<'a> = TypedNode<'a, 3, 28, 32>;
+pub type Wifi<'a> = TypedNode<'a, MESSAGING_TYPE, WIFI, WIFI_LEAST>;
 
 impl<'a> Wifi<'a> {
     /// The name of the network, its SSID, filled up with zeros.
     pub fn ssid(&self) -> [u8; 32]
-        ensures { result ≡ slice_range (data_of self.now) 0 32 }
+        ensures { result ≡ bytes_in WIFI_SSID (data_of self.now) }
     {
-        self.bytes(0)
+        self.bytes(WIFI_SSID)
     }
 }
 
@@ -388,31 +406,31 @@ impl<'a> Wifi<'a> {
 /// assert_eq!(rt; servers.address(0).map(|it| it[0]), Some(9));
 /// assert_eq!(rt; servers.address(1), None);
 /// ```
-pub type Dns<'a> = TypedNode<'a, 3, 31, 1>;
+pub type Dns<'a> = TypedNode<'a, MESSAGING_TYPE, DNS, DNS_LEAST>;
 
 impl<'a> Dns<'a> {
     /// The type of the addresses: 0 is IP version 4, 1 is version 6.
     pub fn address_type(&self) -> u8
-        ensures { result ≡ number_at 0 1 (data_of self.now) }
+        ensures { result ≡ number_in DNS_ADDRESS_TYPE (data_of self.now) }
     {
-        self.number(0)
+        self.number(DNS_ADDRESS_TYPE)
     }
 
     /// How many addresses there are. Bytes after the last whole one are left out.
     pub fn address_count(&self) -> usize
-        ensures { result ≡ length (drop 1 (data_of self.now)) / 16 }
+        ensures { result ≡ length (bytes_from DNS_ADDRESS (data_of self.now)) / 16 }
     {
-        self.tail(1).len() / 16
+        self.tail(DNS_ADDRESS).len() / 16
     }
 
     /// The bytes of the address at an index, or `None` from the count on. One of IP version 4 fills the
     /// first four.
     pub fn address(&self, index: usize) -> Option<[u8; 16]>
-        ensures some { IsSome result ↔ (index < length (drop 1 (data_of self.now)) / 16) }
+        ensures some { IsSome result ↔ (index < length (bytes_from DNS_ADDRESS (data_of self.now)) / 16) }
         ensures bytes { IfSome result (λ bytes.
-            bytes ≡ slice_range (drop 1 (data_of self.now)) (16 * index) (16 * index + 16)) }
+            bytes ≡ slice_range (bytes_from DNS_ADDRESS (data_of self.now)) (16 * index) (16 * index + 16)) }
     {
-        let addresses = self.tail(1);
+        let addresses = self.tail(DNS_ADDRESS);
         if addresses.len() / 16 <= index {
             return None;
         }
@@ -430,35 +448,40 @@ impl<'a> Dns<'a> {
 /// assert_eq!(rt; (service.service_type(), service.access_mode()), (0xff, 2));
 /// assert_eq!(rt; service.vendor_guid_and_data().map(|it| it.1), Some(b"data".as_slice()));
 /// ```
-pub type RestService<'a> = TypedNode<'a, 3, 33, 2>;
+pub type RestService<'a> = TypedNode<'a, MESSAGING_TYPE, REST_SERVICE, REST_SERVICE_LEAST>;
 
 impl<'a> RestService<'a> {
     /// The service: 1 Redfish, 2 OData, 0xff that of a vendor.
     pub fn service_type(&self) -> u8
-        ensures { result ≡ number_at 0 1 (data_of self.now) }
+        ensures { result ≡ number_in REST_SERVICE_SERVICE_TYPE (data_of self.now) }
     {
-        self.number(0)
+        self.number(REST_SERVICE_SERVICE_TYPE)
     }
 
     /// How it is reached: 1 in band, 2 out of band.
     pub fn access_mode(&self) -> u8
-        ensures { result ≡ number_at 1 1 (data_of self.now) }
+        ensures { result ≡ number_in REST_SERVICE_ACCESS_MODE (data_of self.now) }
     {
-        self.number(1)
+        self.number(REST_SERVICE_ACCESS_MODE)
     }
 
     /// The GUID of a vendor's service, whose type is 0xff, and the vendor's data after it; `None` of
     /// another service, and where the GUID is not whole.
     pub fn vendor_guid_and_data(&self) -> Option<(Guid, &'a [u8])>
         ensures some { IsSome result
-            ↔ ((number_at 0 1 (data_of self.now) ≡ 255) × (18 ≤ length (data_of self.now))) }
-        ensures guid { IfSome result (λ vendor. vendor.0 ≡ slice_range (data_of self.now) 2 18) }
-        ensures after_guid { IfSome result (λ vendor. vendor.1.now ≡ drop 18 (data_of self.now)) }
+            ↔ ((number_in REST_SERVICE_SERVICE_TYPE (data_of self.now) ≡ 255)
+            × (end_of REST_SERVICE_VENDOR_GUID ≤ length (data_of self.now))) }
+        ensures guid { IfSome result (λ vendor.
+            vendor.0 ≡ bytes_in REST_SERVICE_VENDOR_GUID (data_of self.now)) }
+        ensures after_guid { IfSome result (λ vendor.
+            vendor.1.now ≡ bytes_from REST_SERVICE_VENDOR_DEFINED_DATA (data_of self.now)) }
     {
         if self.service_type() != 0xff {
             return None;
         }
-        let (guid, after_guid) = self.tail(2).split_first_chunk::<16>()?;
+        let (guid, after_guid) = self
+            .tail(REST_SERVICE_VENDOR_GUID)
+            .split_first_chunk::<16>()?;
         Some((Guid::from_bytes(*guid), after_guid))
     }
 }
@@ -471,27 +494,32 @@ impl<'a> RestService<'a> {
 /// assert_eq!(rt; (disk.nidt(), disk.nid()), (3, *b"abcdefghijklmnop"));
 /// assert_eq!(rt; disk.subsystem_nqn(), b"nqn.org:disk\0".as_slice());
 /// ```
-pub type NvmeOfNamespace<'a> = TypedNode<'a, 3, 34, 17>;
+pub type NvmeOfNamespace<'a> = TypedNode<
+    'a,
+    MESSAGING_TYPE,
+    NVME_OF_NAMESPACE,
+    NVME_OF_NAMESPACE_LEAST,
+>;
 
 impl<'a> NvmeOfNamespace<'a> {
     /// The type of the identifier: 1 EUI-64, 2 NGUID, 3 UUID.
     pub fn nidt(&self) -> u8
-        ensures { result ≡ number_at 0 1 (data_of self.now) }
+        ensures { result ≡ number_in NVME_OF_NAMESPACE_NIDT (data_of self.now) }
     {
-        self.number(0)
+        self.number(NVME_OF_NAMESPACE_NIDT)
     }
 
     /// The bytes of the identifier.
     pub fn nid(&self) -> [u8; 16]
-        ensures { result ≡ slice_range (data_of self.now) 1 17 }
+        ensures { result ≡ bytes_in NVME_OF_NAMESPACE_NID (data_of self.now) }
     {
-        self.bytes(1)
+        self.bytes(NVME_OF_NAMESPACE_NID)
     }
 
     /// The qualified name of the subsystem, in UTF-8, with its NUL.
     pub fn subsystem_nqn(&self) -> &'a [u8]
-        ensures { result.now ≡ drop 17 (data_of self.now) }
+        ensures { result.now ≡ bytes_from NVME_OF_NAMESPACE_SUBSYSTEM_NQN (data_of self.now) }
     {
-        self.tail(17)
+        self.tail(NVME_OF_NAMESPACE_SUBSYSTEM_NQN)
     }
 }

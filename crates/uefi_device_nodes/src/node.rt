@@ -11,6 +11,16 @@ ghost use Rattle.std.specs.Cmp.Lexicographic.{nat_list_eq_equiv, pointwise, on_t
 use crate::errors::NodeError;
 use std::fmt;
 use std::hash::{Hash, Hasher};
+use uefi_node_table::layouts::{
+    ACPI, ACPI_TYPE, ADR, ATAPI, BIOS_BOOT_SPEC_TYPE, BLUETOOTH, BLUETOOTH_LE, BMC,
+    BOOT_SPECIFICATION, CD_ROM, CONTROLLER, DEVICE_LOGICAL_UNIT, DNS, EMMC, EXPANDED,
+    FIBRE_CHANNEL, FIBRE_CHANNEL_EX, FILE_PATH, FIRMWARE_FILE, FIRMWARE_VOLUME, HARD_DRIVE,
+    HARDWARE_TYPE, HARDWARE_VENDOR, I2O, IEEE1394, INFINIBAND, IPV4, IPV6, ISCSI, MAC_ADDRESS,
+    MEDIA_TYPE, MEDIA_VENDOR, MEMORY_MAPPED, MESSAGING_TYPE, MESSAGING_VENDOR, NVDIMM,
+    NVDIMM_NAMESPACE, NVME_NAMESPACE, NVME_OF_NAMESPACE, PCCARD, PCI, PROTOCOL, RAM_DISK,
+    RELATIVE_OFFSET_RANGE, REST_SERVICE, SAS_EX, SATA, SCSI, SD, UART, UFS, URI, USB, USB_CLASS,
+    USB_WWID, VLAN, WIFI,
+};
 
 /// The type of a node (UEFI Specification 2.10, section 10.3).
 #[derive(Clone, Copy, Debug, PartialEq, Eq)]
@@ -21,19 +31,19 @@ pub struct DeviceType(
 
 impl DeviceType {
     /// A device that is in the system's address space, such as one on a PCI bus.
-    pub const HARDWARE: DeviceType = DeviceType(0x01);
+    pub const HARDWARE: DeviceType = DeviceType(HARDWARE_TYPE);
 
     /// A device that ACPI names.
-    pub const ACPI: DeviceType = DeviceType(0x02);
+    pub const ACPI: DeviceType = DeviceType(ACPI_TYPE);
 
     /// A device that messages reach.
-    pub const MESSAGING: DeviceType = DeviceType(0x03);
+    pub const MESSAGING: DeviceType = DeviceType(MESSAGING_TYPE);
 
     /// A part of a medium, such as a partition or a file.
-    pub const MEDIA: DeviceType = DeviceType(0x04);
+    pub const MEDIA: DeviceType = DeviceType(MEDIA_TYPE);
 
     /// What a legacy BIOS can boot.
-    pub const BIOS_BOOT_SPEC: DeviceType = DeviceType(0x05);
+    pub const BIOS_BOOT_SPEC: DeviceType = DeviceType(BIOS_BOOT_SPEC_TYPE);
 
     /// The end of an instance or of a path.
     pub const END: DeviceType = DeviceType(0x7f);
@@ -48,160 +58,160 @@ pub struct DeviceSubType(
 
 impl DeviceSubType {
     /// Of [`DeviceType::HARDWARE`]: a device on a PCI bus.
-    pub const HARDWARE_PCI: DeviceSubType = DeviceSubType(0x01);
+    pub const HARDWARE_PCI: DeviceSubType = DeviceSubType(PCI);
 
     /// Of [`DeviceType::HARDWARE`]: a PC card.
-    pub const HARDWARE_PCCARD: DeviceSubType = DeviceSubType(0x02);
+    pub const HARDWARE_PCCARD: DeviceSubType = DeviceSubType(PCCARD);
 
     /// Of [`DeviceType::HARDWARE`]: memory.
-    pub const HARDWARE_MEMORY_MAPPED: DeviceSubType = DeviceSubType(0x03);
+    pub const HARDWARE_MEMORY_MAPPED: DeviceSubType = DeviceSubType(MEMORY_MAPPED);
 
     /// Of [`DeviceType::HARDWARE`]: a vendor's own.
-    pub const HARDWARE_VENDOR: DeviceSubType = DeviceSubType(0x04);
+    pub const HARDWARE_VENDOR: DeviceSubType = DeviceSubType(HARDWARE_VENDOR);
 
     /// Of [`DeviceType::HARDWARE`]: a controller.
-    pub const HARDWARE_CONTROLLER: DeviceSubType = DeviceSubType(0x05);
+    pub const HARDWARE_CONTROLLER: DeviceSubType = DeviceSubType(CONTROLLER);
 
     /// Of [`DeviceType::HARDWARE`]: the interface of a management controller.
-    pub const HARDWARE_BMC: DeviceSubType = DeviceSubType(0x06);
+    pub const HARDWARE_BMC: DeviceSubType = DeviceSubType(BMC);
 
     /// Of [`DeviceType::ACPI`]: a device with two numbers.
-    pub const ACPI: DeviceSubType = DeviceSubType(0x01);
+    pub const ACPI: DeviceSubType = DeviceSubType(ACPI);
 
     /// Of [`DeviceType::ACPI`]: a device with numbers and strings.
-    pub const ACPI_EXPANDED: DeviceSubType = DeviceSubType(0x02);
+    pub const ACPI_EXPANDED: DeviceSubType = DeviceSubType(EXPANDED);
 
     /// Of [`DeviceType::ACPI`]: the outputs of a display adapter.
-    pub const ACPI_ADR: DeviceSubType = DeviceSubType(0x03);
+    pub const ACPI_ADR: DeviceSubType = DeviceSubType(ADR);
 
     /// Of [`DeviceType::ACPI`]: a persistent memory module.
-    pub const ACPI_NVDIMM: DeviceSubType = DeviceSubType(0x04);
+    pub const ACPI_NVDIMM: DeviceSubType = DeviceSubType(NVDIMM);
 
     /// Of [`DeviceType::MESSAGING`]: an ATAPI drive.
-    pub const MESSAGING_ATAPI: DeviceSubType = DeviceSubType(0x01);
+    pub const MESSAGING_ATAPI: DeviceSubType = DeviceSubType(ATAPI);
 
     /// Of [`DeviceType::MESSAGING`]: a SCSI device.
-    pub const MESSAGING_SCSI: DeviceSubType = DeviceSubType(0x02);
+    pub const MESSAGING_SCSI: DeviceSubType = DeviceSubType(SCSI);
 
     /// Of [`DeviceType::MESSAGING`]: a device on Fibre Channel.
-    pub const MESSAGING_FIBRE_CHANNEL: DeviceSubType = DeviceSubType(0x03);
+    pub const MESSAGING_FIBRE_CHANNEL: DeviceSubType = DeviceSubType(FIBRE_CHANNEL);
 
     /// Of [`DeviceType::MESSAGING`]: a FireWire device.
-    pub const MESSAGING_1394: DeviceSubType = DeviceSubType(0x04);
+    pub const MESSAGING_1394: DeviceSubType = DeviceSubType(IEEE1394);
 
     /// Of [`DeviceType::MESSAGING`]: a device on a USB bus.
-    pub const MESSAGING_USB: DeviceSubType = DeviceSubType(0x05);
+    pub const MESSAGING_USB: DeviceSubType = DeviceSubType(USB);
 
     /// Of [`DeviceType::MESSAGING`]: an I2O device.
-    pub const MESSAGING_I2O: DeviceSubType = DeviceSubType(0x06);
+    pub const MESSAGING_I2O: DeviceSubType = DeviceSubType(I2O);
 
     /// Of [`DeviceType::MESSAGING`]: a device on InfiniBand.
-    pub const MESSAGING_INFINIBAND: DeviceSubType = DeviceSubType(0x09);
+    pub const MESSAGING_INFINIBAND: DeviceSubType = DeviceSubType(INFINIBAND);
 
     /// Of [`DeviceType::MESSAGING`]: a vendor's own.
-    pub const MESSAGING_VENDOR: DeviceSubType = DeviceSubType(0x0a);
+    pub const MESSAGING_VENDOR: DeviceSubType = DeviceSubType(MESSAGING_VENDOR);
 
     /// Of [`DeviceType::MESSAGING`]: a network interface.
-    pub const MESSAGING_MAC_ADDRESS: DeviceSubType = DeviceSubType(0x0b);
+    pub const MESSAGING_MAC_ADDRESS: DeviceSubType = DeviceSubType(MAC_ADDRESS);
 
     /// Of [`DeviceType::MESSAGING`]: a connection over IP version 4.
-    pub const MESSAGING_IPV4: DeviceSubType = DeviceSubType(0x0c);
+    pub const MESSAGING_IPV4: DeviceSubType = DeviceSubType(IPV4);
 
     /// Of [`DeviceType::MESSAGING`]: a connection over IP version 6.
-    pub const MESSAGING_IPV6: DeviceSubType = DeviceSubType(0x0d);
+    pub const MESSAGING_IPV6: DeviceSubType = DeviceSubType(IPV6);
 
     /// Of [`DeviceType::MESSAGING`]: a serial port.
-    pub const MESSAGING_UART: DeviceSubType = DeviceSubType(0x0e);
+    pub const MESSAGING_UART: DeviceSubType = DeviceSubType(UART);
 
     /// Of [`DeviceType::MESSAGING`]: a class of USB devices.
-    pub const MESSAGING_USB_CLASS: DeviceSubType = DeviceSubType(0x0f);
+    pub const MESSAGING_USB_CLASS: DeviceSubType = DeviceSubType(USB_CLASS);
 
     /// Of [`DeviceType::MESSAGING`]: a USB device by its serial number.
-    pub const MESSAGING_USB_WWID: DeviceSubType = DeviceSubType(0x10);
+    pub const MESSAGING_USB_WWID: DeviceSubType = DeviceSubType(USB_WWID);
 
     /// Of [`DeviceType::MESSAGING`]: a logical unit.
-    pub const MESSAGING_DEVICE_LOGICAL_UNIT: DeviceSubType = DeviceSubType(0x11);
+    pub const MESSAGING_DEVICE_LOGICAL_UNIT: DeviceSubType = DeviceSubType(DEVICE_LOGICAL_UNIT);
 
     /// Of [`DeviceType::MESSAGING`]: a device on SATA.
-    pub const MESSAGING_SATA: DeviceSubType = DeviceSubType(0x12);
+    pub const MESSAGING_SATA: DeviceSubType = DeviceSubType(SATA);
 
     /// Of [`DeviceType::MESSAGING`]: an iSCSI target.
-    pub const MESSAGING_ISCSI: DeviceSubType = DeviceSubType(0x13);
+    pub const MESSAGING_ISCSI: DeviceSubType = DeviceSubType(ISCSI);
 
     /// Of [`DeviceType::MESSAGING`]: a virtual network.
-    pub const MESSAGING_VLAN: DeviceSubType = DeviceSubType(0x14);
+    pub const MESSAGING_VLAN: DeviceSubType = DeviceSubType(VLAN);
 
     /// Of [`DeviceType::MESSAGING`]: a device on Fibre Channel, with its bytes in order.
-    pub const MESSAGING_FIBRE_CHANNEL_EX: DeviceSubType = DeviceSubType(0x15);
+    pub const MESSAGING_FIBRE_CHANNEL_EX: DeviceSubType = DeviceSubType(FIBRE_CHANNEL_EX);
 
     /// Of [`DeviceType::MESSAGING`]: a device on SAS.
-    pub const MESSAGING_SCSI_SAS_EX: DeviceSubType = DeviceSubType(0x16);
+    pub const MESSAGING_SCSI_SAS_EX: DeviceSubType = DeviceSubType(SAS_EX);
 
     /// Of [`DeviceType::MESSAGING`]: a namespace of an NVMe drive.
-    pub const MESSAGING_NVME_NAMESPACE: DeviceSubType = DeviceSubType(0x17);
+    pub const MESSAGING_NVME_NAMESPACE: DeviceSubType = DeviceSubType(NVME_NAMESPACE);
 
     /// Of [`DeviceType::MESSAGING`]: a URI.
-    pub const MESSAGING_URI: DeviceSubType = DeviceSubType(0x18);
+    pub const MESSAGING_URI: DeviceSubType = DeviceSubType(URI);
 
     /// Of [`DeviceType::MESSAGING`]: a device on UFS.
-    pub const MESSAGING_UFS: DeviceSubType = DeviceSubType(0x19);
+    pub const MESSAGING_UFS: DeviceSubType = DeviceSubType(UFS);
 
     /// Of [`DeviceType::MESSAGING`]: an SD card.
-    pub const MESSAGING_SD: DeviceSubType = DeviceSubType(0x1a);
+    pub const MESSAGING_SD: DeviceSubType = DeviceSubType(SD);
 
     /// Of [`DeviceType::MESSAGING`]: a Bluetooth device.
-    pub const MESSAGING_BLUETOOTH: DeviceSubType = DeviceSubType(0x1b);
+    pub const MESSAGING_BLUETOOTH: DeviceSubType = DeviceSubType(BLUETOOTH);
 
     /// Of [`DeviceType::MESSAGING`]: a wireless network.
-    pub const MESSAGING_WIFI: DeviceSubType = DeviceSubType(0x1c);
+    pub const MESSAGING_WIFI: DeviceSubType = DeviceSubType(WIFI);
 
     /// Of [`DeviceType::MESSAGING`]: an eMMC device.
-    pub const MESSAGING_EMMC: DeviceSubType = DeviceSubType(0x1d);
+    pub const MESSAGING_EMMC: DeviceSubType = DeviceSubType(EMMC);
 
     /// Of [`DeviceType::MESSAGING`]: a Bluetooth Low Energy device.
-    pub const MESSAGING_BLUETOOTH_LE: DeviceSubType = DeviceSubType(0x1e);
+    pub const MESSAGING_BLUETOOTH_LE: DeviceSubType = DeviceSubType(BLUETOOTH_LE);
 
     /// Of [`DeviceType::MESSAGING`]: name servers.
-    pub const MESSAGING_DNS: DeviceSubType = DeviceSubType(0x1f);
+    pub const MESSAGING_DNS: DeviceSubType = DeviceSubType(DNS);
 
     /// Of [`DeviceType::MESSAGING`]: a namespace of a persistent memory module.
-    pub const MESSAGING_NVDIMM_NAMESPACE: DeviceSubType = DeviceSubType(0x20);
+    pub const MESSAGING_NVDIMM_NAMESPACE: DeviceSubType = DeviceSubType(NVDIMM_NAMESPACE);
 
     /// Of [`DeviceType::MESSAGING`]: a REST service.
-    pub const MESSAGING_REST_SERVICE: DeviceSubType = DeviceSubType(0x21);
+    pub const MESSAGING_REST_SERVICE: DeviceSubType = DeviceSubType(REST_SERVICE);
 
     /// Of [`DeviceType::MESSAGING`]: a namespace of an NVMe drive over a network.
-    pub const MESSAGING_NVME_OF_NAMESPACE: DeviceSubType = DeviceSubType(0x22);
+    pub const MESSAGING_NVME_OF_NAMESPACE: DeviceSubType = DeviceSubType(NVME_OF_NAMESPACE);
 
     /// Of [`DeviceType::MEDIA`]: a partition.
-    pub const MEDIA_HARD_DRIVE: DeviceSubType = DeviceSubType(0x01);
+    pub const MEDIA_HARD_DRIVE: DeviceSubType = DeviceSubType(HARD_DRIVE);
 
     /// Of [`DeviceType::MEDIA`]: a boot entry of a CD-ROM.
-    pub const MEDIA_CD_ROM: DeviceSubType = DeviceSubType(0x02);
+    pub const MEDIA_CD_ROM: DeviceSubType = DeviceSubType(CD_ROM);
 
     /// Of [`DeviceType::MEDIA`]: a vendor's own.
-    pub const MEDIA_VENDOR: DeviceSubType = DeviceSubType(0x03);
+    pub const MEDIA_VENDOR: DeviceSubType = DeviceSubType(MEDIA_VENDOR);
 
     /// Of [`DeviceType::MEDIA`]: a file.
-    pub const MEDIA_FILE_PATH: DeviceSubType = DeviceSubType(0x04);
+    pub const MEDIA_FILE_PATH: DeviceSubType = DeviceSubType(FILE_PATH);
 
     /// Of [`DeviceType::MEDIA`]: a protocol.
-    pub const MEDIA_PROTOCOL: DeviceSubType = DeviceSubType(0x05);
+    pub const MEDIA_PROTOCOL: DeviceSubType = DeviceSubType(PROTOCOL);
 
     /// Of [`DeviceType::MEDIA`]: a file of a firmware volume.
-    pub const MEDIA_PIWG_FIRMWARE_FILE: DeviceSubType = DeviceSubType(0x06);
+    pub const MEDIA_PIWG_FIRMWARE_FILE: DeviceSubType = DeviceSubType(FIRMWARE_FILE);
 
     /// Of [`DeviceType::MEDIA`]: a firmware volume.
-    pub const MEDIA_PIWG_FIRMWARE_VOLUME: DeviceSubType = DeviceSubType(0x07);
+    pub const MEDIA_PIWG_FIRMWARE_VOLUME: DeviceSubType = DeviceSubType(FIRMWARE_VOLUME);
 
     /// Of [`DeviceType::MEDIA`]: a range of bytes.
-    pub const MEDIA_RELATIVE_OFFSET_RANGE: DeviceSubType = DeviceSubType(0x08);
+    pub const MEDIA_RELATIVE_OFFSET_RANGE: DeviceSubType = DeviceSubType(RELATIVE_OFFSET_RANGE);
 
     /// Of [`DeviceType::MEDIA`]: a RAM disk.
-    pub const MEDIA_RAM_DISK: DeviceSubType = DeviceSubType(0x09);
+    pub const MEDIA_RAM_DISK: DeviceSubType = DeviceSubType(RAM_DISK);
 
     /// Of [`DeviceType::BIOS_BOOT_SPEC`]: what a legacy BIOS can boot.
-    pub const BIOS_BOOT_SPECIFICATION: DeviceSubType = DeviceSubType(0x01);
+    pub const BIOS_BOOT_SPECIFICATION: DeviceSubType = DeviceSubType(BOOT_SPECIFICATION);
 
     /// Of [`DeviceType::END`]: the end of an instance, after which another follows.
     pub const END_INSTANCE: DeviceSubType = DeviceSubType(0x01);

@@ -1,15 +1,24 @@
 //! Nodes by their kinds.
 #![tactic(auto, unfolding(crate::specs::NodeViews::node_of))]
 
-ghost use Rattle.std.specs.Prelude.{◌≡◌, IfOk};
+ghost use Rattle.std.specs.Prelude.{◌≡◌, ◌++◌, IfOk};
 ghost use Rattle.std.specs.Result.{result_err};
-ghost use Rattle.uefi_device_nodes.specs.NodeEnums.{IsNodeOf, acpi_kinds, bios_boot_spec_kinds, hardware_kinds, media_kinds, messaging_kinds, second_messaging_kinds, third_messaging_kinds, refusal_among, enum_refusal};
+ghost use Rattle.uefi_device_nodes.specs.NodeEnums.{IsNodeOf, acpi_kinds, bios_boot_spec_kinds, hardware_kinds, media_kinds, messaging_kinds, network_kinds, storage_kinds, refusal_among, enum_refusal};
 ghost use Rattle.uefi_device_nodes.specs.NodeViews.{node_of};
 
 use crate::errors::NodeConversionError;
 use crate::media::FilePath;
 use crate::node::{DevicePathNode, DeviceSubType, DeviceType};
 use crate::{acpi, bios_boot_spec, hardware, media, messaging};
+use uefi_node_table::layouts::{
+    ACPI, ACPI_TYPE, ADR, ATAPI, BIOS_BOOT_SPEC_TYPE, BLUETOOTH, BLUETOOTH_LE, BMC,
+    BOOT_SPECIFICATION, CD_ROM, CONTROLLER, DEVICE_LOGICAL_UNIT, DNS, EMMC, EXPANDED,
+    FIBRE_CHANNEL, FIBRE_CHANNEL_EX, FIRMWARE_FILE, FIRMWARE_VOLUME, HARD_DRIVE, HARDWARE_TYPE,
+    HARDWARE_VENDOR, I2O, IEEE1394, INFINIBAND, IPV4, IPV6, ISCSI, MAC_ADDRESS, MEDIA_TYPE,
+    MEDIA_VENDOR, MEMORY_MAPPED, MESSAGING_TYPE, MESSAGING_VENDOR, NVDIMM, NVDIMM_NAMESPACE,
+    NVME_NAMESPACE, NVME_OF_NAMESPACE, PCCARD, PCI, PROTOCOL, RAM_DISK, RELATIVE_OFFSET_RANGE,
+    REST_SERVICE, SAS_EX, SATA, SCSI, SD, UART, UFS, URI, USB, USB_CLASS, USB_WWID, VLAN, WIFI,
+};
 
 /// A node as the view of its kind. The variants are named by type and kind, as in the Rust crate `uefi`.
 #[derive(Clone, Copy)]
@@ -122,132 +131,153 @@ pub enum DevicePathNodeEnum<'a> {
 
 /// The view of a node of type Hardware.
 fn hardware_node(node: DevicePathNode<'_>) -> Result<DevicePathNodeEnum<'_>, NodeConversionError>
-    requires { (node_of node).device_type ≡ 1 }
+    requires { (node_of node).device_type ≡ HARDWARE_TYPE }
     ensures ok { IfOk result (λ view. IsNodeOf view (node_of node.entry)) }
     ensures refusal { result_err result ≡ refusal_among hardware_kinds (node_of node.entry) }
 {
     Ok(match node.sub_type().0 {
-        1 => DevicePathNodeEnum::HardwarePci(hardware::Pci::from_node(node)?),
-        2 => DevicePathNodeEnum::HardwarePccard(hardware::Pccard::from_node(node)?),
-        3 => DevicePathNodeEnum::HardwareMemoryMapped(hardware::MemoryMapped::from_node(node)?),
-        4 => DevicePathNodeEnum::HardwareVendor(hardware::HardwareVendor::from_node(node)?),
-        5 => DevicePathNodeEnum::HardwareController(hardware::Controller::from_node(node)?),
-        6 => DevicePathNodeEnum::HardwareBmc(hardware::Bmc::from_node(node)?),
+        PCI => DevicePathNodeEnum::HardwarePci(hardware::Pci::from_node(node)?),
+        PCCARD => DevicePathNodeEnum::HardwarePccard(hardware::Pccard::from_node(node)?),
+        MEMORY_MAPPED => DevicePathNodeEnum::HardwareMemoryMapped(hardware::MemoryMapped::from_node(
+            node,
+        )?),
+        HARDWARE_VENDOR => DevicePathNodeEnum::HardwareVendor(hardware::HardwareVendor::from_node(
+            node,
+        )?),
+        CONTROLLER => DevicePathNodeEnum::HardwareController(hardware::Controller::from_node(
+            node,
+        )?),
+        BMC => DevicePathNodeEnum::HardwareBmc(hardware::Bmc::from_node(node)?),
         _ => return Err(NodeConversionError::UnsupportedType),
     })
 }
 
 /// The view of a node of type ACPI.
 fn acpi_node(node: DevicePathNode<'_>) -> Result<DevicePathNodeEnum<'_>, NodeConversionError>
-    requires { (node_of node).device_type ≡ 2 }
+    requires { (node_of node).device_type ≡ ACPI_TYPE }
     ensures ok { IfOk result (λ view. IsNodeOf view (node_of node.entry)) }
     ensures refusal { result_err result ≡ refusal_among acpi_kinds (node_of node.entry) }
 {
     Ok(match node.sub_type().0 {
-        1 => DevicePathNodeEnum::AcpiAcpi(acpi::Acpi::from_node(node)?),
-        2 => DevicePathNodeEnum::AcpiExpanded(acpi::Expanded::from_node(node)?),
-        3 => DevicePathNodeEnum::AcpiAdr(acpi::Adr::from_node(node)?),
-        4 => DevicePathNodeEnum::AcpiNvdimm(acpi::Nvdimm::from_node(node)?),
+        ACPI => DevicePathNodeEnum::AcpiAcpi(acpi::Acpi::from_node(node)?),
+        EXPANDED => DevicePathNodeEnum::AcpiExpanded(acpi::Expanded::from_node(node)?),
+        ADR => DevicePathNodeEnum::AcpiAdr(acpi::Adr::from_node(node)?),
+        NVDIMM => DevicePathNodeEnum::AcpiNvdimm(acpi::Nvdimm::from_node(node)?),
         _ => return Err(NodeConversionError::UnsupportedType),
     })
 }
 
 /// The view of a node of type Messaging.
 fn messaging_node(node: DevicePathNode<'_>) -> Result<DevicePathNodeEnum<'_>, NodeConversionError>
-    requires { (node_of node).device_type ≡ 3 }
+    requires { (node_of node).device_type ≡ MESSAGING_TYPE }
     ensures ok { IfOk result (λ view. IsNodeOf view (node_of node.entry)) }
     ensures refusal { result_err result ≡ refusal_among messaging_kinds (node_of node.entry) }
 {
     Ok(match node.sub_type().0 {
-        1 => DevicePathNodeEnum::MessagingAtapi(messaging::Atapi::from_node(node)?),
-        2 => DevicePathNodeEnum::MessagingScsi(messaging::Scsi::from_node(node)?),
-        3 => DevicePathNodeEnum::MessagingFibreChannel(messaging::FibreChannel::from_node(node)?),
-        4 => DevicePathNodeEnum::MessagingIeee1394(messaging::Ieee1394::from_node(node)?),
-        5 => DevicePathNodeEnum::MessagingUsb(messaging::Usb::from_node(node)?),
-        6 => DevicePathNodeEnum::MessagingI2o(messaging::I2o::from_node(node)?),
-        9 => DevicePathNodeEnum::MessagingInfiniband(messaging::Infiniband::from_node(node)?),
-        10 => DevicePathNodeEnum::MessagingVendor(messaging::MessagingVendor::from_node(node)?),
-        11 => DevicePathNodeEnum::MessagingMacAddress(messaging::MacAddress::from_node(node)?),
-        12 => DevicePathNodeEnum::MessagingIpv4(messaging::Ipv4::from_node(node)?),
-        13 => DevicePathNodeEnum::MessagingIpv6(messaging::Ipv6::from_node(node)?),
-        _ => return second_messaging_node(node),
+        IEEE1394 => DevicePathNodeEnum::MessagingIeee1394(messaging::Ieee1394::from_node(node)?),
+        USB => DevicePathNodeEnum::MessagingUsb(messaging::Usb::from_node(node)?),
+        I2O => DevicePathNodeEnum::MessagingI2o(messaging::I2o::from_node(node)?),
+        MESSAGING_VENDOR => DevicePathNodeEnum::MessagingVendor(
+            messaging::MessagingVendor::from_node(node)?,
+        ),
+        UART => DevicePathNodeEnum::MessagingUart(messaging::Uart::from_node(node)?),
+        USB_CLASS => DevicePathNodeEnum::MessagingUsbClass(messaging::UsbClass::from_node(node)?),
+        USB_WWID => DevicePathNodeEnum::MessagingUsbWwid(messaging::UsbWwid::from_node(node)?),
+        _ => return storage_or_network_node(node),
     })
 }
 
-/// The view of a node of type Messaging, of a sub-type above 13.
-fn second_messaging_node(
+/// The view of a node of type Messaging that is storage, or a network.
+fn storage_or_network_node(
     node: DevicePathNode<'_>,
 ) -> Result<DevicePathNodeEnum<'_>, NodeConversionError>
-    requires { (node_of node).device_type ≡ 3 }
+    requires { (node_of node).device_type ≡ MESSAGING_TYPE }
     ensures ok { IfOk result (λ view. IsNodeOf view (node_of node.entry)) }
-    ensures refusal { result_err result ≡ refusal_among second_messaging_kinds (node_of node.entry) }
+    ensures refusal { result_err result
+        ≡ refusal_among (storage_kinds ++ network_kinds) (node_of node.entry) }
 {
     Ok(match node.sub_type().0 {
-        14 => DevicePathNodeEnum::MessagingUart(messaging::Uart::from_node(node)?),
-        15 => DevicePathNodeEnum::MessagingUsbClass(messaging::UsbClass::from_node(node)?),
-        16 => DevicePathNodeEnum::MessagingUsbWwid(messaging::UsbWwid::from_node(node)?),
-        17 => DevicePathNodeEnum::MessagingDeviceLogicalUnit(
+        ATAPI => DevicePathNodeEnum::MessagingAtapi(messaging::Atapi::from_node(node)?),
+        SCSI => DevicePathNodeEnum::MessagingScsi(messaging::Scsi::from_node(node)?),
+        FIBRE_CHANNEL => DevicePathNodeEnum::MessagingFibreChannel(
+            messaging::FibreChannel::from_node(node)?,
+        ),
+        DEVICE_LOGICAL_UNIT => DevicePathNodeEnum::MessagingDeviceLogicalUnit(
             messaging::DeviceLogicalUnit::from_node(node)?,
         ),
-        18 => DevicePathNodeEnum::MessagingSata(messaging::Sata::from_node(node)?),
-        19 => DevicePathNodeEnum::MessagingIscsi(messaging::Iscsi::from_node(node)?),
-        20 => DevicePathNodeEnum::MessagingVlan(messaging::Vlan::from_node(node)?),
-        21 => DevicePathNodeEnum::MessagingFibreChannelEx(messaging::FibreChannelEx::from_node(
-            node,
-        )?),
-        22 => DevicePathNodeEnum::MessagingSasEx(messaging::SasEx::from_node(node)?),
-        23 => DevicePathNodeEnum::MessagingNvmeNamespace(messaging::NvmeNamespace::from_node(
-            node,
-        )?),
-        _ => return third_messaging_node(node),
+        SATA => DevicePathNodeEnum::MessagingSata(messaging::Sata::from_node(node)?),
+        FIBRE_CHANNEL_EX => DevicePathNodeEnum::MessagingFibreChannelEx(
+            messaging::FibreChannelEx::from_node(node)?,
+        ),
+        SAS_EX => DevicePathNodeEnum::MessagingSasEx(messaging::SasEx::from_node(node)?),
+        NVME_NAMESPACE => DevicePathNodeEnum::MessagingNvmeNamespace(
+            messaging::NvmeNamespace::from_node(node)?,
+        ),
+        UFS => DevicePathNodeEnum::MessagingUfs(messaging::Ufs::from_node(node)?),
+        SD => DevicePathNodeEnum::MessagingSd(messaging::Sd::from_node(node)?),
+        EMMC => DevicePathNodeEnum::MessagingEmmc(messaging::Emmc::from_node(node)?),
+        NVDIMM_NAMESPACE => DevicePathNodeEnum::MessagingNvdimmNamespace(
+            messaging::NvdimmNamespace::from_node(node)?,
+        ),
+        _ => return network_node(node),
     })
 }
 
-/// The view of a node of type Messaging, of a sub-type above 23.
-fn third_messaging_node(
-    node: DevicePathNode<'_>,
-) -> Result<DevicePathNodeEnum<'_>, NodeConversionError>
-    requires { (node_of node).device_type ≡ 3 }
+/// The view of a node of type Messaging that names a network, or what is reached over one.
+fn network_node(node: DevicePathNode<'_>) -> Result<DevicePathNodeEnum<'_>, NodeConversionError>
+    requires { (node_of node).device_type ≡ MESSAGING_TYPE }
     ensures ok { IfOk result (λ view. IsNodeOf view (node_of node.entry)) }
-    ensures refusal { result_err result ≡ refusal_among third_messaging_kinds (node_of node.entry) }
+    ensures refusal { result_err result ≡ refusal_among network_kinds (node_of node.entry) }
 {
     Ok(match node.sub_type().0 {
-        24 => DevicePathNodeEnum::MessagingUri(messaging::Uri::from_node(node)?),
-        25 => DevicePathNodeEnum::MessagingUfs(messaging::Ufs::from_node(node)?),
-        26 => DevicePathNodeEnum::MessagingSd(messaging::Sd::from_node(node)?),
-        27 => DevicePathNodeEnum::MessagingBluetooth(messaging::Bluetooth::from_node(node)?),
-        28 => DevicePathNodeEnum::MessagingWifi(messaging::Wifi::from_node(node)?),
-        29 => DevicePathNodeEnum::MessagingEmmc(messaging::Emmc::from_node(node)?),
-        30 => DevicePathNodeEnum::MessagingBluetoothLe(messaging::BluetoothLe::from_node(node)?),
-        31 => DevicePathNodeEnum::MessagingDns(messaging::Dns::from_node(node)?),
-        32 => DevicePathNodeEnum::MessagingNvdimmNamespace(messaging::NvdimmNamespace::from_node(
+        INFINIBAND => DevicePathNodeEnum::MessagingInfiniband(messaging::Infiniband::from_node(
             node,
         )?),
-        33 => DevicePathNodeEnum::MessagingRestService(messaging::RestService::from_node(node)?),
-        34 => DevicePathNodeEnum::MessagingNvmeOfNamespace(messaging::NvmeOfNamespace::from_node(
+        MAC_ADDRESS => DevicePathNodeEnum::MessagingMacAddress(messaging::MacAddress::from_node(
             node,
         )?),
+        IPV4 => DevicePathNodeEnum::MessagingIpv4(messaging::Ipv4::from_node(node)?),
+        IPV6 => DevicePathNodeEnum::MessagingIpv6(messaging::Ipv6::from_node(node)?),
+        ISCSI => DevicePathNodeEnum::MessagingIscsi(messaging::Iscsi::from_node(node)?),
+        VLAN => DevicePathNodeEnum::MessagingVlan(messaging::Vlan::from_node(node)?),
+        URI => DevicePathNodeEnum::MessagingUri(messaging::Uri::from_node(node)?),
+        BLUETOOTH => DevicePathNodeEnum::MessagingBluetooth(messaging::Bluetooth::from_node(node)?),
+        WIFI => DevicePathNodeEnum::MessagingWifi(messaging::Wifi::from_node(node)?),
+        BLUETOOTH_LE => DevicePathNodeEnum::MessagingBluetoothLe(messaging::BluetoothLe::from_node(
+            node,
+        )?),
+        DNS => DevicePathNodeEnum::MessagingDns(messaging::Dns::from_node(node)?),
+        REST_SERVICE => DevicePathNodeEnum::MessagingRestService(messaging::RestService::from_node(
+            node,
+        )?),
+        NVME_OF_NAMESPACE => DevicePathNodeEnum::MessagingNvmeOfNamespace(
+            messaging::NvmeOfNamespace::from_node(node)?,
+        ),
         _ => return Err(NodeConversionError::UnsupportedType),
     })
 }
 
 /// The view of a node of type Media.
 fn media_node(node: DevicePathNode<'_>) -> Result<DevicePathNodeEnum<'_>, NodeConversionError>
-    requires { (node_of node).device_type ≡ 4 }
+    requires { (node_of node).device_type ≡ MEDIA_TYPE }
     ensures ok { IfOk result (λ view. IsNodeOf view (node_of node.entry)) }
     ensures refusal { result_err result ≡ refusal_among media_kinds (node_of node.entry) }
 {
     Ok(match node.sub_type().0 {
-        1 => DevicePathNodeEnum::MediaHardDrive(media::HardDrive::from_node(node)?),
-        2 => DevicePathNodeEnum::MediaCdRom(media::CdRom::from_node(node)?),
-        3 => DevicePathNodeEnum::MediaVendor(media::MediaVendor::from_node(node)?),
-        5 => DevicePathNodeEnum::MediaProtocol(media::Protocol::from_node(node)?),
-        6 => DevicePathNodeEnum::MediaPiwgFirmwareFile(media::FirmwareFile::from_node(node)?),
-        7 => DevicePathNodeEnum::MediaPiwgFirmwareVolume(media::FirmwareVolume::from_node(node)?),
-        8 => DevicePathNodeEnum::MediaRelativeOffsetRange(media::RelativeOffsetRange::from_node(
+        HARD_DRIVE => DevicePathNodeEnum::MediaHardDrive(media::HardDrive::from_node(node)?),
+        CD_ROM => DevicePathNodeEnum::MediaCdRom(media::CdRom::from_node(node)?),
+        MEDIA_VENDOR => DevicePathNodeEnum::MediaVendor(media::MediaVendor::from_node(node)?),
+        PROTOCOL => DevicePathNodeEnum::MediaProtocol(media::Protocol::from_node(node)?),
+        FIRMWARE_FILE => DevicePathNodeEnum::MediaPiwgFirmwareFile(media::FirmwareFile::from_node(
             node,
         )?),
-        9 => DevicePathNodeEnum::MediaRamDisk(media::RamDisk::from_node(node)?),
+        FIRMWARE_VOLUME => DevicePathNodeEnum::MediaPiwgFirmwareVolume(
+            media::FirmwareVolume::from_node(node)?,
+        ),
+        RELATIVE_OFFSET_RANGE => DevicePathNodeEnum::MediaRelativeOffsetRange(
+            media::RelativeOffsetRange::from_node(node)?,
+        ),
+        RAM_DISK => DevicePathNodeEnum::MediaRamDisk(media::RamDisk::from_node(node)?),
         _ => return Err(NodeConversionError::UnsupportedType),
     })
 }
@@ -256,12 +286,12 @@ fn media_node(node: DevicePathNode<'_>) -> Result<DevicePathNodeEnum<'_>, NodeCo
 fn bios_boot_spec_node(
     node: DevicePathNode<'_>,
 ) -> Result<DevicePathNodeEnum<'_>, NodeConversionError>
-    requires { (node_of node).device_type ≡ 5 }
+    requires { (node_of node).device_type ≡ BIOS_BOOT_SPEC_TYPE }
     ensures ok { IfOk result (λ view. IsNodeOf view (node_of node.entry)) }
     ensures refusal { result_err result ≡ refusal_among bios_boot_spec_kinds (node_of node.entry) }
 {
     Ok(match node.sub_type().0 {
-        1 => DevicePathNodeEnum::BiosBootSpecBootSpecification(
+        BOOT_SPECIFICATION => DevicePathNodeEnum::BiosBootSpecBootSpecification(
             bios_boot_spec::BootSpecification::from_node(node)?,
         ),
         _ => return Err(NodeConversionError::UnsupportedType),

@@ -21,6 +21,9 @@ use uefi_field_texts::hexadecimal::put_comma_bytes;
 use uefi_field_texts::ids::{has_uid_alone, put_eisa_id};
 use uefi_field_texts::shown_texts::{put_byte_text, put_utf16_text};
 use uefi_field_texts::vendor_names::vendor_name;
+use uefi_node_table::layouts::{
+    FILE_PATH, MEDIA_TYPE, MESSAGING_TYPE, MESSAGING_VENDOR, MESSAGING_VENDOR_LEAST,
+};
 use uefi_node_table::printing::put_form;
 use uefi_text::Packed;
 use uefi_text::number_texts::put_decimal;
@@ -82,7 +85,10 @@ fn named_by_uid<'a>(node: &Parts<'a>) -> Option<Expanded<'a>>
 fn short_name(node: &Parts<'_>) -> &'static str
     ensures { result.now ≡ short_name (node_with node.now.device_type node.now.sub_type node.now.data.now) }
 {
-    if node.device_type != 3 || node.sub_type != 10 || node.data.len() != 16 {
+    if node.device_type != MESSAGING_TYPE
+        || node.sub_type != MESSAGING_VENDOR
+        || node.data.len() != MESSAGING_VENDOR_LEAST
+    {
         return "";
     }
     let (first, second) = node.data.split_at(8);
@@ -98,7 +104,7 @@ fn put_irregular<S: TextSink>(sink: &mut S, node: &Parts<'_>) -> bool
         node.now.allow_shortcuts (node_with node.now.device_type node.now.sub_type node.now.data.now)
         else []) sink.new }
 {
-    if node.device_type == 4 && node.sub_type == 4 && node.data.len() % 2 == 0 {
+    if node.device_type == MEDIA_TYPE && node.sub_type == FILE_PATH && node.data.len() % 2 == 0 {
         put_utf16_text(sink, node.data);
         return true;
     }

@@ -1,14 +1,15 @@
 //! What all nodes have in common whose data have fields at fixed places.
 #![tactic(auto, unfolding(crate::specs::NodeViews::node_of, crate::specs::NodeViews::data_of))]
 
-ghost use Rattle.std.specs.Prelude.{◌≡◌, ◌+◌, ◌≤◌, ◌<◌, ◌^◌, ◌↔◌, drop, length, slice_range, IfOk, IfSome, IsOk, IsSome, None};
+ghost use Rattle.std.specs.Prelude.{◌≡◌, ℕ, ◌+◌, ◌≤◌, ◌<◌, ◌^◌, ◌↔◌, drop, length, slice_range, IfOk, IfSome, IsOk, IsSome, None};
 ghost use Rattle.std.specs.Result.{result_err};
 ghost use Rattle.uefi_device_nodes.specs.Nodes.{node_with};
-ghost use Rattle.uefi_device_nodes.specs.TypedNodes.{IsOfKind, kind_refusal, number_at};
+ghost use Rattle.uefi_device_nodes.specs.TypedNodes.{IsOfKind, bytes_from, bytes_in, end_of, kind_refusal, number_in};
 
 use crate::errors::NodeConversionError;
 use crate::node::DevicePathNode;
 use uefi_field_texts::guid::Guid;
+use uefi_node_table::layouts::Field;
 use uefi_text::Packed;
 
 /// The data of a node of a kind, with a call for each field: a node of this type and this sub-type, which has
@@ -77,53 +78,114 @@ impl<'a, const DEVICE_TYPE: u8, const SUB_TYPE: u8, const LEAST: usize> TypedNod
         self.data
     }
 
-    /// The number that begins at a place.
-    pub(crate) fn number<T: Packed>(&self, place: usize) -> T
-        requires { place + T.SIZE ≤ LEAST }
-        ensures { T.number result ≡ number_at place T.SIZE (data_of self.now) }
+    /// The number in a field.
+    pub(crate) fn number<T: Packed>(&self, field: Field) -> T
+        requires size { field.width ≡ T.SIZE }
+        requires within { end_of field ≤ LEAST }
+        ensures { T.number result ≡ number_in field (data_of self.now) }
     {
-        T::read_le(&self.data[place..place + T::SIZE])
+        T::read_le(&self.data[field.place..field.place + field.width])
     }
 
-    /// The bytes from a place on.
-    pub(crate) fn bytes<const N: usize>(&self, place: usize) -> [u8; N]
-        requires { place + N ≤ LEAST }
-        ensures { result ≡ slice_range (data_of self.now) place (place + N) }
+    /// The bytes of a field.
+    pub(crate) fn bytes<const N: usize>(&self, field: Field) -> [u8; N]
+        requires size { field.width ≡ N }
+        requires within { end_of field ≤ LEAST }
+        ensures { result ≡ bytes_in field (data_of self.now) }
     {
         let mut bytes = [0; N];
-        bytes.copy_from_slice(&self.data[place..place + N]);
+        bytes.copy_from_slice(&self.data[field.place..field.place + N]);
         bytes
     }
 
-    /// The GUID that begins at a place.
-    pub(crate) fn guid_at(&self, place: usize) -> Guid
-        requires { place + 16 ≤ LEAST }
-        ensures { result ≡ slice_range (data_of self.now) place (place + 16) }
+    /// The GUID in a field.
+    pub(crate) fn guid_in(&self, field: Field) -> Guid
+        requires size { field.width ≡ 16 }
+        requires within { end_of field ≤ LEAST }
+        ensures { result ≡ bytes_in field (data_of self.now) }
     {
-        Guid::from_bytes(self.bytes(place))
+        Guid::from_bytes(self.bytes(field))
     }
 
-    /// The bytes from a place on, or `None` where the data end before the last of them.
-    pub(crate) fn later_bytes<const N: usize>(&self, place: usize) -> Option<[u8; N]>
-        requires { place + N < 2 ^ 64 }
-        ensures some { IsSome result ↔ (place + N ≤ length (data_of self.now)) }
-        ensures bytes { IfSome result (λ bytes.
-            bytes ≡ slice_range (data_of self.now) place (place + N)) }
+    /// The bytes of a field, or `None` where the data end before the last of them.
+    pub(crate) fn later_bytes<const N: usize>(&self, field: Field) -> Option<[u8; N]>
+        requires size { field.width ≡ N }
+        requires within { end_of field < 2 ^ 64 }
+        ensures some { IsSome result ↔ (end_of field ≤ length (data_of self.now)) }
+        ensures bytes { IfSome result (λ bytes. bytes ≡ bytes_in field (data_of self.now)) }
     {
-        if self.data.len() < place + N {
+        if self.data.len() < field.place + N {
             return None;
         }
         let mut bytes = [0; N];
-        bytes.copy_from_slice(&self.data[place..place + N]);
+        bytes.copy_from_slice(&self.data[field.place..field.place + N]);
         Some(bytes)
     }
 
-    /// All bytes from a place on.
-    pub(crate) fn tail(&self, place: usize) -> &'a [u8]
-        requires { place ≤ LEAST }
-        ensures { result.now ≡ drop place (data_of self.now) }
+    /// All bytes from where a field begins.
+    pub(crate) fn tail(&self, field: Field) -> &'a [u8]
+        requires { field.place ≤ LEAST }
+        ensures { result.now ≡ bytes_from field (data_of self.now) }
     {
-        &self.data[place..]
+        &self.data[field.place..]
+    }
+}
+
+/// The numbers of a kind, for code that is generic over kinds.
+///
+/// ```rust
+/// use uefi_device_nodes::typed_node::Kind;
+/// let numbers = (hardware::Pci::device_type(), hardware::Pci::sub_type(), hardware::Pci::least());
+/// assert_eq!(rt; numbers, (1, 1, 2));
+/// ```
+pub trait Kind {
+    /// The type, as contracts see it.
+    ghost DEVICE_TYPE: { ℕ };
+
+    /// The sub-type, as contracts see it.
+    ghost SUB_TYPE: { ℕ };
+
+    /// How many bytes of data each node has at least, as contracts see it.
+    ghost LEAST: { ℕ };
+
+    /// The type.
+    fn device_type() -> u8
+        ensures { result ≡ DEVICE_TYPE };
+
+    /// The sub-type.
+    fn sub_type() -> u8
+        ensures { result ≡ SUB_TYPE };
+
+    /// How many bytes of data each node has at least.
+    fn least() -> usize
+        ensures { result ≡ LEAST };
+}
+
+/// The numbers of the view.
+impl<'a, const DEVICE_TYPE: u8, const SUB_TYPE: u8, const LEAST: usize> Kind
+    for TypedNode<'a, DEVICE_TYPE, SUB_TYPE, LEAST> {
+    ghost DEVICE_TYPE = { DEVICE_TYPE };
+
+    ghost SUB_TYPE = { SUB_TYPE };
+
+    ghost LEAST = { LEAST };
+
+    fn device_type() -> u8
+        ensures { result ≡ DEVICE_TYPE }
+    {
+        DEVICE_TYPE
+    }
+
+    fn sub_type() -> u8
+        ensures { result ≡ SUB_TYPE }
+    {
+        SUB_TYPE
+    }
+
+    fn least() -> usize
+        ensures { result ≡ LEAST }
+    {
+        LEAST
     }
 }
 

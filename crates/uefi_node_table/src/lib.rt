@@ -3,6 +3,7 @@
 #![tactic(auto)]
 
 pub mod laws;
+pub mod layouts;
 pub mod printing;
 pub mod rows;
 pub mod table;

@@ -8,6 +8,7 @@ ghost use Rattle.std.specs.List.{list_all};
 ghost use Rattle.uefi_node_table.specs.Rows.{as_form, as_item, as_piece, const_form, is_within, item_of};
 ghost use Rattle.uefi_node_table.specs.Table.{group_forms};
 
+use crate::layouts;
 use crate::rows::{Item, ItemOf, Items, Mode, PieceOf, Row, RowOf, Shape, Tail};
 use crate::words::Words;
 
@@ -21,26 +22,57 @@ macro_rules! field {
     };
 }
 
-/// The fields of a form: a GUID is five of them, and an address of IP four or eight.
+/// A number of a kind, by its name or as it is.
+macro_rules! number {
+    ($name:ident) => {
+        layouts::$name
+    };
+    ($number:literal) => {
+        $number
+    };
+}
+
+/// Where a field begins, by the name of the field or by the number.
+macro_rules! place {
+    ($field:ident) => {
+        layouts::$field.place
+    };
+    ($place:literal) => {
+        $place
+    };
+}
+
+/// The fields of a form: a GUID is five of them, and an address of IP four or eight. A field is named. A part
+/// of one has its place in the field, and its width.
 macro_rules! fields {
     ([$($done:expr),*]) => { &[$($done),*] };
-    ([$($done:expr),*] [Guid $at:literal $ending:literal] $($rest:tt)*) => {
-        fields!([$($done,)* field!(Back, $at, 4, "-"), field!(Back, $at + 4, 2, "-"),
-            field!(Back, $at + 6, 2, "-"), field!(Forth, $at + 8, 2, "-"),
-            field!(Forth, $at + 10, 6, $ending)] $($rest)*)
+    ([$($done:expr),*] [Guid $at:tt $ending:literal] $($rest:tt)*) => {
+        fields!([$($done,)* field!(Back, place!($at), 4, "-"), field!(Back, place!($at) + 4, 2, "-"),
+            field!(Back, place!($at) + 6, 2, "-"), field!(Forth, place!($at) + 8, 2, "-"),
+            field!(Forth, place!($at) + 10, 6, $ending)] $($rest)*)
     };
-    ([$($done:expr),*] [Ipv4 $at:literal $ending:literal] $($rest:tt)*) => {
-        fields!([$($done,)* field!(Decimal, $at, 1, "."), field!(Decimal, $at + 1, 1, "."),
-            field!(Decimal, $at + 2, 1, "."), field!(Decimal, $at + 3, 1, $ending)] $($rest)*)
+    ([$($done:expr),*] [Ipv4 $at:tt $ending:literal] $($rest:tt)*) => {
+        fields!([$($done,)* field!(Decimal, place!($at), 1, "."), field!(Decimal, place!($at) + 1, 1, "."),
+            field!(Decimal, place!($at) + 2, 1, "."), field!(Decimal, place!($at) + 3, 1, $ending)] $($rest)*)
     };
-    ([$($done:expr),*] [Ipv6 $at:literal $ending:literal] $($rest:tt)*) => {
-        fields!([$($done,)* field!(Forth, $at, 2, ":"), field!(Forth, $at + 2, 2, ":"),
-            field!(Forth, $at + 4, 2, ":"), field!(Forth, $at + 6, 2, ":"),
-            field!(Forth, $at + 8, 2, ":"), field!(Forth, $at + 10, 2, ":"),
-            field!(Forth, $at + 12, 2, ":"), field!(Forth, $at + 14, 2, $ending)] $($rest)*)
+    ([$($done:expr),*] [Ipv6 $at:tt $ending:literal] $($rest:tt)*) => {
+        fields!([$($done,)* field!(Forth, place!($at), 2, ":"), field!(Forth, place!($at) + 2, 2, ":"),
+            field!(Forth, place!($at) + 4, 2, ":"), field!(Forth, place!($at) + 6, 2, ":"),
+            field!(Forth, place!($at) + 8, 2, ":"), field!(Forth, place!($at) + 10, 2, ":"),
+            field!(Forth, place!($at) + 12, 2, ":"), field!(Forth, place!($at) + 14, 2, $ending)] $($rest)*)
     };
-    ([$($done:expr),*] [Word $words:ident $at:literal $width:literal] $($rest:tt)*) => {
-        fields!([$($done,)* field!(Word($words), $at, $width, "")] $($rest)*)
+    ([$($done:expr),*] [Word $words:ident $at:ident] $($rest:tt)*) => {
+        fields!([$($done,)* field!(Word($words), layouts::$at.place, layouts::$at.width, "")] $($rest)*)
+    };
+    ([$($done:expr),*] [Word $words:ident $at:ident + $part:literal $width:literal] $($rest:tt)*) => {
+        fields!([$($done,)* field!(Word($words), layouts::$at.place + $part, $width, "")] $($rest)*)
+    };
+    ([$($done:expr),*] [$shape:ident $at:ident $ending:literal] $($rest:tt)*) => {
+        fields!([$($done,)* field!($shape, layouts::$at.place, layouts::$at.width, $ending)] $($rest)*)
+    };
+    ([$($done:expr),*] [$shape:ident $at:ident + $part:literal $width:literal $ending:literal]
+        $($rest:tt)*) => {
+        fields!([$($done,)* field!($shape, layouts::$at.place + $part, $width, $ending)] $($rest)*)
     };
     ([$($done:expr),*] [$shape:ident $at:literal $width:literal $ending:literal] $($rest:tt)*) => {
         fields!([$($done,)* field!($shape, $at, $width, $ending)] $($rest)*)
@@ -57,8 +89,8 @@ macro_rules! tail {
     };
 }
 
-/// Bytes at their places. `Sas` and `Uart` are the first 16 of a vendor's node, its GUID: for SAS devices
-/// D487DDB4-008B-11D9-AFDC-001083FFCA4D, and for flow control 37499A9D-542F-4C89-A026-35DA142094E4.
+/// Bytes of fields, or of places. `Sas` and `Uart` are the first 16 of a vendor's node, its GUID: for SAS
+/// devices D487DDB4-008B-11D9-AFDC-001083FFCA4D, and for flow control 37499A9D-542F-4C89-A026-35DA142094E4.
 macro_rules! bytes {
     ([$($done:expr),*]) => { &[$($done),*] };
     ([] Sas $($rest:tt)*) => {
@@ -73,23 +105,33 @@ macro_rules! bytes {
             (8, 0xa0), (9, 0x26), (10, 0x35), (11, 0xda), (12, 0x14), (13, 0x20), (14, 0x94), (15, 0xe4)
         ] $($rest)*)
     };
-    ([$($done:expr),*] , $at:literal = $byte:literal $($rest:tt)*) => {
-        bytes!([$($done,)* ($at, $byte)] $($rest)*)
+    ([$($done:expr),*] , $($rest:tt)*) => { bytes!([$($done),*] $($rest)*) };
+    ([$($done:expr),*] $at:ident = [$($bytes:literal)*] $($rest:tt)*) => {
+        bytes!([$($done),*] ($at) [$($bytes)*] $($rest)*)
     };
-    ([] $at:literal = $byte:literal $($rest:tt)*) => { bytes!([($at, $byte)] $($rest)*) };
+    ([$($done:expr),*] $at:tt = $byte:literal $($rest:tt)*) => {
+        bytes!([$($done,)* (place!($at), $byte)] $($rest)*)
+    };
+    ([$($done:expr),*] ($at:ident $(+ $part:literal)*) [] $($rest:tt)*) => {
+        bytes!([$($done),*] $($rest)*)
+    };
+    ([$($done:expr),*] ($at:ident $(+ $part:literal)*) [$byte:literal $($bytes:literal)*] $($rest:tt)*) => {
+        bytes!([$($done,)* (layouts::$at.place $(+ $part)*, $byte)] ($at $(+ $part)* + 1) [$($bytes)*]
+            $($rest)*)
+    };
 }
 
 /// A form of these.
 macro_rules! row {
-    ($kind:literal $sub_kind:literal $mode:ident $least:literal $(+ $more:literal)? [$($when:tt)*]
+    ($kind:ident $sub_kind:ident $mode:ident $least:tt $(+ $more:tt)? [$($when:tt)*]
         [$($also:tt)*] $start:literal $([$($field:tt)*])* $($tail:ident)+ $close:literal
         $([$($rest:tt)*])*) => {
         RowOf {
-            kind: $kind,
-            sub_kind: $sub_kind,
+            kind: layouts::$kind,
+            sub_kind: layouts::$sub_kind,
             mode: Mode::$mode,
-            least: $least,
-            more: 0 $(+ $more)?,
+            least: number!($least),
+            more: 0 $(+ number!($more))?,
             when: bytes!([] $($when)*),
             also: bytes!([] $($also)*),
             start: $start,
@@ -104,8 +146,86 @@ macro_rules! row {
 /// A form of USB devices of a class: vendor, product, sub-class and protocol.
 macro_rules! usb_class {
     ($class:literal $start:literal) => {
-        row!(3 15 Read 7 [4 = $class] [] $start [Hexadecimal 0 2 ",0x"] [Hexadecimal 2 2 ",0x"]
-            [Hexadecimal 5 1 ",0x"] [Hexadecimal 6 1 ")"] Nothing "")
+        row!(MESSAGING_TYPE USB_CLASS Read USB_CLASS_LEAST [USB_CLASS_DEVICE_CLASS = $class] [] $start
+            [Hexadecimal USB_CLASS_VENDOR_ID ",0x"] [Hexadecimal USB_CLASS_PRODUCT_ID ",0x"]
+            [Hexadecimal USB_CLASS_DEVICE_SUBCLASS ",0x"] [Hexadecimal USB_CLASS_DEVICE_PROTOCOL ")"]
+            Nothing "")
+    };
+}
+
+/// A form of SAS devices as a vendor's nodes of messages.
+macro_rules! sas {
+    ([$($when:tt)*] $ending:literal $([$($more:tt)*])*) => {
+        row!(MESSAGING_TYPE MESSAGING_VENDOR Read 40 [Sas $($when)*] [] "SAS(0x" [Hexadecimal 20 8 ",0x"]
+            [Hexadecimal 28 8 ",0x"] [Hexadecimal 38 2 $ending] $([$($more)*])* [Hexadecimal 16 4 ")"]
+            Nothing "")
+    };
+}
+
+/// A form of SAS devices as nodes of their own.
+macro_rules! sas_ex {
+    ([$($when:tt)*] $ending:literal $([$($more:tt)*])*) => {
+        row!(MESSAGING_TYPE SAS_EX Read SAS_EX_LEAST [$($when)*] [] "SasEx(0x"
+            [Forth SAS_EX_SAS_ADDRESS ",0x"] [Forth SAS_EX_LOGICAL_UNIT_NUMBER ",0x"]
+            [Hexadecimal SAS_EX_RELATIVE_TARGET_PORT $ending] $([$($more)*])* Nothing "")
+    };
+}
+
+/// A form of devices that ACPI names by a number, with their bytes.
+macro_rules! acpi_device {
+    ([$($hid:literal)*] $start:literal) => {
+        row!(ACPI_TYPE ACPI Read ACPI_LEAST [ACPI_HID = [$($hid)*]] [] $start [Hexadecimal ACPI_UID ")"]
+            Nothing "")
+    };
+}
+
+/// A form of connections over IP version 4: of a node with a gateway and a mask, and of one without.
+macro_rules! ipv4 {
+    (whole [$($when:tt)*] [$($also:tt)*] $ending:literal $([$($more:tt)*])*) => {
+        row!(MESSAGING_TYPE IPV4 Read IPV4_WHOLE [$($when)*] [$($also)*] "IPv4("
+            [Ipv4 IPV4_REMOTE_IP_ADDRESS $ending] $([$($more)*])* [Ipv4 IPV4_LOCAL_IP_ADDRESS ","]
+            [Ipv4 IPV4_GATEWAY_IP_ADDRESS ","] [Ipv4 IPV4_SUBNET_MASK ")"] Nothing "")
+    };
+    (short [$($when:tt)*] [$($also:tt)*] $ending:literal $([$($more:tt)*])*) => {
+        row!(MESSAGING_TYPE IPV4 Read IPV4_LEAST [$($when)*] [$($also)*] "IPv4("
+            [Ipv4 IPV4_REMOTE_IP_ADDRESS $ending] $([$($more)*])* [Ipv4 IPV4_LOCAL_IP_ADDRESS ")"]
+            Nothing "")
+    };
+}
+
+/// A form of connections over IP version 6: of a node with a prefix and a gateway, and of one without.
+macro_rules! ipv6 {
+    (whole [$($when:tt)*] [$($also:tt)*] $ending:literal $([$($more:tt)*])*) => {
+        row!(MESSAGING_TYPE IPV6 Read IPV6_LEAST [$($when)*] [$($also)*] "IPv6("
+            [Ipv6 IPV6_REMOTE_IP_ADDRESS $ending] $([$($more)*])* [Ipv6 IPV6_LOCAL_IP_ADDRESS ",0x"]
+            [Hexadecimal IPV6_PREFIX_LENGTH ","] [Ipv6 IPV6_GATEWAY_IP_ADDRESS ")"] Nothing "")
+    };
+    (short [$($when:tt)*] [$($also:tt)*] $ending:literal $([$($more:tt)*])*) => {
+        row!(MESSAGING_TYPE IPV6 Read 39 [$($when)*] [$($also)*] "IPv6("
+            [Ipv6 IPV6_REMOTE_IP_ADDRESS $ending] $([$($more)*])* [Ipv6 IPV6_LOCAL_IP_ADDRESS ")"]
+            Nothing "")
+    };
+}
+
+/// A form of RAM disks of one type.
+macro_rules! virtual_disk {
+    ([$($guid:literal)*] $start:literal) => {
+        row!(MEDIA_TYPE RAM_DISK Read RAM_DISK_LEAST [RAM_DISK_DISK_TYPE = [$($guid)*]] [] $start
+            [Hexadecimal RAM_DISK_STARTING_ADDRESS ",0x"] [Hexadecimal RAM_DISK_ENDING_ADDRESS ","]
+            [Decimal RAM_DISK_DISK_INSTANCE ")"] Nothing "")
+    };
+}
+
+/// A form of devices of one type that a legacy BIOS can boot: for display alone, without the flags.
+macro_rules! boot {
+    (Display $device:literal $start:literal) => {
+        row!(BIOS_BOOT_SPEC_TYPE BOOT_SPECIFICATION Display BOOT_SPECIFICATION_FIXED + 1
+            [BOOT_SPECIFICATION_DEVICE_TYPE = [$device 0x00]] [] $start Name ")")
+    };
+    (Read $device:literal $start:literal) => {
+        row!(BIOS_BOOT_SPEC_TYPE BOOT_SPECIFICATION Read BOOT_SPECIFICATION_FIXED + 1
+            [BOOT_SPECIFICATION_DEVICE_TYPE = [$device 0x00]] [] $start Name ",0x"
+            [Hexadecimal BOOT_SPECIFICATION_STATUS_FLAG ")"])
     };
 }
 
@@ -133,270 +253,234 @@ const IPV6_ADDRESSES: Item = ItemOf {
 /// Nodes of type Hardware.
 #[rattlefmt::skip]
 const HARDWARE: &[Row] = &[
-    row!(1 1 Read 2 [] [] "Pci(0x" [Hexadecimal 1 1 ",0x"] [Hexadecimal 0 1 ")"] Nothing ""),
-    row!(1 2 Read 1 [] [] "PcCard(0x" [Hexadecimal 0 1 ")"] Nothing ""),
-    row!(1 3 Read 20 [] [] "MemoryMapped(0x" [Hexadecimal 0 4 ",0x"] [Hexadecimal 4 8 ",0x"]
-        [Hexadecimal 12 8 ")"] Nothing ""),
-    row!(1 4 Read 16 [] [] "VenHw(" [Guid 0 ""] Bytes ")"),
-    row!(1 5 Read 4 [] [] "Ctrl(0x" [Hexadecimal 0 4 ")"] Nothing ""),
-    row!(1 6 Read 9 [] [] "BMC(0x" [Hexadecimal 0 1 ",0x"] [Hexadecimal 1 8 ")"] Nothing ""),
+    row!(HARDWARE_TYPE PCI Read PCI_LEAST [] [] "Pci(0x" [Hexadecimal PCI_DEVICE ",0x"]
+        [Hexadecimal PCI_FUNCTION ")"] Nothing ""),
+    row!(HARDWARE_TYPE PCCARD Read PCCARD_LEAST [] [] "PcCard(0x" [Hexadecimal PCCARD_FUNCTION ")"]
+        Nothing ""),
+    row!(HARDWARE_TYPE MEMORY_MAPPED Read MEMORY_MAPPED_LEAST [] [] "MemoryMapped(0x"
+        [Hexadecimal MEMORY_MAPPED_MEMORY_TYPE ",0x"]
+        [Hexadecimal MEMORY_MAPPED_STARTING_ADDRESS ",0x"]
+        [Hexadecimal MEMORY_MAPPED_ENDING_ADDRESS ")"] Nothing ""),
+    row!(HARDWARE_TYPE HARDWARE_VENDOR Read HARDWARE_VENDOR_LEAST [] [] "VenHw("
+        [Guid HARDWARE_VENDOR_VENDOR_GUID ""] Bytes ")"),
+    row!(HARDWARE_TYPE CONTROLLER Read CONTROLLER_LEAST [] [] "Ctrl(0x"
+        [Hexadecimal CONTROLLER_CONTROLLER_NUMBER ")"] Nothing ""),
+    row!(HARDWARE_TYPE BMC Read BMC_LEAST [] [] "BMC(0x" [Hexadecimal BMC_INTERFACE_TYPE ",0x"]
+        [Hexadecimal BMC_BASE_ADDRESS ")"] Nothing ""),
 ];
 
 /// Nodes of type ACPI that name devices.
 #[rattlefmt::skip]
 const ACPI: &[Row] = &[
-    row!(2 1 Read 8 [0 = 0xd0, 1 = 0x41, 2 = 0x03, 3 = 0x0a] [] "PciRoot(0x" [Hexadecimal 4 4 ")"]
-        Nothing ""),
-    row!(2 1 Read 8 [0 = 0xd0, 1 = 0x41, 2 = 0x08, 3 = 0x0a] [] "PcieRoot(0x" [Hexadecimal 4 4 ")"]
-        Nothing ""),
-    row!(2 1 Read 8 [0 = 0xd0, 1 = 0x41, 2 = 0x04, 3 = 0x06] [] "Floppy(0x" [Hexadecimal 4 4 ")"]
-        Nothing ""),
-    row!(2 1 Read 8 [0 = 0xd0, 1 = 0x41, 2 = 0x01, 3 = 0x03] [] "Keyboard(0x" [Hexadecimal 4 4 ")"]
-        Nothing ""),
-    row!(2 1 Read 8 [0 = 0xd0, 1 = 0x41, 2 = 0x01, 3 = 0x05] [] "Serial(0x" [Hexadecimal 4 4 ")"]
-        Nothing ""),
-    row!(2 1 Read 8 [0 = 0xd0, 1 = 0x41, 2 = 0x01, 3 = 0x04] [] "ParallelPort(0x"
-        [Hexadecimal 4 4 ")"] Nothing ""),
-    row!(2 1 Read 8 [0 = 0xd0, 1 = 0x41] [] "Acpi(PNP" [Back 2 2 ",0x"] [Hexadecimal 4 4 ")"] Nothing
-        ""),
-    row!(2 2 Read 12 + 3 [] [] "AcpiEx(" [Eisa 0 4 ","] [Eisa 8 4 ",0x"] [Hexadecimal 4 4 ","] Ids ")"),
-    row!(2 3 Read 4 [] [] "AcpiAdr(0x" [Hexadecimal 0 4 ""] Repeated Numbers ")"),
-    row!(2 1 Read 8 [] [] "Acpi(0x" [Back 0 4 ",0x"] [Hexadecimal 4 4 ")"] Nothing ""),
+    acpi_device!([0xd0 0x41 0x03 0x0a] "PciRoot(0x"),
+    acpi_device!([0xd0 0x41 0x08 0x0a] "PcieRoot(0x"),
+    acpi_device!([0xd0 0x41 0x04 0x06] "Floppy(0x"),
+    acpi_device!([0xd0 0x41 0x01 0x03] "Keyboard(0x"),
+    acpi_device!([0xd0 0x41 0x01 0x05] "Serial(0x"),
+    acpi_device!([0xd0 0x41 0x01 0x04] "ParallelPort(0x"),
+    row!(ACPI_TYPE ACPI Read ACPI_LEAST [ACPI_HID = [0xd0 0x41]] [] "Acpi(PNP"
+        [Back ACPI_HID + 2 2 ",0x"] [Hexadecimal ACPI_UID ")"] Nothing ""),
+    row!(ACPI_TYPE EXPANDED Read EXPANDED_FIXED + 3 [] [] "AcpiEx(" [Eisa EXPANDED_HID ","]
+        [Eisa EXPANDED_CID ",0x"] [Hexadecimal EXPANDED_UID ","] Ids ")"),
+    row!(ACPI_TYPE ADR Read ADR_LEAST [] [] "AcpiAdr(0x" [Hexadecimal ADR_ADR ""] Repeated Numbers
+        ")"),
+    row!(ACPI_TYPE ACPI Read ACPI_LEAST [] [] "Acpi(0x" [Back ACPI_HID ",0x"]
+        [Hexadecimal ACPI_UID ")"] Nothing ""),
 ];
 
 /// SAS devices, as a vendor's nodes of messages, in no bay. They stand before the nodes of all vendors.
 #[rattlefmt::skip]
 const SAS: &[Row] = &[
-    row!(3 10 Read 40 [Sas, 36 = 0x00, 37 = 0x00] [] "SAS(0x" [Hexadecimal 20 8 ",0x"]
-        [Hexadecimal 28 8 ",0x"] [Hexadecimal 38 2 ",NoTopology,0,0,0,0x"] [Hexadecimal 16 4 ")"]
-        Nothing ""),
-    row!(3 10 Read 40 [Sas, 36 = 0x01, 37 = 0x00] [] "SAS(0x" [Hexadecimal 20 8 ",0x"]
-        [Hexadecimal 28 8 ",0x"] [Hexadecimal 38 2 ",SAS,Internal,Direct,0,0x"] [Hexadecimal 16 4 ")"]
-        Nothing ""),
-    row!(3 10 Read 40 [Sas, 36 = 0x11, 37 = 0x00] [] "SAS(0x" [Hexadecimal 20 8 ",0x"]
-        [Hexadecimal 28 8 ",0x"] [Hexadecimal 38 2 ",SATA,Internal,Direct,0,0x"]
-        [Hexadecimal 16 4 ")"] Nothing ""),
-    row!(3 10 Read 40 [Sas, 36 = 0x21, 37 = 0x00] [] "SAS(0x" [Hexadecimal 20 8 ",0x"]
-        [Hexadecimal 28 8 ",0x"] [Hexadecimal 38 2 ",SAS,External,Direct,0,0x"] [Hexadecimal 16 4 ")"]
-        Nothing ""),
-    row!(3 10 Read 40 [Sas, 36 = 0x31, 37 = 0x00] [] "SAS(0x" [Hexadecimal 20 8 ",0x"]
-        [Hexadecimal 28 8 ",0x"] [Hexadecimal 38 2 ",SATA,External,Direct,0,0x"]
-        [Hexadecimal 16 4 ")"] Nothing ""),
-    row!(3 10 Read 40 [Sas, 36 = 0x41, 37 = 0x00] [] "SAS(0x" [Hexadecimal 20 8 ",0x"]
-        [Hexadecimal 28 8 ",0x"] [Hexadecimal 38 2 ",SAS,Internal,Expanded,0,0x"]
-        [Hexadecimal 16 4 ")"] Nothing ""),
-    row!(3 10 Read 40 [Sas, 36 = 0x51, 37 = 0x00] [] "SAS(0x" [Hexadecimal 20 8 ",0x"]
-        [Hexadecimal 28 8 ",0x"] [Hexadecimal 38 2 ",SATA,Internal,Expanded,0,0x"]
-        [Hexadecimal 16 4 ")"] Nothing ""),
-    row!(3 10 Read 40 [Sas, 36 = 0x61, 37 = 0x00] [] "SAS(0x" [Hexadecimal 20 8 ",0x"]
-        [Hexadecimal 28 8 ",0x"] [Hexadecimal 38 2 ",SAS,External,Expanded,0,0x"]
-        [Hexadecimal 16 4 ")"] Nothing ""),
-    row!(3 10 Read 40 [Sas, 36 = 0x71, 37 = 0x00] [] "SAS(0x" [Hexadecimal 20 8 ",0x"]
-        [Hexadecimal 28 8 ",0x"] [Hexadecimal 38 2 ",SATA,External,Expanded,0,0x"]
-        [Hexadecimal 16 4 ")"] Nothing ""),
+    sas!([36 = 0x00, 37 = 0x00] ",NoTopology,0,0,0,0x"),
+    sas!([36 = 0x01, 37 = 0x00] ",SAS,Internal,Direct,0,0x"),
+    sas!([36 = 0x11, 37 = 0x00] ",SATA,Internal,Direct,0,0x"),
+    sas!([36 = 0x21, 37 = 0x00] ",SAS,External,Direct,0,0x"),
+    sas!([36 = 0x31, 37 = 0x00] ",SATA,External,Direct,0,0x"),
+    sas!([36 = 0x41, 37 = 0x00] ",SAS,Internal,Expanded,0,0x"),
+    sas!([36 = 0x51, 37 = 0x00] ",SATA,Internal,Expanded,0,0x"),
+    sas!([36 = 0x61, 37 = 0x00] ",SAS,External,Expanded,0,0x"),
+    sas!([36 = 0x71, 37 = 0x00] ",SATA,External,Expanded,0,0x"),
 ];
 
 /// The same in a bay of a drive, and with a topology that no word tells.
 #[rattlefmt::skip]
 const SAS_IN_BAYS: &[Row] = &[
-    row!(3 10 Read 40 [Sas, 36 = 0x02] [] "SAS(0x" [Hexadecimal 20 8 ",0x"] [Hexadecimal 28 8 ",0x"]
-        [Hexadecimal 38 2 ",SAS,Internal,Direct,0x"] [Next 37 1 ",0x"] [Hexadecimal 16 4 ")"] Nothing
-        ""),
-    row!(3 10 Read 40 [Sas, 36 = 0x12] [] "SAS(0x" [Hexadecimal 20 8 ",0x"] [Hexadecimal 28 8 ",0x"]
-        [Hexadecimal 38 2 ",SATA,Internal,Direct,0x"] [Next 37 1 ",0x"] [Hexadecimal 16 4 ")"] Nothing
-        ""),
-    row!(3 10 Read 40 [Sas, 36 = 0x22] [] "SAS(0x" [Hexadecimal 20 8 ",0x"] [Hexadecimal 28 8 ",0x"]
-        [Hexadecimal 38 2 ",SAS,External,Direct,0x"] [Next 37 1 ",0x"] [Hexadecimal 16 4 ")"] Nothing
-        ""),
-    row!(3 10 Read 40 [Sas, 36 = 0x32] [] "SAS(0x" [Hexadecimal 20 8 ",0x"] [Hexadecimal 28 8 ",0x"]
-        [Hexadecimal 38 2 ",SATA,External,Direct,0x"] [Next 37 1 ",0x"] [Hexadecimal 16 4 ")"] Nothing
-        ""),
-    row!(3 10 Read 40 [Sas, 36 = 0x42] [] "SAS(0x" [Hexadecimal 20 8 ",0x"] [Hexadecimal 28 8 ",0x"]
-        [Hexadecimal 38 2 ",SAS,Internal,Expanded,0x"] [Next 37 1 ",0x"] [Hexadecimal 16 4 ")"]
-        Nothing ""),
-    row!(3 10 Read 40 [Sas, 36 = 0x52] [] "SAS(0x" [Hexadecimal 20 8 ",0x"] [Hexadecimal 28 8 ",0x"]
-        [Hexadecimal 38 2 ",SATA,Internal,Expanded,0x"] [Next 37 1 ",0x"] [Hexadecimal 16 4 ")"]
-        Nothing ""),
-    row!(3 10 Read 40 [Sas, 36 = 0x62] [] "SAS(0x" [Hexadecimal 20 8 ",0x"] [Hexadecimal 28 8 ",0x"]
-        [Hexadecimal 38 2 ",SAS,External,Expanded,0x"] [Next 37 1 ",0x"] [Hexadecimal 16 4 ")"]
-        Nothing ""),
-    row!(3 10 Read 40 [Sas, 36 = 0x72] [] "SAS(0x" [Hexadecimal 20 8 ",0x"] [Hexadecimal 28 8 ",0x"]
-        [Hexadecimal 38 2 ",SATA,External,Expanded,0x"] [Next 37 1 ",0x"] [Hexadecimal 16 4 ")"]
-        Nothing ""),
-    row!(3 10 Read 40 [Sas] [] "SAS(0x" [Hexadecimal 20 8 ",0x"] [Hexadecimal 28 8 ",0x"]
-        [Hexadecimal 38 2 ",0x"] [Hexadecimal 36 2 ",0,0,0,0x"] [Hexadecimal 16 4 ")"] Nothing ""),
+    sas!([36 = 0x02] ",SAS,Internal,Direct,0x" [Next 37 1 ",0x"]),
+    sas!([36 = 0x12] ",SATA,Internal,Direct,0x" [Next 37 1 ",0x"]),
+    sas!([36 = 0x22] ",SAS,External,Direct,0x" [Next 37 1 ",0x"]),
+    sas!([36 = 0x32] ",SATA,External,Direct,0x" [Next 37 1 ",0x"]),
+    sas!([36 = 0x42] ",SAS,Internal,Expanded,0x" [Next 37 1 ",0x"]),
+    sas!([36 = 0x52] ",SATA,Internal,Expanded,0x" [Next 37 1 ",0x"]),
+    sas!([36 = 0x62] ",SAS,External,Expanded,0x" [Next 37 1 ",0x"]),
+    sas!([36 = 0x72] ",SATA,External,Expanded,0x" [Next 37 1 ",0x"]),
+    sas!([] ",0x" [Hexadecimal 36 2 ",0,0,0,0x"]),
 ];
 
 /// SAS devices, as nodes of their own.
 #[rattlefmt::skip]
 const SAS_EX: &[Row] = &[
-    row!(3 22 Read 20 [16 = 0x00, 17 = 0x00] [] "SasEx(0x" [Forth 0 8 ",0x"] [Forth 8 8 ",0x"]
-        [Hexadecimal 18 2 ",NoTopology,0,0,0)"] Nothing ""),
-    row!(3 22 Read 20 [16 = 0x01, 17 = 0x00] [] "SasEx(0x" [Forth 0 8 ",0x"] [Forth 8 8 ",0x"]
-        [Hexadecimal 18 2 ",SAS,Internal,Direct,0)"] Nothing ""),
-    row!(3 22 Read 20 [16 = 0x11, 17 = 0x00] [] "SasEx(0x" [Forth 0 8 ",0x"] [Forth 8 8 ",0x"]
-        [Hexadecimal 18 2 ",SATA,Internal,Direct,0)"] Nothing ""),
-    row!(3 22 Read 20 [16 = 0x21, 17 = 0x00] [] "SasEx(0x" [Forth 0 8 ",0x"] [Forth 8 8 ",0x"]
-        [Hexadecimal 18 2 ",SAS,External,Direct,0)"] Nothing ""),
-    row!(3 22 Read 20 [16 = 0x31, 17 = 0x00] [] "SasEx(0x" [Forth 0 8 ",0x"] [Forth 8 8 ",0x"]
-        [Hexadecimal 18 2 ",SATA,External,Direct,0)"] Nothing ""),
-    row!(3 22 Read 20 [16 = 0x41, 17 = 0x00] [] "SasEx(0x" [Forth 0 8 ",0x"] [Forth 8 8 ",0x"]
-        [Hexadecimal 18 2 ",SAS,Internal,Expanded,0)"] Nothing ""),
-    row!(3 22 Read 20 [16 = 0x51, 17 = 0x00] [] "SasEx(0x" [Forth 0 8 ",0x"] [Forth 8 8 ",0x"]
-        [Hexadecimal 18 2 ",SATA,Internal,Expanded,0)"] Nothing ""),
-    row!(3 22 Read 20 [16 = 0x61, 17 = 0x00] [] "SasEx(0x" [Forth 0 8 ",0x"] [Forth 8 8 ",0x"]
-        [Hexadecimal 18 2 ",SAS,External,Expanded,0)"] Nothing ""),
-    row!(3 22 Read 20 [16 = 0x71, 17 = 0x00] [] "SasEx(0x" [Forth 0 8 ",0x"] [Forth 8 8 ",0x"]
-        [Hexadecimal 18 2 ",SATA,External,Expanded,0)"] Nothing ""),
-    row!(3 22 Read 20 [16 = 0x02] [] "SasEx(0x" [Forth 0 8 ",0x"] [Forth 8 8 ",0x"]
-        [Hexadecimal 18 2 ",SAS,Internal,Direct,0x"] [Next 17 1 ")"] Nothing ""),
-    row!(3 22 Read 20 [16 = 0x12] [] "SasEx(0x" [Forth 0 8 ",0x"] [Forth 8 8 ",0x"]
-        [Hexadecimal 18 2 ",SATA,Internal,Direct,0x"] [Next 17 1 ")"] Nothing ""),
-    row!(3 22 Read 20 [16 = 0x22] [] "SasEx(0x" [Forth 0 8 ",0x"] [Forth 8 8 ",0x"]
-        [Hexadecimal 18 2 ",SAS,External,Direct,0x"] [Next 17 1 ")"] Nothing ""),
-    row!(3 22 Read 20 [16 = 0x32] [] "SasEx(0x" [Forth 0 8 ",0x"] [Forth 8 8 ",0x"]
-        [Hexadecimal 18 2 ",SATA,External,Direct,0x"] [Next 17 1 ")"] Nothing ""),
-    row!(3 22 Read 20 [16 = 0x42] [] "SasEx(0x" [Forth 0 8 ",0x"] [Forth 8 8 ",0x"]
-        [Hexadecimal 18 2 ",SAS,Internal,Expanded,0x"] [Next 17 1 ")"] Nothing ""),
-    row!(3 22 Read 20 [16 = 0x52] [] "SasEx(0x" [Forth 0 8 ",0x"] [Forth 8 8 ",0x"]
-        [Hexadecimal 18 2 ",SATA,Internal,Expanded,0x"] [Next 17 1 ")"] Nothing ""),
-    row!(3 22 Read 20 [16 = 0x62] [] "SasEx(0x" [Forth 0 8 ",0x"] [Forth 8 8 ",0x"]
-        [Hexadecimal 18 2 ",SAS,External,Expanded,0x"] [Next 17 1 ")"] Nothing ""),
-    row!(3 22 Read 20 [16 = 0x72] [] "SasEx(0x" [Forth 0 8 ",0x"] [Forth 8 8 ",0x"]
-        [Hexadecimal 18 2 ",SATA,External,Expanded,0x"] [Next 17 1 ")"] Nothing ""),
-    row!(3 22 Read 20 [] [] "SasEx(0x" [Forth 0 8 ",0x"] [Forth 8 8 ",0x"] [Hexadecimal 18 2 ",0x"]
-        [Hexadecimal 16 2 ",0,0,0)"] Nothing ""),
+    sas_ex!([SAS_EX_INFO = [0x00 0x00]] ",NoTopology,0,0,0)"),
+    sas_ex!([SAS_EX_INFO = [0x01 0x00]] ",SAS,Internal,Direct,0)"),
+    sas_ex!([SAS_EX_INFO = [0x11 0x00]] ",SATA,Internal,Direct,0)"),
+    sas_ex!([SAS_EX_INFO = [0x21 0x00]] ",SAS,External,Direct,0)"),
+    sas_ex!([SAS_EX_INFO = [0x31 0x00]] ",SATA,External,Direct,0)"),
+    sas_ex!([SAS_EX_INFO = [0x41 0x00]] ",SAS,Internal,Expanded,0)"),
+    sas_ex!([SAS_EX_INFO = [0x51 0x00]] ",SATA,Internal,Expanded,0)"),
+    sas_ex!([SAS_EX_INFO = [0x61 0x00]] ",SAS,External,Expanded,0)"),
+    sas_ex!([SAS_EX_INFO = [0x71 0x00]] ",SATA,External,Expanded,0)"),
+    sas_ex!([SAS_EX_INFO = 0x02] ",SAS,Internal,Direct,0x" [Next SAS_EX_INFO + 1 1 ")"]),
+    sas_ex!([SAS_EX_INFO = 0x12] ",SATA,Internal,Direct,0x" [Next SAS_EX_INFO + 1 1 ")"]),
+    sas_ex!([SAS_EX_INFO = 0x22] ",SAS,External,Direct,0x" [Next SAS_EX_INFO + 1 1 ")"]),
+    sas_ex!([SAS_EX_INFO = 0x32] ",SATA,External,Direct,0x" [Next SAS_EX_INFO + 1 1 ")"]),
+    sas_ex!([SAS_EX_INFO = 0x42] ",SAS,Internal,Expanded,0x" [Next SAS_EX_INFO + 1 1 ")"]),
+    sas_ex!([SAS_EX_INFO = 0x52] ",SATA,Internal,Expanded,0x" [Next SAS_EX_INFO + 1 1 ")"]),
+    sas_ex!([SAS_EX_INFO = 0x62] ",SAS,External,Expanded,0x" [Next SAS_EX_INFO + 1 1 ")"]),
+    sas_ex!([SAS_EX_INFO = 0x72] ",SATA,External,Expanded,0x" [Next SAS_EX_INFO + 1 1 ")"]),
+    sas_ex!([] ",0x" [Hexadecimal SAS_EX_INFO ",0,0,0)"]),
 ];
 
 /// Nodes of type Messaging, but for those above and below.
 #[rattlefmt::skip]
 const MESSAGING: &[Row] = &[
-    row!(3 1 Display 4 [] [] "Ata(0x" [Hexadecimal 2 2 ")"] Nothing ""),
-    row!(3 1 Read 4 [0 = 0x01, 1 = 0x01] [] "Ata(Secondary,Slave,0x" [Hexadecimal 2 2 ")"] Nothing ""),
-    row!(3 1 Read 4 [0 = 0x01] [] "Ata(Secondary,Master,0x" [Hexadecimal 2 2 ")"] Nothing ""),
-    row!(3 1 Read 4 [1 = 0x01] [] "Ata(Primary,Slave,0x" [Hexadecimal 2 2 ")"] Nothing ""),
-    row!(3 1 Read 4 [] [] "Ata(Primary,Master,0x" [Hexadecimal 2 2 ")"] Nothing ""),
-    row!(3 2 Read 4 [] [] "Scsi(0x" [Hexadecimal 0 2 ",0x"] [Hexadecimal 2 2 ")"] Nothing ""),
-    row!(3 3 Read 20 [] [] "Fibre(0x" [Hexadecimal 4 8 ",0x"] [Hexadecimal 12 8 ")"] Nothing ""),
-    row!(3 4 Read 12 [] [] "I1394(" [Back 4 8 ")"] Nothing ""),
-    row!(3 5 Read 2 [] [] "USB(0x" [Hexadecimal 0 1 ",0x"] [Hexadecimal 1 1 ")"] Nothing ""),
-    row!(3 6 Read 4 [] [] "I2O(0x" [Hexadecimal 0 4 ")"] Nothing ""),
-    row!(3 9 Read 44 [] [] "Infiniband(0x" [Hexadecimal 0 4 ","] [Guid 4 ",0x"]
-        [Hexadecimal 20 8 ",0x"] [Hexadecimal 28 8 ",0x"] [Hexadecimal 36 8 ")"] Nothing ""),
-    row!(3 10 Read 20 [Uart, 16 = 0x00, 17 = 0x00, 18 = 0x00, 19 = 0x00] [] "UartFlowCtrl(None)"
+    row!(MESSAGING_TYPE ATAPI Display ATAPI_LEAST [] [] "Ata(0x"
+        [Hexadecimal ATAPI_LOGICAL_UNIT_NUMBER ")"] Nothing ""),
+    row!(MESSAGING_TYPE ATAPI Read ATAPI_LEAST
+        [ATAPI_PRIMARY_SECONDARY = 0x01, ATAPI_MASTER_SLAVE = 0x01] [] "Ata(Secondary,Slave,0x"
+        [Hexadecimal ATAPI_LOGICAL_UNIT_NUMBER ")"] Nothing ""),
+    row!(MESSAGING_TYPE ATAPI Read ATAPI_LEAST [ATAPI_PRIMARY_SECONDARY = 0x01] []
+        "Ata(Secondary,Master,0x" [Hexadecimal ATAPI_LOGICAL_UNIT_NUMBER ")"] Nothing ""),
+    row!(MESSAGING_TYPE ATAPI Read ATAPI_LEAST [ATAPI_MASTER_SLAVE = 0x01] [] "Ata(Primary,Slave,0x"
+        [Hexadecimal ATAPI_LOGICAL_UNIT_NUMBER ")"] Nothing ""),
+    row!(MESSAGING_TYPE ATAPI Read ATAPI_LEAST [] [] "Ata(Primary,Master,0x"
+        [Hexadecimal ATAPI_LOGICAL_UNIT_NUMBER ")"] Nothing ""),
+    row!(MESSAGING_TYPE SCSI Read SCSI_LEAST [] [] "Scsi(0x" [Hexadecimal SCSI_TARGET_ID ",0x"]
+        [Hexadecimal SCSI_LOGICAL_UNIT_NUMBER ")"] Nothing ""),
+    row!(MESSAGING_TYPE FIBRE_CHANNEL Read FIBRE_CHANNEL_LEAST [] [] "Fibre(0x"
+        [Hexadecimal FIBRE_CHANNEL_WORLD_WIDE_NAME ",0x"]
+        [Hexadecimal FIBRE_CHANNEL_LOGICAL_UNIT_NUMBER ")"] Nothing ""),
+    row!(MESSAGING_TYPE IEEE1394 Read IEEE1394_LEAST [] [] "I1394(" [Back IEEE1394_GUID ")"] Nothing
+        ""),
+    row!(MESSAGING_TYPE USB Read USB_LEAST [] [] "USB(0x" [Hexadecimal USB_PARENT_PORT_NUMBER ",0x"]
+        [Hexadecimal USB_INTERFACE ")"] Nothing ""),
+    row!(MESSAGING_TYPE I2O Read I2O_LEAST [] [] "I2O(0x" [Hexadecimal I2O_TARGET_ID ")"] Nothing ""),
+    row!(MESSAGING_TYPE INFINIBAND Read INFINIBAND_LEAST [] [] "Infiniband(0x"
+        [Hexadecimal INFINIBAND_RESOURCE_FLAGS ","] [Guid INFINIBAND_PORT_GID ",0x"]
+        [Hexadecimal INFINIBAND_IOC_GUID_OR_SERVICE_ID ",0x"]
+        [Hexadecimal INFINIBAND_TARGET_PORT_ID ",0x"] [Hexadecimal INFINIBAND_DEVICE_ID ")"] Nothing
+        ""),
+    row!(MESSAGING_TYPE MESSAGING_VENDOR Read 20 [Uart, 16 = 0x00, 17 = 0x00, 18 = 0x00, 19 = 0x00]
+        [] "UartFlowCtrl(None)" Nothing ""),
+    row!(MESSAGING_TYPE MESSAGING_VENDOR Read 20 [Uart, 16 = 0x01, 17 = 0x00, 18 = 0x00, 19 = 0x00]
+        [] "UartFlowCtrl(Hardware)" Nothing ""),
+    row!(MESSAGING_TYPE MESSAGING_VENDOR Read 20 [Uart, 16 = 0x02, 17 = 0x00, 18 = 0x00, 19 = 0x00]
+        [] "UartFlowCtrl(XonXoff)" Nothing ""),
+    row!(MESSAGING_TYPE MESSAGING_VENDOR Read MESSAGING_VENDOR_LEAST [] [] "VenMsg("
+        [Guid MESSAGING_VENDOR_VENDOR_GUID ""] Bytes ")"),
+    row!(MESSAGING_TYPE MAC_ADDRESS Read MAC_ADDRESS_LEAST [MAC_ADDRESS_INTERFACE_TYPE = 0x00] []
+        "MAC(" [Forth MAC_ADDRESS_MAC_ADDRESS + 0 6 ",0x0)"] Nothing ""),
+    row!(MESSAGING_TYPE MAC_ADDRESS Read MAC_ADDRESS_LEAST [MAC_ADDRESS_INTERFACE_TYPE = 0x01] []
+        "MAC(" [Forth MAC_ADDRESS_MAC_ADDRESS + 0 6 ",0x1)"] Nothing ""),
+    row!(MESSAGING_TYPE MAC_ADDRESS Printed MAC_ADDRESS_LEAST [] [] "MAC("
+        [Forth MAC_ADDRESS_MAC_ADDRESS ",0x"] [Hexadecimal MAC_ADDRESS_INTERFACE_TYPE ")"] Nothing
+        ""),
+    row!(MESSAGING_TYPE UART Read UART_LEAST [] [] "Uart(" [OrDefault UART_BAUD_RATE ","]
+        [OrDefault UART_DATA_BITS ","] [Word Parity UART_PARITY] [Word StopBits UART_STOP_BITS]
         Nothing ""),
-    row!(3 10 Read 20 [Uart, 16 = 0x01, 17 = 0x00, 18 = 0x00, 19 = 0x00] [] "UartFlowCtrl(Hardware)"
+    row!(MESSAGING_TYPE USB_WWID Read USB_WWID_LEAST [] [] "UsbWwid(0x"
+        [Hexadecimal USB_WWID_DEVICE_VENDOR_ID ",0x"] [Hexadecimal USB_WWID_DEVICE_PRODUCT_ID ",0x"]
+        [Hexadecimal USB_WWID_INTERFACE_NUMBER ",\""] Utf16 "\")"),
+    row!(MESSAGING_TYPE DNS Read 17 [DNS_ADDRESS_TYPE = 0x00] [] "Dns(" [Ipv4 DNS_ADDRESS ""]
+        Repeated Ipv4 ")"),
+    row!(MESSAGING_TYPE DNS Read 17 [] [DNS_ADDRESS_TYPE = 0x01] "Dns(" [Ipv6 DNS_ADDRESS ""]
+        Repeated Ipv6 ")"),
+    row!(MESSAGING_TYPE DEVICE_LOGICAL_UNIT Read DEVICE_LOGICAL_UNIT_LEAST [] [] "Unit(0x"
+        [Hexadecimal DEVICE_LOGICAL_UNIT_LOGICAL_UNIT_NUMBER ")"] Nothing ""),
+    row!(MESSAGING_TYPE SATA Read SATA_LEAST [] [] "Sata(0x"
+        [Hexadecimal SATA_HBA_PORT_NUMBER ",0x"]
+        [Hexadecimal SATA_PORT_MULTIPLIER_PORT_NUMBER ",0x"]
+        [Hexadecimal SATA_LOGICAL_UNIT_NUMBER ")"] Nothing ""),
+    row!(MESSAGING_TYPE VLAN Read VLAN_LEAST [] [] "Vlan(" [Decimal VLAN_VLAN_ID ")"] Nothing ""),
+    row!(MESSAGING_TYPE FIBRE_CHANNEL_EX Read FIBRE_CHANNEL_EX_LEAST [] [] "FibreEx(0x"
+        [Forth FIBRE_CHANNEL_EX_WORLD_WIDE_NAME ",0x"]
+        [Forth FIBRE_CHANNEL_EX_LOGICAL_UNIT_NUMBER ")"] Nothing ""),
+    row!(MESSAGING_TYPE NVME_NAMESPACE Read NVME_NAMESPACE_LEAST [] [] "NVMe(0x"
+        [Hexadecimal NVME_NAMESPACE_NAMESPACE_IDENTIFIER ","]
+        [Dashed NVME_NAMESPACE_IEEE_EXTENDED_UNIQUE_IDENTIFIER ")"] Nothing ""),
+    row!(MESSAGING_TYPE ISCSI Read ISCSI_LEAST [] [] "iSCSI(" Name ",0x"
+        [Hexadecimal ISCSI_TARGET_PORTAL_GROUP_TAG ",0x"] [Forth ISCSI_LOGICAL_UNIT_NUMBER ","]
+        [Word Digests ISCSI_OPTIONS + 0 1] [Word Login ISCSI_OPTIONS + 1 1]
+        [Word Protocol ISCSI_PROTOCOL]),
+    row!(MESSAGING_TYPE WIFI Read 0 + WIFI_LEAST [] [] "Wi-Fi(" Padded ")"),
+    row!(MESSAGING_TYPE URI Read URI_LEAST [] [] "Uri(" Text ")"),
+    row!(MESSAGING_TYPE UFS Read UFS_LEAST [] [] "UFS(0x" [Hexadecimal UFS_TARGET_ID ",0x"]
+        [Hexadecimal UFS_LOGICAL_UNIT_NUMBER ")"] Nothing ""),
+    row!(MESSAGING_TYPE SD Read SD_LEAST [] [] "SD(0x" [Hexadecimal SD_SLOT_NUMBER ")"] Nothing ""),
+    row!(MESSAGING_TYPE BLUETOOTH Read BLUETOOTH_LEAST [] [] "Bluetooth("
+        [Forth BLUETOOTH_DEVICE_ADDRESS ")"] Nothing ""),
+    row!(MESSAGING_TYPE EMMC Read EMMC_LEAST [] [] "eMMC(0x" [Hexadecimal EMMC_SLOT_NUMBER ")"]
         Nothing ""),
-    row!(3 10 Read 20 [Uart, 16 = 0x02, 17 = 0x00, 18 = 0x00, 19 = 0x00] [] "UartFlowCtrl(XonXoff)"
-        Nothing ""),
-    row!(3 10 Read 16 [] [] "VenMsg(" [Guid 0 ""] Bytes ")"),
-    row!(3 11 Read 33 [32 = 0x00] [] "MAC(" [Forth 0 6 ",0x0)"] Nothing ""),
-    row!(3 11 Read 33 [32 = 0x01] [] "MAC(" [Forth 0 6 ",0x1)"] Nothing ""),
-    row!(3 11 Printed 33 [] [] "MAC(" [Forth 0 32 ",0x"] [Hexadecimal 32 1 ")"] Nothing ""),
-    row!(3 14 Read 15 [] [] "Uart(" [OrDefault 4 8 ","] [OrDefault 12 1 ","] [Word Parity 13 1]
-        [Word StopBits 14 1] Nothing ""),
-    row!(3 16 Read 6 [] [] "UsbWwid(0x" [Hexadecimal 2 2 ",0x"] [Hexadecimal 4 2 ",0x"]
-        [Hexadecimal 0 2 ",\""] Utf16 "\")"),
-    row!(3 31 Read 17 [0 = 0x00] [] "Dns(" [Ipv4 1 ""] Repeated Ipv4 ")"),
-    row!(3 31 Read 17 [] [0 = 0x01] "Dns(" [Ipv6 1 ""] Repeated Ipv6 ")"),
-    row!(3 17 Read 1 [] [] "Unit(0x" [Hexadecimal 0 1 ")"] Nothing ""),
-    row!(3 18 Read 6 [] [] "Sata(0x" [Hexadecimal 0 2 ",0x"] [Hexadecimal 2 2 ",0x"]
-        [Hexadecimal 4 2 ")"] Nothing ""),
-    row!(3 20 Read 2 [] [] "Vlan(" [Decimal 0 2 ")"] Nothing ""),
-    row!(3 21 Read 20 [] [] "FibreEx(0x" [Forth 4 8 ",0x"] [Forth 12 8 ")"] Nothing ""),
-    row!(3 23 Read 12 [] [] "NVMe(0x" [Hexadecimal 0 4 ","] [Dashed 4 8 ")"] Nothing ""),
-    row!(3 19 Read 14 [] [] "iSCSI(" Name ",0x" [Hexadecimal 12 2 ",0x"] [Forth 4 8 ","]
-        [Word Digests 2 1] [Word Login 3 1] [Word Protocol 0 2]),
-    row!(3 28 Read 0 + 32 [] [] "Wi-Fi(" Padded ")"),
-    row!(3 24 Read 0 [] [] "Uri(" Text ")"),
-    row!(3 25 Read 2 [] [] "UFS(0x" [Hexadecimal 0 1 ",0x"] [Hexadecimal 1 1 ")"] Nothing ""),
-    row!(3 26 Read 1 [] [] "SD(0x" [Hexadecimal 0 1 ")"] Nothing ""),
-    row!(3 27 Read 6 [] [] "Bluetooth(" [Forth 0 6 ")"] Nothing ""),
-    row!(3 29 Read 1 [] [] "eMMC(0x" [Hexadecimal 0 1 ")"] Nothing ""),
-    row!(3 30 Read 7 [] [] "BluetoothLE(" [Forth 0 6 ",0x"] [Forth 6 1 ")"] Nothing ""),
+    row!(MESSAGING_TYPE BLUETOOTH_LE Read BLUETOOTH_LE_LEAST [] [] "BluetoothLE("
+        [Forth BLUETOOTH_LE_DEVICE_ADDRESS ",0x"] [Forth BLUETOOTH_LE_ADDRESS_TYPE ")"] Nothing ""),
 ];
 
 /// Connections over IP version 4, with a gateway and a mask and without.
 #[rattlefmt::skip]
 const IPV4: &[Row] = &[
-    row!(3 12 Display 15 [] [] "IPv4(" [Ipv4 4 ")"] Nothing ""),
-    row!(3 12 Read 23 [12 = 0x06, 13 = 0x00, 14 = 0x00] [] "IPv4(" [Ipv4 4 ",TCP,DHCP,"] [Ipv4 0 ","]
-        [Ipv4 15 ","] [Ipv4 19 ")"] Nothing ""),
-    row!(3 12 Read 23 [12 = 0x06, 13 = 0x00] [14 = 0x01] "IPv4(" [Ipv4 4 ",TCP,Static,"] [Ipv4 0 ","]
-        [Ipv4 15 ","] [Ipv4 19 ")"] Nothing ""),
-    row!(3 12 Read 23 [12 = 0x11, 13 = 0x00, 14 = 0x00] [] "IPv4(" [Ipv4 4 ",UDP,DHCP,"] [Ipv4 0 ","]
-        [Ipv4 15 ","] [Ipv4 19 ")"] Nothing ""),
-    row!(3 12 Read 23 [12 = 0x11, 13 = 0x00] [14 = 0x01] "IPv4(" [Ipv4 4 ",UDP,Static,"] [Ipv4 0 ","]
-        [Ipv4 15 ","] [Ipv4 19 ")"] Nothing ""),
-    row!(3 12 Read 23 [14 = 0x00] [] "IPv4(" [Ipv4 4 ",0x"] [Hexadecimal 12 2 ",DHCP,"] [Ipv4 0 ","]
-        [Ipv4 15 ","] [Ipv4 19 ")"] Nothing ""),
-    row!(3 12 Read 23 [] [14 = 0x01] "IPv4(" [Ipv4 4 ",0x"] [Hexadecimal 12 2 ",Static,"] [Ipv4 0 ","]
-        [Ipv4 15 ","] [Ipv4 19 ")"] Nothing ""),
-    row!(3 12 Read 15 [12 = 0x06, 13 = 0x00, 14 = 0x00] [] "IPv4(" [Ipv4 4 ",TCP,DHCP,"] [Ipv4 0 ")"]
+    row!(MESSAGING_TYPE IPV4 Display IPV4_LEAST [] [] "IPv4(" [Ipv4 IPV4_REMOTE_IP_ADDRESS ")"]
         Nothing ""),
-    row!(3 12 Read 15 [12 = 0x06, 13 = 0x00] [14 = 0x01] "IPv4(" [Ipv4 4 ",TCP,Static,"] [Ipv4 0 ")"]
-        Nothing ""),
-    row!(3 12 Read 15 [12 = 0x11, 13 = 0x00, 14 = 0x00] [] "IPv4(" [Ipv4 4 ",UDP,DHCP,"] [Ipv4 0 ")"]
-        Nothing ""),
-    row!(3 12 Read 15 [12 = 0x11, 13 = 0x00] [14 = 0x01] "IPv4(" [Ipv4 4 ",UDP,Static,"] [Ipv4 0 ")"]
-        Nothing ""),
-    row!(3 12 Read 15 [14 = 0x00] [] "IPv4(" [Ipv4 4 ",0x"] [Hexadecimal 12 2 ",DHCP,"] [Ipv4 0 ")"]
-        Nothing ""),
-    row!(3 12 Read 15 [] [14 = 0x01] "IPv4(" [Ipv4 4 ",0x"] [Hexadecimal 12 2 ",Static,"] [Ipv4 0 ")"]
-        Nothing ""),
+    ipv4!(whole [IPV4_PROTOCOL = [0x06 0x00], IPV4_IP_ADDRESS_ORIGIN = 0x00] [] ",TCP,DHCP,"),
+    ipv4!(whole [IPV4_PROTOCOL = [0x06 0x00]] [IPV4_IP_ADDRESS_ORIGIN = 0x01] ",TCP,Static,"),
+    ipv4!(whole [IPV4_PROTOCOL = [0x11 0x00], IPV4_IP_ADDRESS_ORIGIN = 0x00] [] ",UDP,DHCP,"),
+    ipv4!(whole [IPV4_PROTOCOL = [0x11 0x00]] [IPV4_IP_ADDRESS_ORIGIN = 0x01] ",UDP,Static,"),
+    ipv4!(whole [IPV4_IP_ADDRESS_ORIGIN = 0x00] [] ",0x" [Hexadecimal IPV4_PROTOCOL ",DHCP,"]),
+    ipv4!(whole [] [IPV4_IP_ADDRESS_ORIGIN = 0x01] ",0x" [Hexadecimal IPV4_PROTOCOL ",Static,"]),
+    ipv4!(short [IPV4_PROTOCOL = [0x06 0x00], IPV4_IP_ADDRESS_ORIGIN = 0x00] [] ",TCP,DHCP,"),
+    ipv4!(short [IPV4_PROTOCOL = [0x06 0x00]] [IPV4_IP_ADDRESS_ORIGIN = 0x01] ",TCP,Static,"),
+    ipv4!(short [IPV4_PROTOCOL = [0x11 0x00], IPV4_IP_ADDRESS_ORIGIN = 0x00] [] ",UDP,DHCP,"),
+    ipv4!(short [IPV4_PROTOCOL = [0x11 0x00]] [IPV4_IP_ADDRESS_ORIGIN = 0x01] ",UDP,Static,"),
+    ipv4!(short [IPV4_IP_ADDRESS_ORIGIN = 0x00] [] ",0x" [Hexadecimal IPV4_PROTOCOL ",DHCP,"]),
+    ipv4!(short [] [IPV4_IP_ADDRESS_ORIGIN = 0x01] ",0x" [Hexadecimal IPV4_PROTOCOL ",Static,"]),
 ];
 
 /// Connections over IP version 6, with a prefix and a gateway.
 #[rattlefmt::skip]
 const IPV6: &[Row] = &[
-    row!(3 13 Display 39 [] [] "IPv6(" [Ipv6 16 ")"] Nothing ""),
-    row!(3 13 Read 56 [36 = 0x06, 37 = 0x00, 38 = 0x00] [] "IPv6(" [Ipv6 16 ",TCP,Static,"]
-        [Ipv6 0 ",0x"] [Hexadecimal 39 1 ","] [Ipv6 40 ")"] Nothing ""),
-    row!(3 13 Read 56 [36 = 0x06, 37 = 0x00, 38 = 0x01] [] "IPv6("
-        [Ipv6 16 ",TCP,StatelessAutoConfigure,"] [Ipv6 0 ",0x"] [Hexadecimal 39 1 ","] [Ipv6 40 ")"]
-        Nothing ""),
-    row!(3 13 Read 56 [36 = 0x06, 37 = 0x00] [38 = 0x02] "IPv6("
-        [Ipv6 16 ",TCP,StatefulAutoConfigure,"] [Ipv6 0 ",0x"] [Hexadecimal 39 1 ","] [Ipv6 40 ")"]
-        Nothing ""),
-    row!(3 13 Read 56 [36 = 0x11, 37 = 0x00, 38 = 0x00] [] "IPv6(" [Ipv6 16 ",UDP,Static,"]
-        [Ipv6 0 ",0x"] [Hexadecimal 39 1 ","] [Ipv6 40 ")"] Nothing ""),
-    row!(3 13 Read 56 [36 = 0x11, 37 = 0x00, 38 = 0x01] [] "IPv6("
-        [Ipv6 16 ",UDP,StatelessAutoConfigure,"] [Ipv6 0 ",0x"] [Hexadecimal 39 1 ","] [Ipv6 40 ")"]
-        Nothing ""),
-    row!(3 13 Read 56 [36 = 0x11, 37 = 0x00] [38 = 0x02] "IPv6("
-        [Ipv6 16 ",UDP,StatefulAutoConfigure,"] [Ipv6 0 ",0x"] [Hexadecimal 39 1 ","] [Ipv6 40 ")"]
-        Nothing ""),
-    row!(3 13 Read 56 [38 = 0x00] [] "IPv6(" [Ipv6 16 ",0x"] [Hexadecimal 36 2 ",Static,"]
-        [Ipv6 0 ",0x"] [Hexadecimal 39 1 ","] [Ipv6 40 ")"] Nothing ""),
-    row!(3 13 Read 56 [38 = 0x01] [] "IPv6(" [Ipv6 16 ",0x"]
-        [Hexadecimal 36 2 ",StatelessAutoConfigure,"] [Ipv6 0 ",0x"] [Hexadecimal 39 1 ","]
-        [Ipv6 40 ")"] Nothing ""),
-    row!(3 13 Read 56 [] [38 = 0x02] "IPv6(" [Ipv6 16 ",0x"]
-        [Hexadecimal 36 2 ",StatefulAutoConfigure,"] [Ipv6 0 ",0x"] [Hexadecimal 39 1 ","]
-        [Ipv6 40 ")"] Nothing ""),
+    row!(MESSAGING_TYPE IPV6 Display 39 [] [] "IPv6(" [Ipv6 IPV6_REMOTE_IP_ADDRESS ")"] Nothing ""),
+    ipv6!(whole [IPV6_PROTOCOL = [0x06 0x00], IPV6_IP_ADDRESS_ORIGIN = 0x00] [] ",TCP,Static,"),
+    ipv6!(whole [IPV6_PROTOCOL = [0x06 0x00], IPV6_IP_ADDRESS_ORIGIN = 0x01] []
+        ",TCP,StatelessAutoConfigure,"),
+    ipv6!(whole [IPV6_PROTOCOL = [0x06 0x00]] [IPV6_IP_ADDRESS_ORIGIN = 0x02]
+        ",TCP,StatefulAutoConfigure,"),
+    ipv6!(whole [IPV6_PROTOCOL = [0x11 0x00], IPV6_IP_ADDRESS_ORIGIN = 0x00] [] ",UDP,Static,"),
+    ipv6!(whole [IPV6_PROTOCOL = [0x11 0x00], IPV6_IP_ADDRESS_ORIGIN = 0x01] []
+        ",UDP,StatelessAutoConfigure,"),
+    ipv6!(whole [IPV6_PROTOCOL = [0x11 0x00]] [IPV6_IP_ADDRESS_ORIGIN = 0x02]
+        ",UDP,StatefulAutoConfigure,"),
+    ipv6!(whole [IPV6_IP_ADDRESS_ORIGIN = 0x00] [] ",0x" [Hexadecimal IPV6_PROTOCOL ",Static,"]),
+    ipv6!(whole [IPV6_IP_ADDRESS_ORIGIN = 0x01] [] ",0x"
+        [Hexadecimal IPV6_PROTOCOL ",StatelessAutoConfigure,"]),
+    ipv6!(whole [] [IPV6_IP_ADDRESS_ORIGIN = 0x02] ",0x"
+        [Hexadecimal IPV6_PROTOCOL ",StatefulAutoConfigure,"]),
 ];
 
 /// Connections over IP version 6 of older nodes, without these.
 #[rattlefmt::skip]
 const IPV6_SHORT: &[Row] = &[
-    row!(3 13 Read 39 [36 = 0x06, 37 = 0x00, 38 = 0x00] [] "IPv6(" [Ipv6 16 ",TCP,Static,"]
-        [Ipv6 0 ")"] Nothing ""),
-    row!(3 13 Read 39 [36 = 0x06, 37 = 0x00, 38 = 0x01] [] "IPv6("
-        [Ipv6 16 ",TCP,StatelessAutoConfigure,"] [Ipv6 0 ")"] Nothing ""),
-    row!(3 13 Read 39 [36 = 0x06, 37 = 0x00] [38 = 0x02] "IPv6("
-        [Ipv6 16 ",TCP,StatefulAutoConfigure,"] [Ipv6 0 ")"] Nothing ""),
-    row!(3 13 Read 39 [36 = 0x11, 37 = 0x00, 38 = 0x00] [] "IPv6(" [Ipv6 16 ",UDP,Static,"]
-        [Ipv6 0 ")"] Nothing ""),
-    row!(3 13 Read 39 [36 = 0x11, 37 = 0x00, 38 = 0x01] [] "IPv6("
-        [Ipv6 16 ",UDP,StatelessAutoConfigure,"] [Ipv6 0 ")"] Nothing ""),
-    row!(3 13 Read 39 [36 = 0x11, 37 = 0x00] [38 = 0x02] "IPv6("
-        [Ipv6 16 ",UDP,StatefulAutoConfigure,"] [Ipv6 0 ")"] Nothing ""),
-    row!(3 13 Read 39 [38 = 0x00] [] "IPv6(" [Ipv6 16 ",0x"] [Hexadecimal 36 2 ",Static,"]
-        [Ipv6 0 ")"] Nothing ""),
-    row!(3 13 Read 39 [38 = 0x01] [] "IPv6(" [Ipv6 16 ",0x"]
-        [Hexadecimal 36 2 ",StatelessAutoConfigure,"] [Ipv6 0 ")"] Nothing ""),
-    row!(3 13 Read 39 [] [38 = 0x02] "IPv6(" [Ipv6 16 ",0x"]
-        [Hexadecimal 36 2 ",StatefulAutoConfigure,"] [Ipv6 0 ")"] Nothing ""),
+    ipv6!(short [IPV6_PROTOCOL = [0x06 0x00], IPV6_IP_ADDRESS_ORIGIN = 0x00] [] ",TCP,Static,"),
+    ipv6!(short [IPV6_PROTOCOL = [0x06 0x00], IPV6_IP_ADDRESS_ORIGIN = 0x01] []
+        ",TCP,StatelessAutoConfigure,"),
+    ipv6!(short [IPV6_PROTOCOL = [0x06 0x00]] [IPV6_IP_ADDRESS_ORIGIN = 0x02]
+        ",TCP,StatefulAutoConfigure,"),
+    ipv6!(short [IPV6_PROTOCOL = [0x11 0x00], IPV6_IP_ADDRESS_ORIGIN = 0x00] [] ",UDP,Static,"),
+    ipv6!(short [IPV6_PROTOCOL = [0x11 0x00], IPV6_IP_ADDRESS_ORIGIN = 0x01] []
+        ",UDP,StatelessAutoConfigure,"),
+    ipv6!(short [IPV6_PROTOCOL = [0x11 0x00]] [IPV6_IP_ADDRESS_ORIGIN = 0x02]
+        ",UDP,StatefulAutoConfigure,"),
+    ipv6!(short [IPV6_IP_ADDRESS_ORIGIN = 0x00] [] ",0x" [Hexadecimal IPV6_PROTOCOL ",Static,"]),
+    ipv6!(short [IPV6_IP_ADDRESS_ORIGIN = 0x01] [] ",0x"
+        [Hexadecimal IPV6_PROTOCOL ",StatelessAutoConfigure,"]),
+    ipv6!(short [] [IPV6_IP_ADDRESS_ORIGIN = 0x02] ",0x"
+        [Hexadecimal IPV6_PROTOCOL ",StatefulAutoConfigure,"]),
 ];
 
 /// Classes of USB devices.
@@ -414,73 +498,92 @@ const USB_CLASSES: &[Row] = &[
     usb_class!(0x0e "UsbVideo(0x"),
     usb_class!(0xdc "UsbDiagnostic(0x"),
     usb_class!(0xe0 "UsbWireless(0x"),
-    row!(3 15 Read 7 [4 = 0xfe, 5 = 0x01] [] "UsbDeviceFirmwareUpdate(0x" [Hexadecimal 0 2 ",0x"]
-        [Hexadecimal 2 2 ",0x"] [Hexadecimal 6 1 ")"] Nothing ""),
-    row!(3 15 Read 7 [4 = 0xfe, 5 = 0x02] [] "UsbIrdaBridge(0x" [Hexadecimal 0 2 ",0x"]
-        [Hexadecimal 2 2 ",0x"] [Hexadecimal 6 1 ")"] Nothing ""),
-    row!(3 15 Read 7 [4 = 0xfe, 5 = 0x03] [] "UsbTestAndMeasurement(0x" [Hexadecimal 0 2 ",0x"]
-        [Hexadecimal 2 2 ",0x"] [Hexadecimal 6 1 ")"] Nothing ""),
-    row!(3 15 Read 7 [] [] "UsbClass(0x" [Hexadecimal 0 2 ",0x"] [Hexadecimal 2 2 ",0x"]
-        [Hexadecimal 4 1 ",0x"] [Hexadecimal 5 1 ",0x"] [Hexadecimal 6 1 ")"] Nothing ""),
+    row!(MESSAGING_TYPE USB_CLASS Read USB_CLASS_LEAST
+        [USB_CLASS_DEVICE_CLASS = 0xfe, USB_CLASS_DEVICE_SUBCLASS = 0x01] []
+        "UsbDeviceFirmwareUpdate(0x" [Hexadecimal USB_CLASS_VENDOR_ID ",0x"]
+        [Hexadecimal USB_CLASS_PRODUCT_ID ",0x"] [Hexadecimal USB_CLASS_DEVICE_PROTOCOL ")"] Nothing
+        ""),
+    row!(MESSAGING_TYPE USB_CLASS Read USB_CLASS_LEAST
+        [USB_CLASS_DEVICE_CLASS = 0xfe, USB_CLASS_DEVICE_SUBCLASS = 0x02] [] "UsbIrdaBridge(0x"
+        [Hexadecimal USB_CLASS_VENDOR_ID ",0x"] [Hexadecimal USB_CLASS_PRODUCT_ID ",0x"]
+        [Hexadecimal USB_CLASS_DEVICE_PROTOCOL ")"] Nothing ""),
+    row!(MESSAGING_TYPE USB_CLASS Read USB_CLASS_LEAST
+        [USB_CLASS_DEVICE_CLASS = 0xfe, USB_CLASS_DEVICE_SUBCLASS = 0x03] []
+        "UsbTestAndMeasurement(0x" [Hexadecimal USB_CLASS_VENDOR_ID ",0x"]
+        [Hexadecimal USB_CLASS_PRODUCT_ID ",0x"] [Hexadecimal USB_CLASS_DEVICE_PROTOCOL ")"] Nothing
+        ""),
+    row!(MESSAGING_TYPE USB_CLASS Read USB_CLASS_LEAST [] [] "UsbClass(0x"
+        [Hexadecimal USB_CLASS_VENDOR_ID ",0x"] [Hexadecimal USB_CLASS_PRODUCT_ID ",0x"]
+        [Hexadecimal USB_CLASS_DEVICE_CLASS ",0x"] [Hexadecimal USB_CLASS_DEVICE_SUBCLASS ",0x"]
+        [Hexadecimal USB_CLASS_DEVICE_PROTOCOL ")"] Nothing ""),
 ];
 
 /// Nodes of type Media, but for those that name files.
 #[rattlefmt::skip]
 const MEDIA: &[Row] = &[
-    row!(4 1 Read 38 [37 = 0x01] [36 = 0x01] "HD(" [Decimal 0 4 ",MBR,0x"] [Back 20 4 ",0x"]
-        [Hexadecimal 4 8 ",0x"] [Hexadecimal 12 8 ")"] Nothing ""),
-    row!(4 1 Read 38 [37 = 0x02] [36 = 0x02] "HD(" [Decimal 0 4 ",GPT,"] [Guid 20 ",0x"]
-        [Hexadecimal 4 8 ",0x"] [Hexadecimal 12 8 ")"] Nothing ""),
-    row!(4 1 Printed 38 [] [] "HD(" [Decimal 0 4 ","] [Decimal 37 1 ",0,0x"] [Hexadecimal 4 8 ",0x"]
-        [Hexadecimal 12 8 ")"] Nothing ""),
-    row!(4 2 Display 20 [] [] "CDROM(0x" [Hexadecimal 0 4 ")"] Nothing ""),
-    row!(4 2 Read 20 [] [] "CDROM(0x" [Hexadecimal 0 4 ",0x"] [Hexadecimal 4 8 ",0x"]
-        [Hexadecimal 12 8 ")"] Nothing ""),
-    row!(4 3 Read 16 [] [] "VenMedia(" [Guid 0 ""] Bytes ")"),
-    row!(4 5 Read 16 [] [] "Media(" [Guid 0 ")"] Nothing ""),
-    row!(4 6 Read 16 [] [] "FvFile(" [Guid 0 ")"] Nothing ""),
-    row!(4 7 Read 16 [] [] "Fv(" [Guid 0 ")"] Nothing ""),
-    row!(4 8 Read 20 [] [] "Offset(0x" [Hexadecimal 4 8 ",0x"] [Hexadecimal 12 8 ")"] Nothing ""),
-    row!(4 9 Read 34
-        [16 = 0x5a, 17 = 0x53, 18 = 0xab, 19 = 0x77, 20 = 0xfc, 21 = 0x45, 22 = 0x4b, 23 = 0x62,
-            24 = 0x55, 25 = 0x60, 26 = 0xf7, 27 = 0xb2, 28 = 0x81, 29 = 0xd1, 30 = 0xf9, 31 = 0x6e] []
-        "VirtualDisk(0x" [Hexadecimal 0 8 ",0x"] [Hexadecimal 8 8 ","] [Decimal 32 2 ")"] Nothing ""),
-    row!(4 9 Read 34
-        [16 = 0x30, 17 = 0xbd, 18 = 0x5a, 19 = 0x3d, 20 = 0x75, 21 = 0x41, 22 = 0xce, 23 = 0x87,
-            24 = 0x6d, 25 = 0x64, 26 = 0xd2, 27 = 0xad, 28 = 0xe5, 29 = 0x23, 30 = 0xc4, 31 = 0xbb] []
-        "VirtualCD(0x" [Hexadecimal 0 8 ",0x"] [Hexadecimal 8 8 ","] [Decimal 32 2 ")"] Nothing ""),
-    row!(4 9 Read 34
-        [16 = 0xc9, 17 = 0x02, 18 = 0xea, 19 = 0x5c, 20 = 0x07, 21 = 0x4d, 22 = 0xd3, 23 = 0x69,
-            24 = 0x26, 25 = 0x9f, 26 = 0x44, 27 = 0x96, 28 = 0xfb, 29 = 0xe0, 30 = 0x96, 31 = 0xf9] []
-        "PersistentVirtualDisk(0x" [Hexadecimal 0 8 ",0x"] [Hexadecimal 8 8 ","] [Decimal 32 2 ")"]
+    row!(MEDIA_TYPE HARD_DRIVE Read HARD_DRIVE_LEAST [HARD_DRIVE_SIGNATURE_TYPE = 0x01]
+        [HARD_DRIVE_PARTITION_FORMAT = 0x01] "HD(" [Decimal HARD_DRIVE_PARTITION_NUMBER ",MBR,0x"]
+        [Back HARD_DRIVE_PARTITION_SIGNATURE + 0 4 ",0x"]
+        [Hexadecimal HARD_DRIVE_PARTITION_START ",0x"] [Hexadecimal HARD_DRIVE_PARTITION_SIZE ")"]
         Nothing ""),
-    row!(4 9 Read 34
-        [16 = 0x88, 17 = 0x81, 18 = 0x01, 19 = 0x08, 20 = 0xcd, 21 = 0x42, 22 = 0x48, 23 = 0xbb,
-            24 = 0x10, 25 = 0x0f, 26 = 0x53, 27 = 0x87, 28 = 0xd5, 29 = 0x3d, 30 = 0xed, 31 = 0x3d] []
-        "PersistentVirtualCD(0x" [Hexadecimal 0 8 ",0x"] [Hexadecimal 8 8 ","] [Decimal 32 2 ")"]
+    row!(MEDIA_TYPE HARD_DRIVE Read HARD_DRIVE_LEAST [HARD_DRIVE_SIGNATURE_TYPE = 0x02]
+        [HARD_DRIVE_PARTITION_FORMAT = 0x02] "HD(" [Decimal HARD_DRIVE_PARTITION_NUMBER ",GPT,"]
+        [Guid HARD_DRIVE_PARTITION_SIGNATURE ",0x"] [Hexadecimal HARD_DRIVE_PARTITION_START ",0x"]
+        [Hexadecimal HARD_DRIVE_PARTITION_SIZE ")"] Nothing ""),
+    row!(MEDIA_TYPE HARD_DRIVE Printed HARD_DRIVE_LEAST [] [] "HD("
+        [Decimal HARD_DRIVE_PARTITION_NUMBER ","] [Decimal HARD_DRIVE_SIGNATURE_TYPE ",0,0x"]
+        [Hexadecimal HARD_DRIVE_PARTITION_START ",0x"] [Hexadecimal HARD_DRIVE_PARTITION_SIZE ")"]
         Nothing ""),
-    row!(4 9 Read 34 [] [] "RamDisk(0x" [Hexadecimal 0 8 ",0x"] [Hexadecimal 8 8 ","]
-        [Decimal 32 2 ","] [Guid 16 ")"] Nothing ""),
+    row!(MEDIA_TYPE CD_ROM Display CD_ROM_LEAST [] [] "CDROM(0x" [Hexadecimal CD_ROM_BOOT_ENTRY ")"]
+        Nothing ""),
+    row!(MEDIA_TYPE CD_ROM Read CD_ROM_LEAST [] [] "CDROM(0x" [Hexadecimal CD_ROM_BOOT_ENTRY ",0x"]
+        [Hexadecimal CD_ROM_PARTITION_START ",0x"] [Hexadecimal CD_ROM_PARTITION_SIZE ")"] Nothing
+        ""),
+    row!(MEDIA_TYPE MEDIA_VENDOR Read MEDIA_VENDOR_LEAST [] [] "VenMedia("
+        [Guid MEDIA_VENDOR_VENDOR_GUID ""] Bytes ")"),
+    row!(MEDIA_TYPE PROTOCOL Read PROTOCOL_LEAST [] [] "Media(" [Guid PROTOCOL_PROTOCOL_GUID ")"]
+        Nothing ""),
+    row!(MEDIA_TYPE FIRMWARE_FILE Read FIRMWARE_FILE_LEAST [] [] "FvFile("
+        [Guid FIRMWARE_FILE_FILE_NAME ")"] Nothing ""),
+    row!(MEDIA_TYPE FIRMWARE_VOLUME Read FIRMWARE_VOLUME_LEAST [] [] "Fv("
+        [Guid FIRMWARE_VOLUME_VOLUME_NAME ")"] Nothing ""),
+    row!(MEDIA_TYPE RELATIVE_OFFSET_RANGE Read RELATIVE_OFFSET_RANGE_LEAST [] [] "Offset(0x"
+        [Hexadecimal RELATIVE_OFFSET_RANGE_STARTING_OFFSET ",0x"]
+        [Hexadecimal RELATIVE_OFFSET_RANGE_ENDING_OFFSET ")"] Nothing ""),
+    virtual_disk!([0x5a 0x53 0xab 0x77 0xfc 0x45 0x4b 0x62 0x55 0x60 0xf7 0xb2 0x81 0xd1 0xf9 0x6e]
+        "VirtualDisk(0x"),
+    virtual_disk!([0x30 0xbd 0x5a 0x3d 0x75 0x41 0xce 0x87 0x6d 0x64 0xd2 0xad 0xe5 0x23 0xc4 0xbb]
+        "VirtualCD(0x"),
+    virtual_disk!([0xc9 0x02 0xea 0x5c 0x07 0x4d 0xd3 0x69 0x26 0x9f 0x44 0x96 0xfb 0xe0 0x96 0xf9]
+        "PersistentVirtualDisk(0x"),
+    virtual_disk!([0x88 0x81 0x01 0x08 0xcd 0x42 0x48 0xbb 0x10 0x0f 0x53 0x87 0xd5 0x3d 0xed 0x3d]
+        "PersistentVirtualCD(0x"),
+    row!(MEDIA_TYPE RAM_DISK Read RAM_DISK_LEAST [] [] "RamDisk(0x"
+        [Hexadecimal RAM_DISK_STARTING_ADDRESS ",0x"] [Hexadecimal RAM_DISK_ENDING_ADDRESS ","]
+        [Decimal RAM_DISK_DISK_INSTANCE ","] [Guid RAM_DISK_DISK_TYPE ")"] Nothing ""),
 ];
 
 /// Devices that a legacy BIOS can boot, by their types (BIOS Boot Specification). Their flags are left out in
 /// texts for display alone.
 #[rattlefmt::skip]
 const BOOT: &[Row] = &[
-    row!(5 1 Display 4 + 1 [0 = 0x01, 1 = 0x00] [] "BBS(Floppy," Name ")"),
-    row!(5 1 Display 4 + 1 [0 = 0x02, 1 = 0x00] [] "BBS(HD," Name ")"),
-    row!(5 1 Display 4 + 1 [0 = 0x03, 1 = 0x00] [] "BBS(CDROM," Name ")"),
-    row!(5 1 Display 4 + 1 [0 = 0x04, 1 = 0x00] [] "BBS(PCMCIA," Name ")"),
-    row!(5 1 Display 4 + 1 [0 = 0x05, 1 = 0x00] [] "BBS(USB," Name ")"),
-    row!(5 1 Display 4 + 1 [0 = 0x06, 1 = 0x00] [] "BBS(Network," Name ")"),
-    row!(5 1 Display 4 + 1 [] [] "BBS(0x" [Hexadecimal 0 2 ","] Name ")"),
-    row!(5 1 Read 4 + 1 [0 = 0x01, 1 = 0x00] [] "BBS(Floppy," Name ",0x" [Hexadecimal 2 2 ")"]),
-    row!(5 1 Read 4 + 1 [0 = 0x02, 1 = 0x00] [] "BBS(HD," Name ",0x" [Hexadecimal 2 2 ")"]),
-    row!(5 1 Read 4 + 1 [0 = 0x03, 1 = 0x00] [] "BBS(CDROM," Name ",0x" [Hexadecimal 2 2 ")"]),
-    row!(5 1 Read 4 + 1 [0 = 0x04, 1 = 0x00] [] "BBS(PCMCIA," Name ",0x" [Hexadecimal 2 2 ")"]),
-    row!(5 1 Read 4 + 1 [0 = 0x05, 1 = 0x00] [] "BBS(USB," Name ",0x" [Hexadecimal 2 2 ")"]),
-    row!(5 1 Read 4 + 1 [0 = 0x06, 1 = 0x00] [] "BBS(Network," Name ",0x" [Hexadecimal 2 2 ")"]),
-    row!(5 1 Read 4 + 1 [] [] "BBS(0x" [Hexadecimal 0 2 ","] Name ",0x" [Hexadecimal 2 2 ")"]),
+    boot!(Display 0x01 "BBS(Floppy,"),
+    boot!(Display 0x02 "BBS(HD,"),
+    boot!(Display 0x03 "BBS(CDROM,"),
+    boot!(Display 0x04 "BBS(PCMCIA,"),
+    boot!(Display 0x05 "BBS(USB,"),
+    boot!(Display 0x06 "BBS(Network,"),
+    row!(BIOS_BOOT_SPEC_TYPE BOOT_SPECIFICATION Display BOOT_SPECIFICATION_FIXED + 1 [] [] "BBS(0x"
+        [Hexadecimal BOOT_SPECIFICATION_DEVICE_TYPE ","] Name ")"),
+    boot!(Read 0x01 "BBS(Floppy,"),
+    boot!(Read 0x02 "BBS(HD,"),
+    boot!(Read 0x03 "BBS(CDROM,"),
+    boot!(Read 0x04 "BBS(PCMCIA,"),
+    boot!(Read 0x05 "BBS(USB,"),
+    boot!(Read 0x06 "BBS(Network,"),
+    row!(BIOS_BOOT_SPEC_TYPE BOOT_SPECIFICATION Read BOOT_SPECIFICATION_FIXED + 1 [] [] "BBS(0x"
+        [Hexadecimal BOOT_SPECIFICATION_DEVICE_TYPE ","] Name ",0x"
+        [Hexadecimal BOOT_SPECIFICATION_STATUS_FLAG ")"]),
 ];
 
 /// What each item of a list has.

@@ -1,2 +1,0 @@
-pub mod MessagingNodes
-pub mod NetworkNodes

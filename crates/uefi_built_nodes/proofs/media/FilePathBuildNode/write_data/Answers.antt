@@ -1,6 +1,0 @@
-use Rattle.std.proofs.Common.{◌∙◌, ap, sym, ◌*◌, length}
-use Rattle.uefi_text.proofs.UnitBytes.{length-unit_bytes}
-use Rattle.uefi_built_nodes.proofs.media.FilePathBuildNode.write_data.Goals as goal
-
-pub split-requires : goal.split-requires
-split-requires c = c.requires ∙ length-unit_bytes _ ∙ ap (λ us. 2 * length us) (sym c.to_u16_slice_with_nul.ensures)
