@@ -1,45 +1,45 @@
 -- Texts that differ in case, in blanks or in zeros before numbers alone are read alike.
-use Rattle.std.proofs.Common.{◌≡◌, ◌≤◌, ◌+◌, ◌*◌, ℕ, Bool, true, false, cond, eqb, ltb, List, [], ◌∷◌, length, refl, sym, ap, subst, ◌∙◌, arith, true≢false}
+use Rattle.std.proofs.Common.{◌≡◌, ℕ, Bool, true, false, cond, eqb, ltb, List, [], ◌∷◌, length, refl, sym, ap, subst, ◌∙◌, arith, true≢false}
 use Rattle.std.specs.Prelude.{Option, Some, None, Result, Ok, Err, codes}
 use Rattle.std.specs.Option.{ok_or, option_map}
 use Rattle.std.specs.Result.{result_map_both, result_ok}
-use Rattle.std.proofs.lemmas.Bool.{lt-ltb}
 use borrow.Author.Tests.{eqb-true}
 use Rattle.uefi_device_nodes.specs.Nodes.{Node}
 use Rattle.uefi_node_reader.specs.Alike.{CallsAlike, IsOtherCall, ZerosAlike, ZerosAlikeAfterBase}
 use Rattle.uefi_node_reader.specs.FieldReading.{read_if}
 use Rattle.uefi_node_reader.specs.LenientFields.{after_literal, any_number, past_base, some_digits}
-use Rattle.uefi_node_reader.specs.LenientNodes.{bare_read, call_in, call_told, cut_call, end_fault, ended, ended_at, exact_or, fault_at_byte, file_or_call, lenient_read, or_fault, stop_fault, tidied, written_read}
-use Rattle.uefi_node_reader.specs.NamedFiles.{is_after_node, node_read}
+use Rattle.uefi_node_reader.specs.LenientNodes.{bare_read, call_in, call_told, cut_call, end_fault, ended_at, ended_spaced, exact_or, fault_at_byte, file_or_call, lenient_read, or_fault, spaced, stop_fault, tidied, written_read}
+use Rattle.uefi_node_reader.specs.NamedFiles.{is_after_node, node_read, past_spaces}
 use Rattle.uefi_node_reader.specs.Stops.{◌>?◌}
 use Rattle.uefi_node_reader.specs.declared.faults.Expected.TheVariants as expected
 use Rattle.uefi_node_reader.specs.declared.faults.NodeFault.{NodeFault}
 use Rattle.uefi_node_reader.specs.declared.faults.Stop.{Stop}
-use Rattle.uefi_node_reader.specs.Numerals.{digit_of, digits_after, has_digit}
+use Rattle.uefi_node_reader.specs.Numerals.{digit_of}
+use Rattle.uefi_node_reader.proofs.LenientNumbers.{zero_more}
 
 -- what was read, whatever else is the fault
-exact_none : (text : List ℕ) (o : Option (Node × List ℕ)) (other : Result (Node × List ℕ) NodeFault) → ended o ≡ None
+exact_none : (text : List ℕ) (o : Option (Node × List ℕ)) (other : Result (Node × List ℕ) NodeFault) → ended_spaced o ≡ None
     → result_ok (exact_or text o other) ≡ result_ok other
 exact_none text None other e = refl
-exact_none text (Some read) other e = by (is_after_node read.1) other e
+exact_none text (Some read) other e = by (is_after_node (past_spaces read.1)) other e
   where
-    by : (b : Bool) (other : Result (Node × List ℕ) NodeFault) → read_if b read.0 read.1 ≡ None
-        → result_ok (cond b (Ok read) (or_fault (end_fault text read.1) other)) ≡ result_ok other
+    by : (b : Bool) (other : Result (Node × List ℕ) NodeFault) → read_if b read.0 (past_spaces read.1) ≡ None
+        → result_ok (cond b (Ok (spaced read)) (or_fault (end_fault text read.1) other)) ≡ result_ok other
     by true other q = cc
     by false (Ok x) q = refl
     by false (Err fault) q = refl
 
 -- what is read of a call, by its tidied text
 abbrev tidied_read : List ℕ → List ℕ → Option (Node × List ℕ)
-tidied_read text rest = ended (option_map (λ (node : Node). (node, rest)) (result_ok (call_told text)))
+tidied_read text rest = ended_spaced (option_map (λ (node : Node). (node, rest)) (result_ok (call_told text)))
 
 ended_ok : (text front rest : List ℕ) (r : Result Node (Option Stop))
     → result_ok (result_map_both (λ (node : Node). (node, rest)) (stop_fault text (length (tidied front))) r >? ended_at text)
-    ≡ ended (option_map (λ (node : Node). (node, rest)) (result_ok r))
+    ≡ ended_spaced (option_map (λ (node : Node). (node, rest)) (result_ok r))
 ended_ok text front rest (Err stop) = refl
-ended_ok text front rest (Ok node) = by (is_after_node rest)
+ended_ok text front rest (Ok node) = by (is_after_node (past_spaces rest))
   where
-    by : (b : Bool) → result_ok (cond b (Ok (node, rest)) (Err (end_fault text rest))) ≡ read_if b node rest
+    by : (b : Bool) → result_ok (cond b (Ok (node, past_spaces rest)) (Err (end_fault text rest))) ≡ read_if b node (past_spaces rest)
     by true = refl
     by false = refl
 
@@ -62,19 +62,6 @@ pub calls_alike : CallsAlike
 calls_alike is_rooted text other front back rest one two same =
     other_read is_rooted text front rest one ∙ ap (λ (t : List ℕ). tidied_read t rest) same
     ∙ sym (other_read is_rooted other back rest two)
-
--- a zero more
-zero_more : (base limit : ℕ) (text : List ℕ) → 1 ≤ base → 1 ≤ limit → has_digit base text ≡ true
-    → some_digits base limit (48 ∷ text) ≡ some_digits base limit text
-zero_more base limit text b l e =
-    let small : ltb 0 base ≡ true = lt-ltb 0 base (omega arith) in
-    let fits : ltb 0 limit ≡ true = lt-ltb 0 limit (omega arith) in
-    let none : 0 * base + 0 ≡ 0 = omega arith in
-    ap (λ (t : Bool). cond t (digits_after base limit 0 (48 ∷ text)) None) small
-    ∙ ap (λ (t : Bool). cond t (cond (ltb (0 * base + 0) limit) (digits_after base limit (0 * base + 0) text) None) (Some (0, 48 ∷ text))) small
-    ∙ ap (λ (n : ℕ). cond (ltb n limit) (digits_after base limit n text) None) none
-    ∙ ap (λ (t : Bool). cond t (digits_after base limit 0 text) None) fits
-    ∙ sym (ap (λ (t : Bool). cond t (digits_after base limit 0 text) None) e)
 
 pub zeros_alike : ZerosAlike
 zeros_alike limit [] l d other = cc

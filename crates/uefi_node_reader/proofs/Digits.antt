@@ -185,7 +185,7 @@ module _ (base : ℕ) (upper : Bool) (is : IsBase base upper) where
           ap (λ (x : List ℕ). number_read base limit (x ++ rest)) (digits_step n (omega arith) l)
           ∙ ap (λ (x : List ℕ). number_read base limit x) (append_assoc (digits base upper (n / base)) (g ∷ []) rest) ∙ h l ∙ more
 
-  after_end : (limit n : ℕ) (rest : List ℕ) → has_digit base rest ≡ false → digits_after base limit n rest ≡ Some (n, rest)
+  pub after_end : (limit n : ℕ) (rest : List ℕ) → has_digit base rest ≡ false → digits_after base limit n rest ≡ Some (n, rest)
   after_end limit n [] e = refl
   after_end limit n (c ∷ cs) e = ap (λ (t : Bool). cond t (cond (ltb (n * base + digit_of c) limit) (digits_after base limit (n * base + digit_of c) cs) None) (Some (n, c ∷ cs))) e
 

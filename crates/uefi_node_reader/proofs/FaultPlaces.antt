@@ -5,8 +5,8 @@ use Rattle.std.specs.Option.{ok_or, option_map}
 use Rattle.std.specs.Result.{result_map_both}
 use Rattle.uefi_device_nodes.specs.Nodes.{Node}
 use Rattle.uefi_node_reader.specs.LenientFields.{after_literal}
-use Rattle.uefi_node_reader.specs.LenientNodes.{bare_read, begins_call, call_in, call_told, cut_call, end_fault, ended_at, exact_or, fault_at_byte, file_in, file_or_call, is_blank, lenient_read, open_fault, or_fault, place_at, rooted, stop_fault, tidied, whole, written_read}
-use Rattle.uefi_node_reader.specs.NamedFiles.{is_after_node, name_read, node_read}
+use Rattle.uefi_node_reader.specs.LenientNodes.{bare_read, begins_call, call_in, call_told, cut_call, cut_file, end_fault, ended_at, exact_or, fault_at_byte, file_in, file_or_call, is_blank, lenient_read, open_fault, or_fault, place_at, rooted, spaced, stop_fault, tidied, whole, written_read}
+use Rattle.uefi_node_reader.specs.NamedFiles.{is_after_node, name_read, node_read, past_spaces}
 use Rattle.uefi_node_reader.specs.Stops.{◌>?◌}
 use Rattle.uefi_node_reader.specs.declared.faults.Expected.TheVariants as expected
 use Rattle.uefi_node_reader.specs.declared.faults.NodeFault.{NodeFault}
@@ -54,16 +54,16 @@ module _ (text : List ℕ) where
 
   either_within : (r : Result (List ℕ) Stop) → Within (file_or_call r text)
   either_within (Err stop) = call_within (cut_call text)
-  either_within (Ok name) = by (cut_call name)
+  either_within (Ok name) = by (cut_file name)
     where
       by : (o : Option (List ℕ × List ℕ)) → Within (file_in text name o)
       by None = omega arith
       by (Some call) = or_within (option_map (λ (n : Node). (n, call.1)) (whole (name_read (rooted call.0)))) _ (omega arith)
 
   pub end_within : (read : Node × List ℕ) → Within (ended_at text read)
-  end_within read = by (is_after_node read.1)
+  end_within read = by (is_after_node (past_spaces read.1))
     where
-      by : (b : Bool) → Within {A = Node × List ℕ} (cond b (Ok read) (Err (end_fault text read.1)))
+      by : (b : Bool) → Within {A = Node × List ℕ} (cond b (Ok (spaced read)) (Err (end_fault text read.1)))
       by true = tt
       by false = omega arith
 
@@ -81,9 +81,9 @@ module _ (text : List ℕ) where
 
   exact_within : (o : Option (Node × List ℕ)) (r : Result (Node × List ℕ) NodeFault) → Within r → Within (exact_or text o r)
   exact_within None r h = h
-  exact_within (Some read) r h = by (is_after_node read.1) r
+  exact_within (Some read) r h = by (is_after_node (past_spaces read.1)) r
     where
-      by : (b : Bool) (r : Result (Node × List ℕ) NodeFault) → Within (cond b (Ok read) (or_fault (end_fault text read.1) r))
+      by : (b : Bool) (r : Result (Node × List ℕ) NodeFault) → Within (cond b (Ok (spaced read)) (or_fault (end_fault text read.1) r))
       by true r = tt
       by false (Ok other) = tt
       by false (Err other) = omega arith

@@ -3,7 +3,7 @@ use Rattle.std.proofs.Common.{◌≡◌, ◌++◌, append_assoc, take, ℕ, suc,
 use Rattle.std.specs.Prelude.{Option, Some, None, Result, Ok, Err, codes, position}
 use Rattle.std.specs.Char.{to_ascii_uppercase}
 use Rattle.std.specs.List.{list_all, list_any, position_or_len}
-use Rattle.std.specs.Option.{ok_or, option_map}
+use Rattle.std.specs.Option.{ok_or, option_map, option_or}
 use Rattle.std.specs.Result.{result_map_both}
 use Rattle.std.specs.Str.{chars, is_utf8}
 use Rattle.std.proofs.lemmas.Bool.{and_parts}
@@ -13,12 +13,11 @@ use Rattle.uefi_node_table.specs.Table.{forms}
 use Rattle.uefi_device_nodes.specs.Nodes.{Node, node_with}
 use Rattle.uefi_node_reader.specs.FieldReading.{read_if}
 use Rattle.uefi_device_nodes.specs.NodeTexts.{node_text}
-use Rattle.uefi_node_reader.specs.LenientFields.{after_letter, after_literal, begins_base, literal_left, past_base, pieces_set}
+use Rattle.uefi_node_reader.specs.LenientFields.{after_letter, after_literal, any_number, begins_base, literal_left, past_base, pieces_set}
 use Rattle.uefi_node_reader.specs.Ambiguous.{ambiguous_stop}
-use Rattle.uefi_node_reader.specs.LenientNodes.{IsRestOf, bare_read, begins_call, begins_call_name, call_in, call_told, call_tried, cut_call, end_fault, ended, ended_at, exact_or, fault_at_byte, file_in, file_or_call, form_told, form_tried, forms_tried, is_bare, is_textless, lenient_read, named_read, named_told, or_fault, or_next, path_told, rooted, stop_fault, tidied, told_in, whole, written_read}
+use Rattle.uefi_node_reader.specs.LenientNodes.{IsRestOf, bare_read, begins_call, begins_call_name, call_in, call_told, call_tried, cut_call, end_fault, ended, ended_at, exact_or, cut_file, fault_at_byte, file_in, file_or_call, form_told, form_tried, forms_tried, is_textless, lenient_read, name_end, named_read, named_told, or_fault, or_next, path_told, rooted, spaced, stop_fault, tidied, told_in, types_told, whole, written_read}
 use Rattle.uefi_node_reader.specs.Stops.{◌>?◌, further, rest_end, stop_at, stop_of}
-use Rattle.uefi_node_reader.specs.NamedFiles.{IsTold, ends_name, is_after_node, is_name, name_bytes, name_data, name_read, node_read}
-use Rattle.uefi_node_reader.specs.PlainNodes.{plain_read, types_read}
+use Rattle.uefi_node_reader.specs.NamedFiles.{IsTold, ends_name, is_after_node, is_name, name_bytes, name_data, name_read, node_read, past_spaces}
 use Rattle.uefi_node_reader.specs.TableReading.{blank, is_empty, is_read, is_sound, prints, rest_read}
 use Rattle.uefi_node_table.specs.declared.rows.Mode.{Mode}
 use Rattle.uefi_node_table.specs.declared.rows.Mode.TheVariants.{Read, Printed, Display}
@@ -32,12 +31,14 @@ use Rattle.uefi_node_reader.proofs.Digits.{some_pair}
 use Rattle.uefi_node_reader.proofs.Groups.{table_sound}
 use Rattle.uefi_node_reader.specs.WordReading.{after}
 use Rattle.uefi_node_reader.proofs.LenientFields.{form_set_in}
-use Rattle.uefi_node_reader.proofs.Literals.{after_again, after_some, bind_ok, map_ok, ok_same, ok_some}
+use Rattle.uefi_node_reader.proofs.LenientNumbers.{number_small}
+use Rattle.uefi_node_reader.proofs.Literals.{bind_ok, bind_some, map_ok, ok_same, ok_some}
 use Rattle.uefi_node_reader.proofs.NamedFiles.{name_takes}
 use Rattle.uefi_node_reader.proofs.NodeLaws.{node_starts, node_takes}
 use Rattle.uefi_node_reader.specs.OtherForms.{pasted_forms}
 use Rattle.uefi_node_reader.proofs.OtherForms.{pasted_sound}
-use Rattle.uefi_node_reader.proofs.PlainNodes.{plain_takes}
+use Rattle.uefi_node_reader.proofs.PlainNodes.{rest_takes}
+use Rattle.uefi_node_reader.proofs.Spaces.{IsEnd, past_spaces-after, rest_then, spaces_end, whole_end}
 use Rattle.uefi_node_reader.proofs.ToldNodes.{tells_told}
 
 -- what was read, if a test holds
@@ -159,11 +160,11 @@ whole_read (Some read) node e = by (is_empty read.1) e
 path_is_told : (r : Result (List ℕ) Stop) (node : Node) → path_told r ≡ Ok node → IsTold node
 path_is_told (Err stop) node e = cc
 path_is_told (Ok rest) node e =
-    let read = whole_read (types_read rest) node (ok_some (whole (types_read rest)) _ node e) in
-    let printed : plain_read (codes "Path(" ++ rest) ≡ Some (node, read.0) =
-    after_some (after (codes "Path(") (codes "Path(" ++ rest)) types_read rest (after_again (codes "Path(") rest)
-    ∙ read.1 in
-    inr (inl (plain_takes (codes "Path(" ++ rest) node read.0 printed).0)
+    let read = whole_read (types_told rest) node (ok_some (whole (types_told rest)) _ node e) in
+    let k = bind_some (any_number 256 rest) _ (node, read.0) read.1 in
+    let u = bind_some (after (codes ",") k.0.1) _ (node, read.0) k.2 in
+    let s = bind_some (any_number 256 u.0) _ (node, read.0) u.2 in
+    inr (inl (rest_takes k.0.0 s.0.0 (number_small 256 rest k.0.0 k.0.1 (omega arith) k.1) (number_small 256 u.0 s.0.0 s.0.1 (omega arith) s.1) s.0.1 node read.0 s.2))
 
 call_is_told : (o : Option Stop) (text : List ℕ) (node : Node) → call_tried o text ≡ Ok node → IsTold node
 call_is_told (Some stop) text node e = cc
@@ -204,8 +205,8 @@ called text node rest (Some call) e =
 
 -- what a bare name was read of
 bare_named : (is_rooted : Bool) (text : List ℕ) (node : Node) (rest : List ℕ) → bare_read is_rooted text ≡ Some (node, rest)
-    → (whole (name_read (rooted (name_bytes text))) ≡ Some node) × (drop (position_or_len ends_name text) text ≡ rest)
-bare_named is_rooted text node rest e = with_rest _ _ node rest (if_bare (not is_rooted && is_bare (name_bytes text)) (named_read text) (node, rest) e)
+    → (whole (name_read (rooted (past_spaces (name_bytes text)))) ≡ Some node) × (drop (position_or_len ends_name text) text ≡ rest)
+bare_named is_rooted text node rest e = with_rest _ _ node rest (if_bare _ (named_read text) (node, rest) e)
 
 -- what a name in `File(..)` was read of
 filed : (text name : List ℕ) (node : Node) (rest : List ℕ) (o : Option (List ℕ × List ℕ)) → file_in text name o ≡ Ok (node, rest)
@@ -222,46 +223,55 @@ ends (Some read) node rest e =
     let q = if_read (is_after_node read.1) read.0 node read.1 rest e in
     (λ i. Some (q.1 i, q.2 i), ap is_after_node (sym q.2) ∙ q.0)
 
+-- the same, with blanks after it
+pub record EndsAs (read : Node × List ℕ) (node : Node) (rest : List ℕ) : Type 0 where
+  pub read_node : read.0 ≡ node
+  pub spaces : past_spaces read.1 ≡ rest
+  pub ends : is_after_node rest ≡ true
+
+ends_as : (read : Node × List ℕ) (node : Node) (rest : List ℕ) → is_after_node (past_spaces read.1) ≡ true
+    → spaced read ≡ (node, rest) → EndsAs read node rest
+ends_as read node rest after same =
+    let left : past_spaces read.1 ≡ rest = ap (λ (x : Node × List ℕ). x.1) same in
+    record { read_node = ap (λ (x : Node × List ℕ). x.0) same; spaces = left; ends = ap is_after_node (sym left) ∙ after }
+
 pub ends_at : (text : List ℕ) (read : Node × List ℕ) (node : Node) (rest : List ℕ) → ended_at text read ≡ Ok (node, rest)
-    → (read ≡ (node, rest)) × (is_after_node rest ≡ true)
-ends_at text read node rest e = by (is_after_node read.1) refl e
+    → EndsAs read node rest
+ends_at text read node rest e = by (is_after_node (past_spaces read.1)) refl e
   where
-    by : (b : Bool) → is_after_node read.1 ≡ b → cond b (Ok read) (Err (end_fault text read.1)) ≡ Ok (node, rest)
-        → (read ≡ (node, rest)) × (is_after_node rest ≡ true)
+    by : (b : Bool) → is_after_node (past_spaces read.1) ≡ b → cond b (Ok (spaced read)) (Err (end_fault text read.1)) ≡ Ok (node, rest)
+        → EndsAs read node rest
     by false p q = cc
-    by true p q =
-        let same : read ≡ (node, rest) = ok_same (Ok (node, rest)) read (node, rest) (sym q) refl in
-        (same, ap (λ (x : Node × List ℕ). is_after_node x.1) (sym same) ∙ p)
+    by true p q = ends_as read node rest p (ok_same (Ok (node, rest)) (spaced read) (node, rest) (sym q) refl)
 
 -- what was read exactly, or else otherwise
 exact_way : (text : List ℕ) (o : Option (Node × List ℕ)) (other : Result (Node × List ℕ) NodeFault) (node : Node) (rest : List ℕ)
     → exact_or text o other ≡ Ok (node, rest)
-    → ((o ≡ Some (node, rest)) × (is_after_node rest ≡ true)) ⊎ (other ≡ Ok (node, rest))
+    → ((read : Node × List ℕ) × (o ≡ Some read) × EndsAs read node rest) ⊎ (other ≡ Ok (node, rest))
 exact_way text None other node rest e = inr e
-exact_way text (Some read) other node rest e = by (is_after_node read.1) refl other e
+exact_way text (Some read) other node rest e = by (is_after_node (past_spaces read.1)) refl other e
   where
-    by : (b : Bool) → is_after_node read.1 ≡ b → (other : Result (Node × List ℕ) NodeFault)
-        → cond b (Ok read) (or_fault (end_fault text read.1) other) ≡ Ok (node, rest)
-        → ((Some read ≡ Some (node, rest)) × (is_after_node rest ≡ true)) ⊎ (other ≡ Ok (node, rest))
+    by : (b : Bool) → is_after_node (past_spaces read.1) ≡ b → (other : Result (Node × List ℕ) NodeFault)
+        → cond b (Ok (spaced read)) (or_fault (end_fault text read.1) other) ≡ Ok (node, rest)
+        → ((x : Node × List ℕ) × (Some read ≡ Some x) × EndsAs x node rest) ⊎ (other ≡ Ok (node, rest))
     by false p (Ok read) q = inr q
     by false p (Err fault) q = cc
-    by true p other q =
-        let same : read ≡ (node, rest) = ok_same (Ok (node, rest)) read (node, rest) (sym q) refl in
-        inl ((λ i. Some (same i)), ap (λ (x : Node × List ℕ). is_after_node x.1) (sym same) ∙ p)
+    by true p other q = inl (read, refl, ends_as read node rest p (ok_same (Ok (node, rest)) (spaced read) (node, rest) (sym q) refl))
 
 -- one of the four that are tried
 module _ (is_rooted : Bool) (text : List ℕ) (node : Node) (rest : List ℕ) (Goal : Type 0)
-    (strict : node_read text ≡ Some (node, rest) → is_after_node rest ≡ true → Goal)
-    (file : begins_call text ≡ true → (name : List ℕ) → after_literal (codes "File(") text ≡ Ok name
-    → file_in text name (cut_call name) ≡ Ok (node, rest) → is_after_node rest ≡ true → Goal)
-    (call : begins_call text ≡ true → call_in text (cut_call text) ≡ Ok (node, rest) → is_after_node rest ≡ true → Goal)
+    (strict : (before : List ℕ) → node_read text ≡ Some (node, before) → past_spaces before ≡ rest → is_after_node rest ≡ true → Goal)
+    (file : begins_call text ≡ true → (name : List ℕ) → after_literal (codes "File(") text ≡ Ok name → (before : List ℕ)
+    → file_in text name (cut_file name) ≡ Ok (node, before) → past_spaces before ≡ rest → is_after_node rest ≡ true → Goal)
+    (call : begins_call text ≡ true → (before : List ℕ) → call_in text (cut_call text) ≡ Ok (node, before)
+    → past_spaces before ≡ rest → is_after_node rest ≡ true → Goal)
     (bare : bare_read is_rooted text ≡ Some (node, rest) → Goal) where
   either_call : begins_call text ≡ true → (r : Result (List ℕ) Stop) → after_literal (codes "File(") text ≡ r
       → (read : Node × List ℕ) → file_or_call r text ≡ Ok read → ended_at text read ≡ Ok (node, rest) → Goal
   either_call b (Err stop) f read e end =
-      let q = ends_at text read node rest end in call b (e ∙ ap (λ (x : Node × List ℕ). Ok x) q.0) q.1
+      let q = ends_at text read node rest end in call b read.1 (e ∙ (λ i. Ok (q.read_node i, read.1))) q.spaces q.ends
   either_call b (Ok name) f read e end =
-      let q = ends_at text read node rest end in file b name f (e ∙ ap (λ (x : Node × List ℕ). Ok x) q.0) q.1
+      let q = ends_at text read node rest end in file b name f read.1 (e ∙ (λ i. Ok (q.read_node i, read.1))) q.spaces q.ends
 
   call_or_name : (b : Bool) → begins_call text ≡ b
       → cond b (file_or_call (after_literal (codes "File(") text) text >? ended_at text)
@@ -275,7 +285,7 @@ module _ (is_rooted : Bool) (text : List ℕ) (node : Node) (rest : List ℕ) (G
   one_of_four : lenient_read is_rooted text ≡ Ok (node, rest) → Goal
   unfolding lenient_read
   one_of_four e = elim (exact_way text (node_read text) (written_read is_rooted text) node rest e) [
-    | inl p ↦ strict p.0 p.1
+    | inl p ↦ strict p.0.1 (p.1 ∙ (λ i. Some (p.2.read_node i, p.0.1))) p.2.spaces p.2.ends
     | inr p ↦ call_or_name (begins_call text) refl p
   ]
 
@@ -283,15 +293,10 @@ pub lenient_again : (is_rooted : Bool) (text : List ℕ) (node : Node) (rest : L
     → is_after_node rest ≡ true → lenient_read is_rooted text ≡ Ok (node, rest)
 unfolding lenient_read
 lenient_again is_rooted text node rest e after =
+    let same = past_spaces-after rest after in
     ap (λ (o : Option (Node × List ℕ)). exact_or text o (written_read is_rooted text)) e
+    ∙ ap (λ (t : List ℕ). cond (is_after_node t) (Ok (node, t)) (or_fault (end_fault text rest) (written_read is_rooted text))) same
     ∙ ap (λ (b : Bool). cond b (Ok (node, rest)) (or_fault (end_fault text rest) (written_read is_rooted text))) after
-
--- the end of a text
-abbrev IsEnd : List ℕ → List ℕ → Type 0
-IsEnd text rest = (front : List ℕ) × (text ≡ front ++ rest)
-
-whole_end : (text : List ℕ) → IsEnd text text
-whole_end text = ([], refl)
 
 then_end : (text middle rest : List ℕ) → IsEnd text middle → IsEnd middle rest → IsEnd text rest
 then_end text middle rest (front, p) (others, q) =
@@ -366,27 +371,39 @@ cut_end (c ∷ cs) call e = by (position (λ (x : ℕ). x == 41) (c ∷ cs)) e
     by (Some place) q = subst (λ (x : List ℕ). IsRestOf (c ∷ cs) x) (some_pair (parts place) call q).1
         (dropped (place + 1) place c cs (omega arith))
 
+-- what stands after the name of a file
+file_cut_end : (text : List ℕ) (call : List ℕ × List ℕ) → cut_file text ≡ Some call → IsRestOf text call.1
+file_cut_end [] call e = cut_end [] call e
+file_cut_end (c ∷ cs) call e = by (name_end (c ∷ cs)) e
+  where
+    parts : ℕ → List ℕ × List ℕ
+    parts place = (take place (c ∷ cs), drop (place + 1) (c ∷ cs))
+
+    by : (o : Option ℕ) → option_or (option_map parts o) (cut_call (c ∷ cs)) ≡ Some call → IsRestOf (c ∷ cs) call.1
+    by None q = cut_end (c ∷ cs) call q
+    by (Some place) q = subst (λ (x : List ℕ). IsRestOf (c ∷ cs) x) (some_pair (parts place) call q).1
+        (dropped (place + 1) place c cs (omega arith))
+
 call_end : (text : List ℕ) (node : Node) (rest : List ℕ)
     → call_in text (cut_call text) ≡ Ok (node, rest) → IsRestOf text rest
 call_end text node rest e = let call = called text node rest (cut_call text) e in
     subst (λ (x : List ℕ). IsRestOf text x) call.2.1 (cut_end text call.0 call.1)
 
 file_end : (text name : List ℕ) (node : Node) (rest : List ℕ) → after_literal (codes "File(") text ≡ Ok name
-    → file_in text name (cut_call name) ≡ Ok (node, rest) → IsRestOf text rest
+    → file_in text name (cut_file name) ≡ Ok (node, rest) → IsRestOf text rest
 file_end text name node rest begun e =
-    let call = filed text name node rest (cut_call name) e in
+    let call = filed text name node rest (cut_file name) e in
     let after = literal_end (codes "File(") false text name begun in
     subst (λ (x : List ℕ). IsRestOf text x) call.2.1
-    (then_rest text name call.0.1 after (cut_end name call.0 call.1))
+    (then_rest text name call.0.1 after (file_cut_end name call.0 call.1))
 
-pub strict_end : (text : List ℕ) (node : Node) (rest : List ℕ) → node_read text ≡ Some (node, rest)
-    → is_after_node rest ≡ true → IsRestOf text rest
-strict_end text node rest e after =
+strict_end : (text : List ℕ) (node : Node) (rest : List ℕ) → node_read text ≡ Some (node, rest) → IsRestOf text rest
+strict_end text node rest e =
     let read = node_takes text node rest e in
-    by (node_text false false node) read.1 (node_starts node read.0 rest)
+    by (node_text false false node) read.1 (node_starts node read.0 [])
   where
-    by : (own : List ℕ) → text ≡ own ++ rest → is_after_node (own ++ rest) ≡ false → IsRestOf text rest
-    by [] p q = cc
+    by : (own : List ℕ) → text ≡ own ++ rest → is_after_node (own ++ []) ≡ false → IsRestOf text rest
+    by [] p q = absurd (true≢false q)
     by (c ∷ cs) p q = (c, cs, p)
 
 -- where a name ends, by whether the first byte ends it
@@ -415,12 +432,12 @@ no_name = by (is_utf8 [])
     by true = refl
     by false = refl
 
-bare_rest : (text : List ℕ) (node : Node) → whole (name_read (rooted (name_bytes text))) ≡ Some node
+bare_rest : (text : List ℕ) (node : Node) → whole (name_read (rooted (past_spaces (name_bytes text)))) ≡ Some node
     → IsRestOf text (drop (position_or_len ends_name text) text)
 bare_rest [] node e = let none = no_name in cc
 bare_rest (c ∷ cs) node e = by (ends_name c) e
   where
-    by : (b : Bool) → whole (name_read (rooted (take (name_place cs b) (c ∷ cs)))) ≡ Some node
+    by : (b : Bool) → whole (name_read (rooted (past_spaces (take (name_place cs b) (c ∷ cs))))) ≡ Some node
         → IsRestOf (c ∷ cs) (drop (name_place cs b) (c ∷ cs))
     by true q = let none = no_name in cc
     by false q = dropped (1 + position_or_len ends_name cs) (position_or_len ends_name cs) c cs (omega arith)
@@ -444,14 +461,15 @@ call_starts text call = by (is_after_node text) refl
     by false first = first
     by true first = absurd (true≢false (sym call ∙ ap (λ (x : List ℕ). list_any (λ c. c == 40) x) (no_bytes text first)))
 
-bare_starts : (text : List ℕ) (node : Node) → whole (name_read (rooted (name_bytes text))) ≡ Some node → is_after_node text ≡ false
+bare_starts : (text : List ℕ) (node : Node) → whole (name_read (rooted (past_spaces (name_bytes text)))) ≡ Some node
+    → is_after_node text ≡ false
 bare_starts text node name = by (is_after_node text) refl
   where
     by : (b : Bool) → is_after_node text ≡ b → is_after_node text ≡ false
     by false first = first
     by true first =
-        let none : whole (name_read (rooted (name_bytes text))) ≡ None =
-        ap (λ (x : List ℕ). whole (name_read (rooted x))) (no_bytes text first) ∙ no_name in
+        let none : whole (name_read (rooted (past_spaces (name_bytes text)))) ≡ None =
+        ap (λ (x : List ℕ). whole (name_read (rooted (past_spaces x)))) (no_bytes text first) ∙ no_name in
         cc (name, none)
 
 -- what is known of a node that was read, and of what stands after it
@@ -461,29 +479,40 @@ pub record WellRead (text : List ℕ) (node : Node) (rest : List ℕ) : Type 0 w
   pub ends : is_after_node rest ≡ true
   pub starts : is_after_node text ≡ false
 
-pub strict_well : (text : List ℕ) (node : Node) (rest : List ℕ) → node_read text ≡ Some (node, rest) → is_after_node rest ≡ true
-    → WellRead text node rest
-strict_well text node rest e after =
-    let read = node_takes text node rest e in
-    record { told = read.0; rest_of = strict_end text node rest e after; ends = after; starts = ap is_after_node read.1 ∙ node_starts node read.0 rest }
+-- after blanks, if there are any
+pub spaced_rest : (text before rest : List ℕ) → IsRestOf text before → past_spaces before ≡ rest → IsRestOf text rest
+spaced_rest text before rest of spaces =
+    subst (λ (x : List ℕ). IsRestOf text x) spaces (rest_then text before (past_spaces before) of (spaces_end before))
+
+pub strict_well : (text : List ℕ) (node : Node) (before rest : List ℕ) → node_read text ≡ Some (node, before)
+    → past_spaces before ≡ rest → is_after_node rest ≡ true → WellRead text node rest
+strict_well text node before rest e spaces after =
+    let read = node_takes text node before e in
+    record {
+      told = read.0;
+      rest_of = spaced_rest text before rest (strict_end text node before e) spaces;
+      ends = after;
+      starts = ap is_after_node read.1 ∙ node_starts node read.0 before;
+    }
 
 pub lenient_well : (is_rooted : Bool) (text : List ℕ) (node : Node) (rest : List ℕ) → lenient_read is_rooted text ≡ Ok (node, rest)
     → WellRead text node rest
-lenient_well is_rooted text node rest e = one_of_four is_rooted text node rest (WellRead text node rest) (strict_well text node rest)
-    (λ b name begun p after. let call = filed text name node rest (cut_call name) p in record {
+lenient_well is_rooted text node rest e = one_of_four is_rooted text node rest (WellRead text node rest)
+    (λ before. strict_well text node before rest)
+    (λ b name begun before p spaces after. let call = filed text name node before (cut_file name) p in record {
       told = name_told (rooted call.0.0) node call.2.0;
-      rest_of = file_end text name node rest begun p;
+      rest_of = spaced_rest text before rest (file_end text name node before begun p) spaces;
       ends = after;
       starts = call_starts text b;
     })
-    (λ b p after. let call = called text node rest (cut_call text) p in record {
+    (λ b before p spaces after. let call = called text node before (cut_call text) p in record {
       told = call_is_told (ambiguous_stop (tidied call.0.0)) (tidied call.0.0) node call.2.0;
-      rest_of = call_end text node rest p;
+      rest_of = spaced_rest text before rest (call_end text node before p) spaces;
       ends = after;
       starts = call_starts text b;
     })
     (λ p. let name = (bare_named is_rooted text node rest p).0 in let end = bare_end is_rooted text node rest p in record {
-      told = name_told (rooted (name_bytes text)) node name;
+      told = name_told (rooted (past_spaces (name_bytes text))) node name;
       rest_of = end.0;
       ends = end.1;
       starts = bare_starts text node name;

@@ -19,6 +19,7 @@ pub mod TailLaws
 pub mod TableLaws
 pub mod PieceReads
 pub mod RestReads
+mod Spaces
 pub mod Groups
 pub mod PlainNodes
 pub mod NamedFiles
@@ -32,3 +33,11 @@ pub mod OtherForms
 pub mod LenientLaws
 pub mod StyledLaws
 pub mod Alike
+pub mod Readings
+pub mod HelpedTexts
+pub mod LenientNumbers
+pub mod HelpedFields
+pub mod HelpedPieces
+pub mod HelpedForms
+pub mod HelpedPaths
+pub mod Helps

@@ -1,5 +1,5 @@
 -- Nodes of no kind are read back, and what is read is printed so.
-use Rattle.std.proofs.Common.{◌≡◌, ℕ, ◌≤◌, Bool, true, false, cond, eqb, leb, ◌&&◌, ◌||◌, List, [], ◌∷◌, ◌++◌, codes, length, take, refl, ap, sym, subst, ◌∙◌, append_assoc, arith}
+use Rattle.std.proofs.Common.{◌≡◌, ℕ, ◌<◌, ◌≤◌, Bool, true, false, cond, eqb, leb, ◌&&◌, ◌||◌, List, [], ◌∷◌, ◌++◌, codes, length, take, refl, ap, sym, subst, ◌∙◌, append_assoc, arith}
 use Rattle.std.specs.Prelude.{None, Option, Some, not, option_and_then}
 use Rattle.std.proofs.lemmas.Bool.{le-leb}
 use Rattle.std.specs.Fmt.{decimal}
@@ -13,7 +13,7 @@ use Rattle.uefi_node_reader.specs.TableReading.{added}
 use Rattle.uefi_node_reader.specs.TextNodes.{fitting}
 use Rattle.uefi_node_reader.specs.WordReading.{after}
 use Rattle.uefi_node_reader.proofs.Heads.{form_shown}
-use Rattle.uefi_node_reader.specs.PlainNodes.{IsPlainNode, is_formed, is_plain, plain_read}
+use Rattle.uefi_node_reader.specs.PlainNodes.{IsPlainNode, is_formed, is_plain, plain_read, plain_rest}
 use Rattle.uefi_node_reader.proofs.Digits.{decimal_base, number_again, number_takes, some_pair}
 use Rattle.uefi_node_reader.proofs.Literals.{after_takes, bind_some}
 use Rattle.uefi_node_reader.proofs.TailLaws.{comma_again, comma_takes}
@@ -66,6 +66,17 @@ if_takes : (t : Bool) (made node : Node) (left rest : List ℕ) → read_if t ma
 if_takes false made node left rest e = cc
 if_takes true made node left rest e = let same = some_pair (made, left) (node, rest) e in (refl, same.0, same.1)
 
+-- what is read from the data on is a plain node
+pub rest_takes : (kind sub_kind : ℕ) → kind < 256 → sub_kind < 256 → (text : List ℕ) (node : Node) (rest : List ℕ)
+    → plain_rest kind sub_kind text ≡ Some (node, rest) → IsPlainNode node
+rest_takes kind sub_kind k s text node rest e =
+    let c = bind_some (comma_read text) _ (node, rest) e in
+    let r = bind_some (after (codes ")") c.0.1) _ (node, rest) c.2 in
+    let made : Node = node_with kind sub_kind c.0.0 in
+    let same = if_takes (is_plain made) made node r.0 rest r.2 in
+    let is : IsPlainNode made = record { device_type = k; sub_type = s; content = (comma_takes text c.0.0 c.0.1 c.1).1; plain = same.0 } in
+    subst (λ (x : Node). IsPlainNode x) same.1 is
+
 -- what is read is a plain node, and is printed so
 pub plain_takes : (text : List ℕ) (node : Node) (rest : List ℕ) → plain_read text ≡ Some (node, rest)
     → IsPlainNode node × (text ≡ node_text false false node ++ rest)
@@ -81,12 +92,11 @@ plain_takes text node rest e =
     let kind = number_takes 10 false decimal_base 256 (omega arith) (omega arith) t.0 k.0.0 k.0.1 k.1 in
     let sub_kind = number_takes 10 false decimal_base 256 (omega arith) (omega arith) u.0 s.0.0 s.0.1 s.1 in
     let bytes = comma_takes s.0.1 c.0.0 c.0.1 c.1 in
-    let is : IsPlainNode made = record { device_type = kind.1; sub_type = sub_kind.1; content = bytes.1; plain = same.0 } in
     let whole : text ≡ unknown_text made ++ r.0 = after_takes (codes "Path(") text t.0 t.1
     ∙ ap (λ (x : List ℕ). codes "Path(" ++ x) (kind.0 ∙ ap (λ (x : List ℕ). decimal k.0.0 ++ x) (after_takes (codes ",") k.0.1 u.0 u.1
     ∙ ap (λ (x : List ℕ). codes "," ++ x) (sub_kind.0 ∙ ap (λ (x : List ℕ). decimal s.0.0 ++ x) (bytes.0
     ∙ ap (λ (x : List ℕ). comma_bytes c.0.0 ++ x) (after_takes (codes ")") c.0.1 r.0 r.1))))) ∙ sym (unknown_parts made r.0) in (
-      subst (λ (x : Node). IsPlainNode x) same.1 is,
+      rest_takes k.0.0 s.0.0 kind.1 sub_kind.1 s.0.1 node rest s.2,
       whole ∙ ap (λ (x : List ℕ). x ++ r.0) (sym (plain_text made (plain_parts made same.0))) ∙ (λ i. node_text false false (same.1 i) ++ same.2 i),
     )
 

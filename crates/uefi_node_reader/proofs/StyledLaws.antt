@@ -9,7 +9,7 @@ use Rattle.uefi_node_table.specs.Rows.{Form}
 use Rattle.uefi_device_nodes.specs.Nodes.{Node, node_with}
 use Rattle.uefi_node_reader.specs.LenientNodes.{IsRestOf, begins_call, cut_call, ended, fault_at_byte, place_at, tidied, told_in}
 use Rattle.uefi_node_reader.specs.Libefivar.{forms_exact, libefivar_read, own_call, own_fault, own_or_lenient, own_read, own_stop}
-use Rattle.uefi_node_reader.specs.NamedFiles.{IsTold, is_after_node, node_read}
+use Rattle.uefi_node_reader.specs.NamedFiles.{IsTold, is_after_node, node_read, past_spaces}
 use Rattle.uefi_node_reader.specs.Styles.{PrintedExactly, StyledAgain, StyledEnds, StyledFaultWithin, StyledStarts, StyledTakes, styled_read}
 use Rattle.uefi_node_reader.specs.TableReading.{form_read, is_sound}
 use Rattle.uefi_node_reader.specs.declared.faults.Expected.TheVariants.{AsPrinted}
@@ -18,7 +18,8 @@ use Rattle.uefi_node_reader.specs.declared.faults.Stop.{Stop}
 use Rattle.uefi_node_reader.specs.declared.styles.TextStyle.{TextStyle}
 use Rattle.uefi_node_reader.specs.declared.styles.TextStyle.TheVariants.{Printed, Lenient, Libefivar}
 use Rattle.uefi_node_reader.proofs.FaultPlaces.{Within, end_within, fault_within, or_within, place_within}
-use Rattle.uefi_node_reader.proofs.LenientLaws.{WellRead, call_starts, cut_end, ends, ends_at, lenient_again, lenient_well, strict_well, told_as, with_rest}
+use Rattle.uefi_node_reader.proofs.LenientLaws.{WellRead, call_starts, cut_end, ends, ends_at, lenient_again, lenient_well, spaced_rest, strict_well, told_as, with_rest}
+use Rattle.uefi_node_reader.proofs.Spaces.{past_spaces-after}
 use Rattle.uefi_node_reader.proofs.Literals.{bind_some, ok_some}
 use Rattle.uefi_node_reader.specs.OtherForms.{own_forms}
 use Rattle.uefi_node_reader.proofs.OtherForms.{own_sound}
@@ -48,17 +49,18 @@ all_told (form ∷ others) sound text node e =
     ]
 
 -- what was read in one of libefivar's own forms
-own_well : (text : List ℕ) (node : Node) (rest : List ℕ) → own_read text ≡ Some (node, rest) → is_after_node rest ≡ true → WellRead text node rest
-own_well text node rest e after = by (begins_call text) refl e
+own_well : (text : List ℕ) (node : Node) (before rest : List ℕ) → own_read text ≡ Some (node, before) → past_spaces before ≡ rest
+    → is_after_node rest ≡ true → WellRead text node rest
+own_well text node before rest e spaces after = by (begins_call text) refl e
   where
-    by : (b : Bool) → begins_call text ≡ b → cond b (own_call text) None ≡ Some (node, rest) → WellRead text node rest
+    by : (b : Bool) → begins_call text ≡ b → cond b (own_call text) None ≡ Some (node, before) → WellRead text node rest
     by false c p = cc
     by true c p =
-        let call = bind_some (cut_call text) _ (node, rest) p in
-        let read = with_rest (forms_exact own_forms (tidied call.0.0)) call.0.1 node rest call.2 in
+        let call = bind_some (cut_call text) _ (node, before) p in
+        let read = with_rest (forms_exact own_forms (tidied call.0.0)) call.0.1 node before call.2 in
         record {
           told = all_told own_forms own_sound (tidied call.0.0) node read.0;
-          rest_of = subst (λ (x : List ℕ). IsRestOf text x) read.1 (cut_end text call.0 call.1);
+          rest_of = spaced_rest text before rest (subst (λ (x : List ℕ). IsRestOf text x) read.1 (cut_end text call.0 call.1)) spaces;
           ends = after;
           starts = call_starts text c;
         }
@@ -67,7 +69,7 @@ libefivar_well : (is_rooted : Bool) (text : List ℕ) (node : Node) (rest : List
     → own_or_lenient is_rooted text o f ≡ Ok (node, rest) → WellRead text node rest
 libefivar_well is_rooted text node rest (Some read) f p q =
     let end = ends_at text read node rest q in
-    own_well text node rest (p ∙ ap (λ (x : Node × List ℕ). Some x) end.0) end.1
+    own_well text node read.1 rest (p ∙ (λ i. Some (end.read_node i, read.1))) end.spaces end.ends
 libefivar_well is_rooted text node rest None (Some fault) p q = cc
 libefivar_well is_rooted text node rest None None p q = lenient_well is_rooted text node rest q
 
@@ -79,7 +81,8 @@ printed_read text node rest e = ends (node_read text) node rest (ok_some (ended 
 styled_well : (style : TextStyle) (is_rooted : Bool) (text : List ℕ) (node : Node) (rest : List ℕ)
     → styled_read style is_rooted text ≡ Ok (node, rest) → WellRead text node rest
 unfolding styled_read libefivar_read
-styled_well Printed is_rooted text node rest e = let read = printed_read text node rest e in strict_well text node rest read.0 read.1
+styled_well Printed is_rooted text node rest e = let read = printed_read text node rest e in
+    strict_well text node rest rest read.0 (past_spaces-after rest read.1) read.1
 styled_well Lenient is_rooted text node rest e = lenient_well is_rooted text node rest e
 styled_well Libefivar is_rooted text node rest e = libefivar_well is_rooted text node rest (own_read text) (own_fault text) refl e
 

@@ -53,7 +53,7 @@ run_again (b ∷ bs) all c cs rest e =
     ∙ (λ i. cond (lt-ltb (b / 16) 16 (omega arith) i && lt-ltb (b % 16) 16 (omega arith) i) (found (whole i)) left)
     ∙ (λ i. (b ∷ (others i).0, (others i).1))
 
-run_takes : (text : List ℕ) → (text ≡ hex_bytes (run_read text).0 ++ (run_read text).1) × All IsByte (run_read text).0
+pub run_takes : (text : List ℕ) → (text ≡ hex_bytes (run_read text).0 ++ (run_read text).1) × All IsByte (run_read text).0
 unfolding hex_bytes
 run_takes [] = (refl, All-nil IsByte)
 run_takes (a ∷ []) = (refl, All-nil IsByte)

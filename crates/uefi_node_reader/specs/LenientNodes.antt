@@ -1,8 +1,8 @@
 -- Nodes as people write them. Each is one that is told.
 use Rattle.std.specs.Prelude.{◌≡◌, ℕ, ◌+◌, ◌-◌, Bool, true, false, not, ◌==◌, ◌&&◌, ◌||◌, if◌then◌else◌, List, [], ◌∷◌, ◌++◌, codes, filter, length, map, take, drop, position, Option, Some, None, Result, Ok, Err}
-use Rattle.std.specs.Char.{to_ascii_uppercase}
+use Rattle.std.specs.Char.{is_ascii_whitespace, to_ascii_uppercase}
 use Rattle.std.specs.List.{list_any, position_or_len}
-use Rattle.std.specs.Option.{ok_or, option_map}
+use Rattle.std.specs.Option.{ok_or, option_map, option_or}
 use Rattle.std.specs.Result.{result_map_both}
 use Rattle.uefi_node_table.specs.Rows.{Form}
 use Rattle.uefi_node_table.specs.Table.{forms}
@@ -12,22 +12,23 @@ use Rattle.uefi_node_table.specs.declared.rows.Tail.{Tail}
 use Rattle.uefi_node_table.specs.declared.rows.Tail.TheVariants.{Nothing, Bytes, Repeated}
 use Rattle.uefi_device_nodes.specs.Nodes.{Node, node_with}
 use Rattle.uefi_node_reader.specs.Ambiguous.{ambiguous_stop}
-use Rattle.uefi_node_reader.specs.FieldReading.{read_if}
-use Rattle.uefi_node_reader.specs.LenientFields.{after_literal, pieces_set}
-use Rattle.uefi_node_reader.specs.NamedFiles.{ends_name, is_after_node, name_bytes, name_read, node_read}
+use Rattle.uefi_node_reader.specs.FieldReading.{◌>>=◌, read_if}
+use Rattle.uefi_node_reader.specs.LenientFields.{after_literal, any_number, pieces_set}
+use Rattle.uefi_node_reader.specs.NamedFiles.{ends_name, is_after_node, name_bytes, name_read, node_read, past_spaces}
 use Rattle.uefi_node_reader.specs.OtherForms.{pasted_forms}
-use Rattle.uefi_node_reader.specs.PlainNodes.{types_read}
-use Rattle.uefi_node_reader.specs.Stops.{◌>?◌, further, rest_end, stop_at, stop_of, types_end}
-use Rattle.uefi_node_reader.specs.TableReading.{blank, is_empty, rest_read}
+use Rattle.uefi_node_reader.specs.PlainNodes.{plain_rest}
+use Rattle.uefi_node_reader.specs.Stops.{◌>?◌, exact_end, further, past, rest_end, stop_at, stop_of}
+use Rattle.uefi_node_reader.specs.TableReading.{blank, first_of, is_empty, rest_read}
 use Rattle.uefi_node_reader.specs.Telling.{tells}
+use Rattle.uefi_node_reader.specs.WordReading.{after}
 use Rattle.uefi_node_reader.specs.declared.faults.Expected.{Expected}
 use Rattle.uefi_node_reader.specs.declared.faults.Expected.TheVariants as expected
 use Rattle.uefi_node_reader.specs.declared.faults.NodeFault.{NodeFault}
 use Rattle.uefi_node_reader.specs.declared.faults.Stop.{Stop}
 
--- the test for a byte of a call that is passed over: a space, a tab, or a brace around a GUID
+-- the test for a byte of a call that is passed over: a blank, a line end, or a brace around a GUID
 abbrev pub is_blank : ℕ → Bool
-is_blank byte = (byte == 32) || ((byte == 9) || ((byte == 123) || (byte == 125)))
+is_blank byte = is_ascii_whitespace byte || ((byte == 123) || (byte == 125))
 
 -- a byte in upper case, but an `x` as the table has it in `0x`
 abbrev pub tidied_byte : ℕ → ℕ
@@ -97,10 +98,23 @@ abbrev pub whole : Option (Node × List ℕ) → Option Node
 whole None = None
 whole (Some read) = if is_empty read.1 then Some read.0 else None
 
+-- the node of no kind that a tidied text begins with, from its type on, and what stands after it
+abbrev pub types_told : List ℕ → Option (Node × List ℕ)
+types_told text = any_number 256 text >>= λ kind.
+    after (codes ",") kind.1 >>= λ u. any_number 256 u >>= λ sub_kind.
+    plain_rest kind.0 sub_kind.0 sub_kind.1
+
+-- what stands after it, or where it stops
+abbrev pub types_end : List ℕ → Result (List ℕ) Stop
+types_end text = ok_or (past (any_number 256 text)) (stop_at text (expected.Number 255))
+    >? exact_end (codes ",")
+    >? λ rest. ok_or (past (any_number 256 rest)) (stop_at rest (expected.Number 255))
+    >? rest_end Bytes (codes ")")
+
 -- the node of no kind that a tidied text has, from its type on, or where it stops
 abbrev pub path_told : Result (List ℕ) Stop → Result Node (Option Stop)
 path_told (Err stop) = Err None
-path_told (Ok rest) = ok_or (whole (types_read rest)) (Some (stop_of (types_end rest)))
+path_told (Ok rest) = ok_or (whole (types_told rest)) (Some (stop_of (types_end rest)))
 
 -- the node that a tidied text has, in a form of the table, in one that people paste, or of no kind, or where
 -- it stops; or first, where it stops telling which node it is
@@ -154,25 +168,42 @@ file_in text name (Some call) =
     ok_or (option_map (λ node. (node, call.1)) (whole (name_read (rooted call.0))))
     (fault_at_byte (length text - length name) expected.FileName)
 
+-- the test for a text that begins with a `)` after which a node may end, with blanks between them
+abbrev pub closes_node : List ℕ → Bool
+closes_node [] = false
+closes_node (c ∷ cs) = (c == 41) && is_after_node (past_spaces cs)
+
+-- where the first such `)` stands
+abbrev pub name_end : List ℕ → Option ℕ
+name_end [] = None
+name_end (c ∷ cs) = if closes_node (c ∷ cs) then Some 0 else option_map (λ place. place + 1) (name_end cs)
+
+-- what stands before the `)` that ends a name, which may have others, and what after it
+abbrev pub cut_file : List ℕ → Option (List ℕ × List ℕ)
+cut_file text =
+    option_or (option_map (λ place. (take place text, drop (place + 1) text)) (name_end text)) (cut_call text)
+
 -- the node that a text tells from the name on that stands in `File(..)`, or else as another call
 abbrev pub file_or_call : Result (List ℕ) Stop → List ℕ → Result (Node × List ℕ) NodeFault
 file_or_call (Err stop) text = call_in text (cut_call text)
-file_or_call (Ok name) text = file_in text name (cut_call name)
+file_or_call (Ok name) text = file_in text name (cut_file name)
 
 -- the node with the name that a text begins with, with a backslash before it, and what stands after it
 abbrev pub named_read : List ℕ → Option (Node × List ℕ)
 named_read text = option_map (λ node. (node, drop (position_or_len ends_name text) text))
-    (whole (name_read (rooted (name_bytes text))))
+    (whole (name_read (rooted (past_spaces (name_bytes text)))))
 
--- the test for a name that may stand without its first backslash: it has another, and neither a `)` nor a `:`
+-- the test for a name that may stand without its first backslash: it has another, and no `)`, `:` or
+-- quotation mark
 abbrev pub is_bare : List ℕ → Bool
-is_bare name = list_any (λ c. c == 92) name
-    && not (list_any (λ c. c == 41) name || list_any (λ c. c == 58) name)
+is_bare name = list_any (λ c. c == 92) name && not (list_any (λ c. c == 41) name
+    || (list_any (λ c. c == 58) name || list_any (λ c. c == 34) name))
 
--- the node with the name that a text begins with, if that may stand without its first backslash: not
--- where it is rooted, after a comma
+-- the node with the name that a text begins with, perhaps after blanks, if that may stand without its first
+-- backslash: not where it is rooted, after a comma
 abbrev pub bare_read : Bool → List ℕ → Option (Node × List ℕ)
-bare_read is_rooted text = if not is_rooted && is_bare (name_bytes text) then named_read text else None
+bare_read is_rooted text = if not (is_rooted && not (first_of (past_spaces (name_bytes text)) == 92))
+    && is_bare (past_spaces (name_bytes text)) then named_read text else None
 
 -- the test for a text that begins with a call: a `(` stands before a slash or a comma
 abbrev pub begins_call : List ℕ → Bool
@@ -183,13 +214,23 @@ abbrev pub ended : Option (Node × List ℕ) → Option (Node × List ℕ)
 ended None = None
 ended (Some read) = read_if (is_after_node read.1) read.0 read.1
 
+-- what was read, and what stands after the blanks and line ends that follow it
+abbrev pub spaced : Node × List ℕ → Node × List ℕ
+spaced read = (read.0, past_spaces read.1)
+
+-- what was read, if it ends where a node may end, perhaps with blanks after it
+abbrev pub ended_spaced : Option (Node × List ℕ) → Option (Node × List ℕ)
+ended_spaced None = None
+ended_spaced (Some read) = read_if (is_after_node (past_spaces read.1)) read.0 (past_spaces read.1)
+
 -- the fault of a text that goes on where its node should end
 abbrev pub end_fault : List ℕ → List ℕ → NodeFault
 end_fault text rest = fault_at_byte (length text - length rest) expected.End
 
--- what was read, if it ends so, or else the fault of the text
+-- what was read, if it ends so, perhaps with blanks after it, or else the fault of the text
 abbrev pub ended_at : List ℕ → Node × List ℕ → Result (Node × List ℕ) NodeFault
-ended_at text read = if is_after_node read.1 then Ok read else Err (end_fault text read.1)
+ended_at text read =
+    if is_after_node (past_spaces read.1) then Ok (spaced read) else Err (end_fault text read.1)
 
 -- the end of a text, after one byte or more
 abbrev pub IsRestOf : List ℕ → List ℕ → Type 0
@@ -213,8 +254,8 @@ or_fault fault (Err other) = Err fault
 abbrev pub exact_or : List ℕ → Option (Node × List ℕ) → Result (Node × List ℕ) NodeFault
     → Result (Node × List ℕ) NodeFault
 exact_or text None other = other
-exact_or text (Some read) other =
-    if is_after_node read.1 then Ok read else or_fault (end_fault text read.1) other
+exact_or text (Some read) other = if is_after_node (past_spaces read.1) then Ok (spaced read)
+    else or_fault (end_fault text read.1) other
 
 -- the node whose text bytes begin with as it is printed, or else as people write it, and what stands after
 -- it, or the fault of the text

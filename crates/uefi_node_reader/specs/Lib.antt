@@ -12,6 +12,7 @@ pub mod OtherForms
 pub mod Ambiguous
 pub mod LenientNodes
 pub mod Alike
+pub mod Helps
 pub mod Libefivar
 pub mod Styles
 pub mod FaultTexts

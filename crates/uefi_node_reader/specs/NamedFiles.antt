@@ -1,5 +1,6 @@
 -- Nodes that name files, whose texts are the names, and all nodes that are read.
-use Rattle.std.specs.Prelude.{◌≡◌, ℕ, Bool, true, false, nat_le, not, ◌==◌, ◌&&◌, ◌||◌, ◌⊎◌, List, [], ◌∷◌, length, take, drop, Option}
+use Rattle.std.specs.Prelude.{◌≡◌, ℕ, Bool, true, false, nat_le, not, ◌==◌, ◌&&◌, ◌||◌, ◌⊎◌, if◌then◌else◌, List, [], ◌∷◌, length, take, drop, Option}
+use Rattle.std.specs.Char.{is_ascii_whitespace}
 use Rattle.std.specs.Char.Escape.{encode_utf16}
 use Rattle.std.specs.List.{flat_map, list_all, position_or_len}
 use Rattle.std.specs.Str.{all_scalars, chars, is_utf8}
@@ -61,3 +62,8 @@ node_read text = either_read (table_read forms text) (either_read (plain_read te
 abbrev pub is_after_node : List ℕ → Bool
 is_after_node [] = true
 is_after_node (byte ∷ bytes) = ends_name byte
+
+-- bytes without the blanks and line ends at their start
+abbrev pub past_spaces : List ℕ → List ℕ
+past_spaces [] = []
+past_spaces (byte ∷ bytes) = if is_ascii_whitespace byte then past_spaces bytes else byte ∷ bytes

@@ -1,9 +1,8 @@
 -- Where a text stops being read, and readings that may stop.
-use Rattle.std.specs.Prelude.{ℕ, nat_lt, if◌then◌else◌, List, codes, drop, length, Option, Some, None, Result, Ok, Err}
+use Rattle.std.specs.Prelude.{ℕ, nat_lt, if◌then◌else◌, List, drop, length, Option, Some, None, Result, Ok, Err}
 use Rattle.std.specs.Option.{ok_or, option_map}
 use Rattle.uefi_node_table.specs.declared.rows.Tail.{Tail}
 use Rattle.uefi_node_table.specs.declared.rows.Tail.TheVariants.{Bytes, Repeated}
-use Rattle.uefi_node_reader.specs.Numerals.{number_read}
 use Rattle.uefi_node_reader.specs.TableReading.{first_of, tail_read}
 use Rattle.uefi_node_reader.specs.WordReading.{after}
 use Rattle.uefi_node_reader.specs.declared.faults.Expected.{Expected}
@@ -48,13 +47,6 @@ close_stop tail close text = stop_at text (expected.Byte (first_of close))
 abbrev pub rest_end : Tail → List ℕ → List ℕ → Result (List ℕ) Stop
 rest_end tail close text = ok_or (past (tail_read tail close text)) (tail_stop tail text)
     >? λ rest. ok_or (after close rest) (close_stop tail close rest)
-
--- what stands after a node of no kind, from its type on
-abbrev pub types_end : List ℕ → Result (List ℕ) Stop
-types_end text = ok_or (past (number_read 10 256 text)) (stop_at text (expected.Number 255))
-    >? exact_end (codes ",")
-    >? λ rest. ok_or (past (number_read 10 256 rest)) (stop_at rest (expected.Number 255))
-    >? rest_end Bytes (codes ")")
 
 -- where a text stops being that of a node: if all of it was read, its text does not tell the node
 abbrev pub stop_of : Result (List ℕ) Stop → Stop

@@ -89,7 +89,7 @@ fn some_digits(base: u64, last: u64, text: &[u8]) -> Option<(u64, &[u8])>
 }
 
 /// The number up to `last` that a text begins with, and what stands after it.
-fn any_number(last: u64, text: &[u8]) -> Option<(u64, &[u8])>
+pub(crate) fn any_number(last: u64, text: &[u8]) -> Option<(u64, &[u8])>
     ensures { option_map (λ x. (x.0, x.1.now)) result ≡ any_number (last + 1) text.now }
 {
     if begins_base(text) {

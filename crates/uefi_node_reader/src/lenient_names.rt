@@ -2,16 +2,17 @@
 #![tactic(auto)]
 
 ghost use Rattle.std.specs.Option.{option_map};
-ghost use Rattle.std.specs.Prelude.{◌≡◌, ◌<◌, ◌≤◌, length, take};
+ghost use Rattle.std.specs.Prelude.{◌≡◌, ◌<◌, ◌≤◌, IfSome, length, take};
 ghost use Rattle.std.specs.Result.{result_map_both};
-ghost use Rattle.uefi_node_reader.specs.LenientNodes.{bare_read, begins_call, cut_call, file_in, is_bare, rooted, whole};
+ghost use Rattle.uefi_node_reader.specs.LenientNodes.{bare_read, begins_call, closes_node, cut_file, file_in, name_end, is_bare, rooted, whole};
 ghost use Rattle.uefi_node_reader.specs.NamedFiles.{name_read};
 ghost use Rattle.uefi_node_reader.specs.TextNodeViews.{text_node};
 
+use crate::clear_texts::first_of;
 use crate::counted_bytes::{push, push_all};
 use crate::faults::{Expected, NodeFault};
 use crate::lenient_table::cut_call;
-use crate::named_files::{name, name_len};
+use crate::named_files::{is_after_node, name, name_len, past_spaces};
 use crate::text_node::TextNode;
 
 /// Puts a name into a buffer, with a backslash at its start. Returns how many bytes these are.
@@ -42,8 +43,41 @@ fn whole_name<'a>(scratch: &'a mut [u8], text: &[u8]) -> Option<TextNode<'a>>
     }
 }
 
+/// Whether a text begins with a `)` after which a node may end, with blanks between them.
+fn closes_node(text: &[u8]) -> bool
+    ensures { result ≡ closes_node text.now }
+{
+    match text {
+        [first, rest @ ..] => *first == b')' && is_after_node(past_spaces(rest)),
+        [] => false,
+    }
+}
+
+/// Where the first such `)` stands.
+fn name_end(text: &[u8]) -> Option<usize>
+    ensures place { result ≡ name_end text.now }
+    ensures within { IfSome result (λ place. place < length text.now) }
+{
+    for place in 0..text.len() {
+        if closes_node(&text[place..]) {
+            return Some(place);
+        }
+    }
+    None
+}
+
+/// What stands before the `)` that ends a name, which may have others, and what after it.
+fn cut_file(text: &[u8]) -> Option<(&[u8], &[u8])>
+    ensures { option_map (λ x. (x.0.now, x.1.now)) result ≡ cut_file text.now }
+{
+    match name_end(text) {
+        Some(place) => Some((&text[..place], &text[place + 1..])),
+        None => cut_call(text),
+    }
+}
+
 /// Reads the node with the name that stands in `File(..)`, from the name on in a text. Returns what stands
-/// after the first `)`, too, or the fault of the text.
+/// after the `)` that ends it, too, or the fault of the text.
 pub(crate) fn file<'s, 't>(
     scratch: &'s mut [u8],
     text: &[u8],
@@ -51,9 +85,9 @@ pub(crate) fn file<'s, 't>(
 ) -> Result<(TextNode<'s>, &'t [u8]), NodeFault>
     requires { length name.now < length scratch.old }
     ensures { result_map_both (λ x. (text_node x.0, x.1.now)) (λ e. e) result
-        ≡ file_in text.now name.now (cut_call name.now) }
+        ≡ file_in text.now name.now (cut_file name.now) }
 {
-    let Some((front, rest)) = cut_call(name) else {
+    let Some((front, rest)) = cut_file(name) else {
         return Err(NodeFault {
             byte: text.len(),
             expected: Expected::Byte(b')'),
@@ -76,15 +110,16 @@ pub(crate) fn begins_call(text: &[u8]) -> bool
     name.iter().any(|byte| *byte == b'(')
 }
 
-/// Whether a name may stand without its first backslash: it has another, and neither a `)` nor a `:`.
+/// Whether a name may stand without its first backslash: it has another, and no `)`, `:` or quotation mark.
 fn is_bare(name: &[u8]) -> bool
     ensures { result ≡ is_bare name.now }
 {
-    name.contains(&b'\\') && !(name.contains(&b')') || name.contains(&b':'))
+    name.contains(&b'\\')
+        && !(name.contains(&b')') || (name.contains(&b':') || name.contains(&b'"')))
 }
 
-/// Reads the node with the name that a text begins with, if that may stand without its first backslash: not
-/// where it is rooted. Returns what stands after it, too.
+/// Reads the node with the name that a text begins with, perhaps after blanks, if that may stand without its
+/// first backslash: not where it is rooted. Returns what stands after it, too.
 pub(crate) fn bare<'s, 't>(
     is_rooted: bool,
     scratch: &'s mut [u8],
@@ -94,9 +129,10 @@ pub(crate) fn bare<'s, 't>(
     ensures { option_map (λ x. (text_node x.0, x.1.now)) result ≡ bare_read is_rooted text.now }
 {
     let (front, rest) = text.split_at(name_len(text));
-    if is_rooted || !is_bare(front) {
+    let name = past_spaces(front);
+    if is_rooted && first_of(name) != b'\\' || !is_bare(name) {
         return None;
     }
-    let node = whole_name(scratch, front)?;
+    let node = whole_name(scratch, name)?;
     Some((node, rest))
 }

@@ -18,19 +18,19 @@ use crate::counted_bytes::push;
 use crate::faults::{Expected, NodeFault, Stop};
 use crate::lenient_fields::{after_letter, after_literal, set_pieces};
 use crate::other_forms::pasted_forms;
-use crate::plain_nodes::plain_types;
-use crate::stops::{further, rest_end, stop_at, stop_of, types_end};
+use crate::plain_nodes::{told_types, types_end};
+use crate::stops::{further, rest_end, stop_at, stop_of};
 use crate::table_reader::{finish_row, fixed_part, read_row};
 use crate::telling::tells;
 use crate::text_node::TextNode;
 use uefi_node_table::rows::{Mode, Row, Tail};
 use uefi_node_table::table::{GROUPS, group};
 
-/// Whether a byte of a call is passed over: a space, a tab, or a brace around a GUID.
+/// Whether a byte of a call is passed over: a blank, a line end, or a brace around a GUID.
 pub(crate) fn is_blank(byte: u8) -> bool
     ensures { result ≡ is_blank byte }
 {
-    byte == b' ' || byte == b'\t' || byte == b'{' || byte == b'}'
+    byte.is_ascii_whitespace() || byte == b'{' || byte == b'}'
 }
 
 /// A byte in upper case, but an `x` as the table has it in `0x`.
@@ -234,7 +234,7 @@ fn try_path(text: &[u8]) -> Result<TextNode<'_>, Option<Stop>>
     let Ok(rest) = after_literal(b"Path(", text) else {
         return Err(None);
     };
-    match plain_types(rest) {
+    match told_types(rest) {
         Some((node, [])) => Ok(node),
         _ => Err(Some(stop_of(types_end(rest)))),
     }

@@ -5,7 +5,7 @@ ghost use Rattle.std.specs.Prelude.{◌≡◌, ◌≤◌, length};
 ghost use Rattle.std.specs.List.{list_all, position_or_len};
 ghost use Rattle.std.specs.Option.{option_map};
 ghost use Rattle.std.specs.Str.{chars};
-ghost use Rattle.uefi_node_reader.specs.NamedFiles.{begins_name, ends_name, is_name_char, name_read};
+ghost use Rattle.uefi_node_reader.specs.NamedFiles.{begins_name, ends_name, is_after_node, is_name_char, name_read, past_spaces};
 ghost use Rattle.uefi_node_reader.specs.TextNodeViews.{text_node};
 
 use crate::text_node::TextNode;
@@ -16,6 +16,24 @@ pub(crate) fn ends_name(byte: u8) -> bool
     ensures { result ≡ ends_name byte }
 {
     byte == b'/' || byte == b','
+}
+
+/// Whether a node may end before a text: before a slash, a comma or the end.
+pub(crate) fn is_after_node(text: &[u8]) -> bool
+    ensures { result ≡ is_after_node text.now }
+{
+    match text {
+        [first, ..] => ends_name(*first),
+        [] => true,
+    }
+}
+
+/// A text without the blanks and line ends at its start.
+pub(crate) fn past_spaces(text: &[u8]) -> &[u8]
+    ensures rest { result.now ≡ past_spaces text.now }
+    ensures within { length result.now ≤ length text.now }
+{
+    text.trim_ascii_start()
 }
 
 /// How many bytes of a text stand before a slash or a comma.

@@ -5,6 +5,7 @@ ghost use Rattle.std.specs.Prelude.{◌≡◌, ◌<◌, ◌≤◌, codes, length
 ghost use Rattle.std.specs.Option.{option_map};
 ghost use Rattle.std.specs.Result.{result_map_both};
 ghost use Rattle.uefi_node_reader.specs.Alike.{CallsAlike, ZerosAlike, ZerosAlikeAfterBase};
+ghost use Rattle.uefi_node_reader.specs.Helps.{ExpectedHelps};
 ghost use Rattle.uefi_node_reader.specs.Laws.{NodeAgain, NodeFits, NodeStarts, NodeTakes, NodeTextOnce};
 ghost use Rattle.uefi_node_reader.specs.LenientFields.{after_literal};
 ghost use Rattle.uefi_node_reader.specs.LenientNodes.{end_fault, ended, ended_at, file_or_call, lenient_read, written_read};
@@ -16,7 +17,7 @@ use crate::faults::{Expected, NodeFault};
 use crate::lenient_fields::after_literal;
 use crate::lenient_names::{bare, begins_call, file};
 use crate::lenient_table::by_call;
-use crate::named_files::{ends_name, name};
+use crate::named_files::{is_after_node, name, past_spaces};
 use crate::plain_nodes::plain;
 use crate::table_reader::by_table;
 use crate::text_node::TextNode;
@@ -37,16 +38,6 @@ pub fn read_node(text: &[u8]) -> Option<(TextNode<'_>, &[u8])>
         return Some(read);
     }
     name(text)
-}
-
-/// Whether a node may end before a text: before a slash, a comma or the end.
-fn is_after_node(text: &[u8]) -> bool
-    ensures { result ≡ is_after_node text.now }
-{
-    match text {
-        [first, ..] => ends_name(*first),
-        [] => true,
-    }
 }
 
 /// What was read, where it ends as a node may end.
@@ -73,7 +64,8 @@ fn end_fault(text: &[u8], rest: &[u8]) -> NodeFault
     }
 }
 
-/// What was read, where it ends as a node may end, or else the fault of the text.
+/// What was read, where it ends as a node may end, perhaps with blanks after it, or else the fault of the
+/// text.
 pub(crate) fn ended_at<'s, 't>(
     text: &[u8],
     read: (TextNode<'s>, &'t [u8]),
@@ -81,10 +73,12 @@ pub(crate) fn ended_at<'s, 't>(
     ensures { result_map_both (λ x. (text_node x.0, x.1.now)) (λ e. e) result
         ≡ ended_at text.now (text_node read.entry.0, read.entry.1.now) }
 {
-    if is_after_node(read.1) {
-        return Ok(read);
+    let (node, rest) = read;
+    let after = past_spaces(rest);
+    if is_after_node(after) {
+        return Ok((node, after));
     }
-    Err(end_fault(text, read.1))
+    Err(end_fault(text, rest))
 }
 
 /// Reads the node whose call a text begins with.
@@ -158,8 +152,9 @@ pub fn read_lenient_node<'s, 't: 's>(
     let Some((node, rest)) = read_node(text) else {
         return written(is_rooted, scratch, text);
     };
-    if is_after_node(rest) {
-        return Ok((node, rest));
+    let after = past_spaces(rest);
+    if is_after_node(after) {
+        return Ok((node, after));
     }
     match written(is_rooted, scratch, text) {
         Ok(read) => Ok(read),
@@ -187,4 +182,11 @@ pub fn texts_alike()
     ensures calls { CallsAlike }
     ensures zeros { ZerosAlike }
     ensures zeros_after_base { ZerosAlikeAfterBase }
+{}
+
+/// If a call is refused, and what is expected there is put in, in place of any text from there on, the call is
+/// read, or wrong only after that. This is of a byte, a number, digits, a parity and stop bits, unless the wrong
+/// byte is a `)`, before which numbers may be left out, or the call with it lacks a `0x`.
+pub fn expected_helps()
+    ensures { ExpectedHelps }
 {}

@@ -51,12 +51,19 @@ const PASTED: &[Row] = &[
         8 = 0xa0 9 = 0x73 10 = 0xd0 11 = 0x1d 12 = 0xe7 13 = 0x7e 14 = 0x2d 15 = 0x88] "VenUtf8()"),
     form!(3 10 16 [0 = 0xd2 1 = 0xe8 2 = 0xa4 3 = 0xeb 4 = 0x58 5 = 0x38 6 = 0xec 7 = 0x41
         8 = 0xa2 9 = 0x81 10 = 0x26 11 = 0x47 12 = 0xba 13 = 0x96 14 = 0x60 15 = 0xd0] "DebugPort()"),
+    form!(3 1 4 [] "Ata(0x0)"),
+    form!(3 1 4 [] "Ata(Primary,Master)"),
+    form!(3 1 4 [1 = 0x01] "Ata(Primary,Slave)"),
+    form!(3 1 4 [0 = 0x01] "Ata(Secondary,Master)"),
+    form!(3 1 4 [0 = 0x01 1 = 0x01] "Ata(Secondary,Slave)"),
     form!(3 11 33 [] "MAC(" [Forth 0 6 ",0x"] [Hexadecimal 32 1 ")"]),
     form!(3 11 33 [] "MAC(" [Forth 0 1 ":"] [Forth 1 1 ":"] [Forth 2 1 ":"] [Forth 3 1 ":"]
         [Forth 4 1 ":"] [Forth 5 1 ",0x"] [Hexadecimal 32 1 ")"]),
     form!(3 11 33 [] "MAC(" [Forth 0 1 "-"] [Forth 1 1 "-"] [Forth 2 1 "-"] [Forth 3 1 "-"]
         [Forth 4 1 "-"] [Forth 5 1 ",0x"] [Hexadecimal 32 1 ")"]),
     form!(3 12 23 [] "IPv4(" [Decimal 4 1 "."] [Decimal 5 1 "."] [Decimal 6 1 "."] [Decimal 7 1 ")"]),
+    form!(3 13 56 [38 = 0x02] "IPv6(" [Forth 16 2 ":"] [Forth 18 2 ":"] [Forth 20 2 ":"]
+        [Forth 22 2 ":"] [Forth 24 2 ":"] [Forth 26 2 ":"] [Forth 28 2 ":"] [Forth 30 2 ")"]),
     form!(3 23 12 [] "NVMe(0x" [Hexadecimal 0 4 ")"]),
     form!(3 27 6 [] "Bluetooth(" [Forth 0 1 ":"] [Forth 1 1 ":"] [Forth 2 1 ":"] [Forth 3 1 ":"]
         [Forth 4 1 ":"] [Forth 5 1 ")"]),

@@ -2,15 +2,23 @@
 #![tactic(auto)]
 
 ghost use Rattle.std.specs.Prelude.{◌≡◌, ℕ, List, false, length};
-ghost use Rattle.std.specs.Option.{option_and_then, option_map};
+ghost use Rattle.std.specs.Option.{ok_or, option_and_then, option_map};
+ghost use Rattle.std.specs.Result.{result_map_both};
 ghost use Rattle.uefi_device_nodes.specs.Nodes.{node_with};
 ghost use Rattle.uefi_device_nodes.specs.NodeTexts.{is_irregular};
+ghost use Rattle.uefi_node_reader.specs.LenientFields.{any_number};
+ghost use Rattle.uefi_node_reader.specs.LenientNodes.{types_end, types_told};
 ghost use Rattle.uefi_node_reader.specs.Numerals.{number_read};
 ghost use Rattle.uefi_node_reader.specs.PlainNodes.{is_plain, plain_read, plain_rest, types_read};
+ghost use Rattle.uefi_node_reader.specs.Stops.{past, stop_at};
 ghost use Rattle.uefi_node_reader.specs.TextNodeViews.{text_node};
+ghost use Rattle.uefi_node_reader.specs.declared.faults.Expected.TheVariants.{Number};
 
+use crate::faults::{Expected, Stop};
 use crate::fields::after;
+use crate::lenient_fields::any_number;
 use crate::numerals::number;
+use crate::stops::{exact_end, rest_end, stop_at};
 use crate::text_node::TextNode;
 use uefi_node_table::printing::has_form;
 use uefi_node_table::rows::Tail;
@@ -76,7 +84,7 @@ fn plain_from<'a>(device_type: u8, sub_type: u8, text: &'a [u8]) -> Option<(Text
 }
 
 /// Reads a node of no kind from its type on. Returns what stands after it, too.
-pub(crate) fn plain_types(text: &[u8]) -> Option<(TextNode<'_>, &[u8])>
+fn plain_types(text: &[u8]) -> Option<(TextNode<'_>, &[u8])>
     ensures { option_map (λ x. (text_node x.0, x.1.now)) result ≡ types_read text.now }
 {
     let (device_type, sub_type, rest) = types(text)?;
@@ -88,4 +96,51 @@ pub(crate) fn plain(text: &[u8]) -> Option<(TextNode<'_>, &[u8])>
     ensures { option_map (λ x. (text_node x.0, x.1.now)) result ≡ plain_read text.now }
 {
     plain_types(after(b"Path(", text)?)
+}
+
+/// The byte whose number a tidied text begins with, and what stands after it.
+fn any_byte(text: &[u8]) -> Option<(u8, &[u8])>
+    ensures { option_map (λ x. (x.0, x.1.now)) result ≡ any_number 256 text.now }
+{
+    let (value, rest) = any_number(0xff, text)?;
+    Some((value as u8, rest))
+}
+
+/// The type and the sub-type that a tidied text begins with, and what stands after them.
+fn any_types(text: &[u8]) -> Option<(u8, u8, &[u8])>
+    ensures { option_and_then (λ x. plain_rest x.0 x.1 x.2.now) result ≡ types_told text.now }
+{
+    let (device_type, rest) = any_byte(text)?;
+    let rest = after(b",", rest)?;
+    let (sub_type, rest) = any_byte(rest)?;
+    Some((device_type, sub_type, rest))
+}
+
+/// Reads a node of no kind from its type on, as people write it. Returns what stands after it, too.
+pub(crate) fn told_types(text: &[u8]) -> Option<(TextNode<'_>, &[u8])>
+    ensures { option_map (λ x. (text_node x.0, x.1.now)) result ≡ types_told text.now }
+{
+    let (device_type, sub_type, rest) = any_types(text)?;
+    plain_from(device_type, sub_type, rest)
+}
+
+/// What stands after a number of a byte.
+fn byte_end(text: &[u8]) -> Result<&[u8], Stop>
+    ensures { result_map_both (λ x. x.now) (λ e. e) result
+        ≡ ok_or (past (any_number 256 text.now)) (stop_at text.now (Number 255)) }
+{
+    match any_number(0xff, text) {
+        Some((_, rest)) => Ok(rest),
+        None => Err(stop_at(text, Expected::Number(0xff))),
+    }
+}
+
+/// What stands after a node of no kind as people write it, from its type on.
+pub(crate) fn types_end(text: &[u8]) -> Result<&[u8], Stop>
+    ensures { result_map_both (λ x. x.now) (λ e. e) result ≡ types_end text.now }
+{
+    let rest = byte_end(text)?;
+    let rest = exact_end(b",", rest)?;
+    let rest = byte_end(rest)?;
+    rest_end(Tail::Bytes, b")", rest)
 }

@@ -4,16 +4,13 @@
 ghost use Rattle.std.specs.Option.{ok_or, option_map};
 ghost use Rattle.std.specs.Prelude.{◌≡◌};
 ghost use Rattle.std.specs.Result.{result_map_both};
-ghost use Rattle.uefi_node_reader.specs.Numerals.{number_read};
-ghost use Rattle.uefi_node_reader.specs.Stops.{close_stop, exact_end, further, past, rest_end, stop_at, stop_of, tail_stop, types_end};
+ghost use Rattle.uefi_node_reader.specs.Stops.{close_stop, exact_end, further, past, rest_end, stop_at, stop_of, tail_stop};
 ghost use Rattle.uefi_node_reader.specs.TableReading.{tail_read};
-ghost use Rattle.uefi_node_reader.specs.declared.faults.Expected.TheVariants.{Number};
 
 use crate::clear_texts::first_of;
 use crate::faults::{Expected, Stop};
 use crate::fields::after;
 use crate::node_tails::push_tail;
-use crate::numerals::number;
 use uefi_node_table::rows::Tail;
 
 /// A text that stops here, where this was expected.
@@ -44,7 +41,7 @@ pub(crate) fn further(one: Option<Stop>, other: Option<Stop>) -> Option<Stop>
 }
 
 /// What stands after a literal as it is printed.
-fn exact_end<'a>(literal: &[u8], text: &'a [u8]) -> Result<&'a [u8], Stop>
+pub(crate) fn exact_end<'a>(literal: &[u8], text: &'a [u8]) -> Result<&'a [u8], Stop>
     ensures { result_map_both (λ x. x.now) (λ e. e) result ≡ exact_end literal.now text.now }
 {
     after(literal, text).ok_or(stop_at(text, Expected::Byte(first_of(literal))))
@@ -85,27 +82,6 @@ pub(crate) fn rest_end<'a>(tail: Tail, close: &[u8], text: &'a [u8]) -> Result<&
 {
     let rest = tail_rest(tail, close, text).ok_or(tail_stop(tail, text))?;
     after(close, rest).ok_or(close_stop(tail, close, rest))
-}
-
-/// What stands after a number of a byte in decimal.
-fn byte_end(text: &[u8]) -> Result<&[u8], Stop>
-    ensures { result_map_both (λ x. x.now) (λ e. e) result
-        ≡ ok_or (past (number_read 10 256 text.now)) (stop_at text.now (Number 255)) }
-{
-    match number(10, 0xff, text) {
-        Some((_, rest)) => Ok(rest),
-        None => Err(stop_at(text, Expected::Number(0xff))),
-    }
-}
-
-/// What stands after a node of no kind, from its type on.
-pub(crate) fn types_end(text: &[u8]) -> Result<&[u8], Stop>
-    ensures { result_map_both (λ x. x.now) (λ e. e) result ≡ types_end text.now }
-{
-    let rest = byte_end(text)?;
-    let rest = exact_end(b",", rest)?;
-    let rest = byte_end(rest)?;
-    rest_end(Tail::Bytes, b")", rest)
 }
 
 /// Where a text stops being that of a node: if all of it was read, its text does not tell the node.
