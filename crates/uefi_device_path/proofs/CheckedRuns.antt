@@ -1,14 +1,15 @@
 -- What is checked of bytes: the nodes of a path, or those before a fault and that fault.
-use Rattle.std.proofs.Common.{◌≡◌, ◌≢◌, ◌∙◌, ap, sym, refl, subst, take, ℕ, zero, suc, ◌+◌, ◌-◌, ◌<◌, ◌≤◌, List, [], ◌∷◌, ◌++◌, All, Bool, Option, None, Some, length, map, drop, length-append, append_assoc, arith}
+use Rattle.std.proofs.Common.{◌≡◌, ◌≢◌, ◌∙◌, ap, sym, refl, subst, take, ℕ, zero, suc, ◌+◌, ◌-◌, ◌*◌, ◌/◌, ◌%◌, ◌<◌, ◌≤◌, ◌⊎◌, inl, inr, List, [], ◌∷◌, ◌++◌, All, Bool, Option, None, Some, length, map, drop, length-append, append_assoc, arith}
 use Rattle.std.specs.Prelude.{Ok, Err, true, false, if◌then◌else◌}
 use Rattle.std.proofs.lemmas.Grind.{common_steps}
 use Rattle.std.proofs.lemmas.Bool.Decides.{nat_tests}
-use Rattle.std.proofs.lemmas.List.{append-nil, length-drop, take-append-drop, take_at}
-use Rattle.std.proofs.lemmas.List.Elements.{All-head, All-nil, All-tail}
+use Rattle.std.proofs.lemmas.List.{append-nil, length-drop, length-take-le, take-append-drop, take_at}
+use Rattle.std.proofs.lemmas.List.Elements.{All-cons, All-drop, All-head, All-nil, All-tail}
+use Rattle.uefi_text.specs.Packed.{IsByte}
 use Rattle.uefi_device_nodes.specs.NodeFaults.{fault_place, node_fault}
-use Rattle.uefi_device_nodes.specs.Nodes.{IsInner, Node, end_entire, first_node, node_bytes, node_length, stated_length}
+use Rattle.uefi_device_nodes.specs.Nodes.{IsInner, IsSound, Node, end_entire, first_node, node_bytes, node_length, stated_length}
 use Rattle.uefi_device_nodes.specs.declared.errors.NodeError.{NodeError}
-use Rattle.uefi_device_path.specs.CheckedNodes.{BeginWithEnd, Checked, checked_at, checked_by, checked_within, nodes_before, rest_at}
+use Rattle.uefi_device_path.specs.CheckedNodes.{BeginWithEnd, Checked, all_checked, checked_at, checked_by, checked_within, node_before, nodes_before, path_of_bytes, rest_at}
 use Rattle.uefi_device_path.specs.Faults.{RefusedFor, RefusesNode}
 use Rattle.uefi_device_path.specs.PathLists.{is_end_entire}
 use Rattle.uefi_device_path.specs.Paths.{BeginWith, BeginWithPath, nodes_bytes, nodes_in}
@@ -129,9 +130,136 @@ checked_refused bytes error nodes rest refused =
     ∙ ap (λ k. map Ok nodes ++ k) (checked_fault (length bytes - length nodes) (0 + length (nodes_bytes nodes)) rest error.cause refused.cause)
     ∙ ap (λ e. map Ok nodes ++ Err e ∷ []) (same_error error.cause error.cause _ error.offset refl place)
 
+-- what bytes are read as
+all_nodes : (nodes : List Node) → all_checked (map Ok nodes) ≡ Ok nodes
+all_nodes [] = refl
+all_nodes (node ∷ nodes) = ap (node_before node) (all_nodes nodes)
+
+all_before_fault : (nodes : List Node) (error : DevicePathError) → all_checked (map Ok nodes ++ Err error ∷ []) ≡ Err error
+all_before_fault [] error = refl
+all_before_fault (node ∷ nodes) error = ap (node_before node) (all_before_fault nodes error)
+
+pub path_is_read : (bytes : List ℕ) (nodes : List Node) → BeginWithPath bytes nodes → path_of_bytes bytes ≡ Ok nodes
+unfolding path_of_bytes
+path_is_read bytes nodes path = ap all_checked (checked_path bytes nodes path) ∙ all_nodes nodes
+
+pub refusal_is_read : (bytes : List ℕ) (error : DevicePathError) → RefusedFor bytes error → path_of_bytes bytes ≡ Err error
+unfolding path_of_bytes
+refusal_is_read bytes error refused =
+    ap all_checked (checked_refused bytes error refused.0 refused.1 refused.2) ∙ all_before_fault refused.0 error
+
 -- a node has a header, and ends in the bytes
 node_within : (bytes : List ℕ) → node_fault bytes ≡ None → (4 ≤ stated_length bytes) × (stated_length bytes ≤ length bytes)
 node_within bytes none = (grind (arith, nat_tests, none), grind (arith, nat_tests, none))
+
+-- where there is no fault, bytes begin with a node
+begins_node : (bytes : List ℕ) → All IsByte bytes → node_fault bytes ≡ None
+    → IsSound (first_node bytes) × (bytes ≡ node_bytes (first_node bytes) ++ drop (stated_length bytes) bytes)
+begins_node (a ∷ b ∷ c ∷ d ∷ rest) byte none =
+    let bytes : List ℕ = a ∷ b ∷ c ∷ d ∷ rest in
+    let within = node_within bytes none in
+    let low : c < 256 = All-head IsByte c (d ∷ rest) (All-tail IsByte b (c ∷ d ∷ rest) (All-tail IsByte a (b ∷ c ∷ d ∷ rest) byte)) in
+    let more = c + 256 * d - 4 in
+    let stated : c + 256 * d ≡ suc (suc (suc (suc more))) = omega (arith, within.0) in
+    let content : drop 4 (take (c + 256 * d) bytes) ≡ take more rest = ap (λ n. drop 4 (take n bytes)) stated in
+    let after : drop (c + 256 * d) bytes ≡ drop more rest = ap (λ n. drop n bytes) stated in
+    let long : length (take more rest) ≡ more = length-take-le more rest (omega (arith, within.1, stated)) in
+    let count : node_length (first_node bytes) ≡ c + 256 * d = omega (arith, ap length content, long, stated) in
+    let front : node_length (first_node bytes) % 256 ≡ c = omega (arith, count, low) in
+    let back : node_length (first_node bytes) / 256 ≡ d = omega (arith, count, low) in
+    (sound more content, cc (front, back, content, after, take-append-drop more rest))
+  where
+    sound : (more : ℕ) → drop 4 (take (c + 256 * d) (a ∷ b ∷ c ∷ d ∷ rest)) ≡ take more rest → IsSound (first_node (a ∷ b ∷ c ∷ d ∷ rest))
+    sound more content is_end =
+        let four : c + 256 * d ≡ 4 = grind (arith, nat_tests, none) in
+        (ap (λ n. drop 4 (take n (a ∷ b ∷ c ∷ d ∷ rest))) four, λ other. grind (arith, nat_tests, none))
+begins_node [] byte none = absurd (omega (arith, node_within [] none))
+begins_node (a ∷ []) byte none = absurd (omega (arith, node_within (a ∷ []) none))
+begins_node (a ∷ b ∷ []) byte none = absurd (omega (arith, node_within (a ∷ b ∷ []) none))
+begins_node (a ∷ b ∷ c ∷ []) byte none = absurd (omega (arith, node_within (a ∷ b ∷ c ∷ []) none))
+
+-- bytes begin with a path, or are refused
+decided : (count : ℕ) (bytes : List ℕ) → length bytes < count → All IsByte bytes
+    → ((nodes : List Node) × BeginWithPath bytes nodes) ⊎ ((error : DevicePathError) × RefusedFor bytes error)
+decided zero bytes few byte = absurd (omega (arith, few))
+decided (suc count) bytes few byte = by (node_fault bytes) refl (λ after_few after_byte. decided count (drop (stated_length bytes) bytes) after_few after_byte)
+  where
+    after : List ℕ
+    after = drop (stated_length bytes) bytes
+
+    Decided : List ℕ → Type 0
+    Decided k = ((nodes : List Node) × BeginWithPath k nodes) ⊎ ((error : DevicePathError) × RefusedFor k error)
+
+    more : (node : Node) → IsInner node → bytes ≡ node_bytes node ++ after → Decided after → Decided bytes
+    more node inner split (inl found) =
+        inl (
+          node ∷ found.0,
+          (
+            found.1.0,
+            record {
+              inner = All-cons IsInner node found.0 inner found.1.1.inner;
+              join = split ∙ ap (λ k. node_bytes node ++ k) found.1.1.join ∙ sym (append_assoc (node_bytes node) (nodes_bytes found.0) (node_bytes end_entire ++ found.1.0));
+            },
+          ),
+        )
+    more node inner split (inr found) =
+        let why = found.1.2 in
+        inr (
+          record { cause = found.0.cause; offset = node_length node + found.0.offset },
+          (
+            node ∷ found.1.0,
+            found.1.1,
+            record {
+              begins = record {
+                inner = All-cons IsInner node found.1.0 inner why.begins.inner;
+                join = split ∙ ap (λ k. node_bytes node ++ k) why.begins.join ∙ sym (append_assoc (node_bytes node) (nodes_bytes found.1.0) found.1.1);
+              };
+              cause = why.cause;
+              offset = omega (arith, why.offset, long_joined node found.1.0);
+            },
+          ),
+        )
+
+    ends : (node : Node) → IsSound node → bytes ≡ node_bytes node ++ after → (b : Bool) → is_end_entire node ≡ b → Decided after → Decided bytes
+    ends node sound split true e others =
+        let is : node ≡ end_entire = grind (arith, common_steps, sound) in
+        inl ([], (after, record { inner = All-nil IsInner; join = split ∙ ap (λ n. node_bytes n ++ after) is }))
+    ends node sound split false e others =
+        more node (record { sound = sound; not_end = λ is. absurd (cc (e, ap is_end_entire is)) }) split others
+
+    by : (fault : Option NodeError) → node_fault bytes ≡ fault → (length after < count → All IsByte after → Decided after) → Decided bytes
+    by (Some cause) e others = inr (
+      record { cause = cause; offset = fault_place cause },
+      (
+        [],
+        bytes,
+        record {
+          begins = record { inner = All-nil IsInner; join = refl };
+          cause = e;
+          offset = omega arith;
+        },
+      ),
+    )
+    by None e others =
+        let begins = begins_node bytes byte e in
+        let within = node_within bytes e in
+        ends (first_node bytes) begins.0 begins.1 (is_end_entire (first_node bytes)) refl
+        (others (omega (arith, few, within.0, within.1, length-drop (stated_length bytes) bytes)) (All-drop IsByte (stated_length bytes) bytes byte))
+
+-- so what they are read as is what they begin with, or why they are refused
+pub reads_path : (bytes : List ℕ) (nodes : List Node) → All IsByte bytes → path_of_bytes bytes ≡ Ok nodes → BeginWithPath bytes nodes
+reads_path bytes nodes byte e = by (decided (suc (length bytes)) bytes (omega arith) byte)
+  where
+    by : (((ns : List Node) × BeginWithPath bytes ns) ⊎ ((error : DevicePathError) × RefusedFor bytes error)) → BeginWithPath bytes nodes
+    by (inl found) = let same : found.0 ≡ nodes = cc (e, path_is_read bytes found.0 found.1) in subst (BeginWithPath bytes) same found.1
+    by (inr found) = absurd (cc (e, refusal_is_read bytes found.0 found.1))
+
+pub reads_refusal : (bytes : List ℕ) (error : DevicePathError) → All IsByte bytes → path_of_bytes bytes ≡ Err error → RefusedFor bytes error
+reads_refusal bytes error byte e = by (decided (suc (length bytes)) bytes (omega arith) byte)
+  where
+    by : (((ns : List Node) × BeginWithPath bytes ns) ⊎ ((other : DevicePathError) × RefusedFor bytes other)) → RefusedFor bytes error
+    by (inl found) = absurd (cc (e, path_is_read bytes found.0 found.1))
+    by (inr found) = let same : found.0 ≡ error = cc (e, refusal_is_read bytes found.0 found.1) in subst (RefusedFor bytes) same found.1
 
 -- more than one for each byte are enough
 enough : (j k offset : ℕ) (bytes : List ℕ) → length bytes < j → length bytes < k

@@ -18,6 +18,7 @@ pub mod TextLengths
 pub mod PushedTexts
 pub mod NamesInARow
 pub mod ShownPaths
+mod LoweredTexts
 pub mod StyledReading
 pub mod StyledPushes
 pub mod PrintedReading

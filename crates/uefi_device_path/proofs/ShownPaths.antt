@@ -6,11 +6,14 @@ use Rattle.std.proofs.lemmas.List.Elements.{All-cons, All-head, All-nil, All-tai
 use Rattle.uefi_text.specs.Packed.{IsByte}
 use Rattle.uefi_field_texts.specs.ShownTexts.{AsciiShown, IsShown, JoinedShown}
 use Rattle.uefi_device_nodes.specs.Nodes.{Node, is_end_instance}
-use Rattle.uefi_device_nodes.specs.NodeTexts.{node_text}
+use Rattle.uefi_device_nodes.specs.NodeTexts.{is_file_node, node_text}
 use Rattle.uefi_device_nodes.specs.ShownNodes.{NodesShown}
 use Rattle.uefi_device_path.specs.Instances.{instances}
-use Rattle.uefi_device_path.specs.Laws.{InstancesShown, PathsShown}
-use Rattle.uefi_device_path.specs.PathTexts.{instance_text, nodes_text}
+use Rattle.uefi_device_path.specs.Laws.{InstancesShown, LibefivarShown, PathsShown}
+use Rattle.uefi_device_path.specs.LibefivarTexts.{is_partition, libefivar_node_text, lowered_text}
+use Rattle.uefi_device_path.specs.PathTexts.{instance_text, libefivar_text, nodes_text}
+use Rattle.uefi_field_texts.proofs.ShownTexts.{shown_utf8}
+use Rattle.uefi_device_path.proofs.LoweredTexts.{lowered_shown}
 
 -- what holds of all elements holds of those of each part
 module _ {X : Type 0} (P : X → Type 0) (test : X → Bool) where
@@ -47,6 +50,26 @@ module _ (joined : JoinedShown) (ascii : AsciiShown) (nodes_shown : NodesShown) 
   unfolding instance_text
   instances_shown display_only shortcuts nodes all =
       join_shown HasBytes (node_text display_only shortcuts) (nodes_shown display_only shortcuts) (codes "/") (ascii (codes "/") refl) nodes all
+
+  -- a node as libefivar prints it
+  own_shown : (node : Node) → HasBytes node → IsShown (libefivar_node_text node)
+  unfolding libefivar_node_text
+  own_shown node all = by (node_text false false node) (is_file_node node) (is_partition node) (nodes_shown false false node all)
+    where
+      by : (text : List ℕ) (a b : Bool) → IsShown text
+          → IsShown (cond a (codes "File(" ++ (text ++ codes ")")) (cond b (lowered_text 2 text) text))
+      by text true b shown = joined (codes "File(") (text ++ codes ")") (ascii (codes "File(") refl) (joined text (codes ")") shown (ascii (codes ")") refl))
+      by text false true shown = lowered_shown 2 text (shown_utf8 text shown) shown
+      by text false false shown = shown
+
+  libefivar_instance_shown : (nodes : List Node) → All HasBytes nodes → IsShown (join_by libefivar_node_text (codes "/") nodes)
+  libefivar_instance_shown nodes all = join_shown HasBytes libefivar_node_text own_shown (codes "/") (ascii (codes "/") refl) nodes all
+
+  pub libefivar_shown : LibefivarShown
+  unfolding libefivar_text
+  libefivar_shown nodes all =
+      join_shown (All HasBytes) (λ instance. join_by libefivar_node_text (codes "/") instance) libefivar_instance_shown (codes ",") (ascii (codes ",") refl)
+      (instances nodes) (parts_all HasBytes is_end_instance nodes all)
 
   pub paths_shown : PathsShown
   unfolding nodes_text

@@ -39,7 +39,7 @@ push_refusal nodes node room =
 abbrev pub append_refusal : List Node → List Node → ℕ → Option BuildError
 append_refusal nodes others room = room_refusal (length (path_bytes (nodes ++ others))) room None
 
--- the same of the path that a buffer begins with
+-- why nothing is added to the path that a buffer begins with
 abbrev pub grow_refusal : Option BuildError → Option GrowError
 grow_refusal None = None
 grow_refusal (Some error) = Some (Build error)

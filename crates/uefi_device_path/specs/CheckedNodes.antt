@@ -46,3 +46,18 @@ nodes_before bytes rest = nodes_in (take (length bytes - length rest) bytes)
 -- bytes begin with the node that ends a path
 abbrev pub BeginWithEnd : List ℕ → Type 0
 BeginWithEnd bytes = take 4 bytes ≡ node_bytes end_entire
+
+-- a node, and the nodes after it
+abbrev pub node_before : Node → Result (List Node) DevicePathError → Result (List Node) DevicePathError
+node_before node (Ok nodes) = Ok (node ∷ nodes)
+node_before node (Err error) = Err error
+
+-- nodes that were checked, or the fault of the first that is malformed
+abbrev pub all_checked : List Checked → Result (List Node) DevicePathError
+all_checked [] = Ok []
+all_checked (Err error ∷ others) = Err error
+all_checked (Ok node ∷ others) = node_before node (all_checked others)
+
+-- the nodes of the device path that bytes begin with, or why they begin with none
+unfoldable pub path_of_bytes : List ℕ → Result (List Node) DevicePathError
+path_of_bytes bytes = all_checked (checked_at Reading 0 bytes)

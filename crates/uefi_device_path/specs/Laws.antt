@@ -1,5 +1,5 @@
 -- The laws of device paths and load options, over the definitions that contracts of working calls cite.
-use Rattle.std.specs.Prelude.{◌≡◌, ◌↔◌, ◌≢◌, ℕ, ◌+◌, ◌-◌, ◌≤◌, length, Bool, true, false, List, [], ◌∷◌, ◌++◌, All, filter, fold, take}
+use Rattle.std.specs.Prelude.{◌≡◌, ◌↔◌, ◌≢◌, ℕ, ◌+◌, ◌-◌, ◌≤◌, length, Bool, true, false, List, [], ◌∷◌, ◌++◌, All, filter, fold, take, Ok, Err}
 use Rattle.std.specs.List.{flat_map}
 use Rattle.uefi_path.specs.Components.{components_of}
 use Rattle.uefi_path.specs.Laws.{IsRelative}
@@ -10,11 +10,12 @@ use Rattle.uefi_device_nodes.specs.Nodes.{Node, IsInner}
 use Rattle.uefi_device_nodes.specs.NodeFaults.{fault_place}
 use Rattle.uefi_device_nodes.specs.declared.errors.NodeError.{NodeError}
 use Rattle.uefi_device_nodes.specs.declared.errors.NodeError.TheVariants.{Missing, TruncatedHeader, UnknownEnd, LengthBelowHeader, EndWithData, BeyondEnd}
+use Rattle.uefi_device_path.specs.CheckedNodes.{path_of_bytes}
 use Rattle.uefi_device_path.specs.StyledReading.{IsReadAs, Reads, ReadingStopsAt, StopsBeingRead}
 use Rattle.uefi_device_path.specs.PathReading.{AreTold, StopsAt}
 use Rattle.uefi_text.specs.Packed.{IsByte}
 use Rattle.uefi_field_texts.specs.ShownTexts.{IsShown}
-use Rattle.uefi_device_path.specs.PathTexts.{instance_text, nodes_text}
+use Rattle.uefi_device_path.specs.PathTexts.{instance_text, libefivar_text, nodes_text}
 use Rattle.uefi_device_path.specs.Paths.{BeginWithPath, path_bytes}
 use Rattle.uefi_device_path.specs.Faults.{RefusedFor}
 use Rattle.uefi_device_path.specs.FilePaths.{file_names, file_path, name_in}
@@ -40,6 +41,16 @@ BytesOnce = (nodes others : List Node) → All IsInner nodes → All IsInner oth
 -- what is built of nodes is read as these nodes
 abbrev pub BuiltIsRead : Type 0
 BuiltIsRead = (nodes : List Node) → All IsInner nodes → BeginWithPath (path_bytes nodes) nodes
+
+-- what bytes are read as is the path that they begin with
+abbrev pub PathsAreRead : Type 0
+PathsAreRead = (bytes : List ℕ) (nodes : List Node) → All IsByte bytes
+    → (path_of_bytes bytes ≡ Ok nodes) ↔ BeginWithPath bytes nodes
+
+-- or why they are refused
+abbrev pub RefusalsAreRead : Type 0
+RefusalsAreRead = (bytes : List ℕ) (error : DevicePathError) → All IsByte bytes
+    → (path_of_bytes bytes ≡ Err error) ↔ RefusedFor bytes error
 
 -- bytes that begin with a path do so whatever follows
 abbrev pub AcceptedWithMore : Type 0
@@ -169,6 +180,11 @@ abbrev pub PathsShown : Type 0
 PathsShown = (display_only shortcuts : Bool) (nodes : List Node)
     → All (λ node. All IsByte node.content) nodes
     → IsShown (nodes_text display_only shortcuts nodes)
+
+-- nor does one that libefivar prints
+abbrev pub LibefivarShown : Type 0
+LibefivarShown = (nodes : List Node) → All (λ node. All IsByte node.content) nodes
+    → IsShown (libefivar_text nodes)
 
 -- nor does one of an instance
 abbrev pub InstancesShown : Type 0

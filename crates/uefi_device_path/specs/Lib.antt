@@ -6,16 +6,11 @@ pub use Rattle.uefi_device_nodes.specs.NodeErrorTexts
 pub use Rattle.uefi_device_nodes.specs.TypedNodes
 pub use Rattle.uefi_device_nodes.specs.NodeTexts
 pub use Rattle.uefi_field_texts.specs.Guids
-pub use Rattle.uefi_built_nodes.specs.RawNodes
-pub use Rattle.uefi_built_nodes.specs.HardwareNodes
-pub use Rattle.uefi_built_nodes.specs.AcpiNodes
-pub use Rattle.uefi_built_nodes.specs.MediaNodes
-pub use Rattle.uefi_built_nodes.specs.BootNodes
-pub use Rattle.uefi_built_messages.specs.MessagingNodes
-pub use Rattle.uefi_built_messages.specs.NetworkNodes
+pub use Rattle.uefi_device_nodes.specs.RawNodes
+pub use Rattle.uefi_device_nodes.specs.NodeFields
 pub use Rattle.uefi_device_nodes.specs.NodeEnums
-pub use Rattle.uefi_device_nodes.specs.Layouts
 pub use Rattle.uefi_node_reader.specs.FaultTexts
+pub use Rattle.uefi_node_reader.specs.Styles
 pub use Rattle.uefi_node_reader.specs.declared.styles.TextStyle
 pub use Rattle.uefi_node_reader.specs.declared.faults.Expected
 pub use Rattle.uefi_device_nodes.specs.declared.errors.NodeError
@@ -37,6 +32,7 @@ pub mod Building
 pub mod OptionBuilding
 pub mod OptionEdits
 pub mod Instances
+pub mod LibefivarTexts
 pub mod PathTexts
 pub mod PathReading
 pub mod StyledReading

@@ -1,7 +1,8 @@
 -- Device paths beside others: short forms, and what they stand for (UEFI Specification 2.10, section 3.1.2).
-use Rattle.std.specs.Prelude.{◌≡◌, ℕ, Bool, ◌==◌, ◌&&◌, if◌then◌else◌, ◌⊎◌, List, [], ◌∷◌, ◌++◌, slice_range, Option, None, Some}
+use Rattle.std.specs.Prelude.{◌≡◌, ℕ, Bool, ◌==◌, ◌&&◌, if◌then◌else◌, ◌⊎◌, List, [], ◌∷◌, ◌++◌, Option, None, Some}
+use Rattle.uefi_node_table.specs.declared.layouts.TheConstants.{FILE_PATH, HARD_DRIVE, HARD_DRIVE_LEAST, HARD_DRIVE_PARTITION_NUMBER, HARD_DRIVE_PARTITION_SIGNATURE, HARD_DRIVE_SIGNATURE_TYPE, MEDIA_TYPE, MESSAGING_TYPE, URI, USB_CLASS, USB_WWID}
 use Rattle.uefi_device_nodes.specs.Nodes.{Node}
-use Rattle.uefi_device_nodes.specs.TypedNodes.{IsOfKind, number_at}
+use Rattle.uefi_device_nodes.specs.TypedNodes.{IsOfKind, bytes_in, number_in}
 use Rattle.uefi_device_path.specs.declared.matching.ShortForm.{ShortForm}
 use Rattle.uefi_device_path.specs.declared.matching.ShortForm.TheVariants.{HardDrive, File, UsbClass, UsbWwid, Uri}
 
@@ -12,11 +13,11 @@ is_of_type device_type sub_type node = (node.device_type == device_type) && (nod
 -- the short form that a path has if this is its first node
 abbrev pub short_form_of : Node → Option ShortForm
 short_form_of node =
-    if is_of_type 4 1 node then Some HardDrive
-    else if is_of_type 4 4 node then Some File
-    else if is_of_type 3 15 node then Some UsbClass
-    else if is_of_type 3 16 node then Some UsbWwid
-    else if is_of_type 3 24 node then Some Uri
+    if is_of_type MEDIA_TYPE HARD_DRIVE node then Some HardDrive
+    else if is_of_type MEDIA_TYPE FILE_PATH node then Some File
+    else if is_of_type MESSAGING_TYPE USB_CLASS node then Some UsbClass
+    else if is_of_type MESSAGING_TYPE USB_WWID node then Some UsbWwid
+    else if is_of_type MESSAGING_TYPE URI node then Some Uri
     else None
 
 -- the short form of a path
@@ -26,11 +27,14 @@ short_form (node ∷ nodes) = short_form_of node
 
 -- nodes of partitions with one number and one signature
 pub record NameOnePartition (node other : Node) : Type 0 where
-  pub node_is : IsOfKind 4 1 38 node
-  pub other_is : IsOfKind 4 1 38 other
-  pub number : number_at 0 4 node.content ≡ number_at 0 4 other.content
-  pub signature_type : number_at 37 1 node.content ≡ number_at 37 1 other.content
-  pub signature : slice_range node.content 20 36 ≡ slice_range other.content 20 36
+  pub node_is : IsOfKind MEDIA_TYPE HARD_DRIVE HARD_DRIVE_LEAST node
+  pub other_is : IsOfKind MEDIA_TYPE HARD_DRIVE HARD_DRIVE_LEAST other
+  pub number : number_in HARD_DRIVE_PARTITION_NUMBER node.content
+      ≡ number_in HARD_DRIVE_PARTITION_NUMBER other.content
+  pub signature_type : number_in HARD_DRIVE_SIGNATURE_TYPE node.content
+      ≡ number_in HARD_DRIVE_SIGNATURE_TYPE other.content
+  pub signature : bytes_in HARD_DRIVE_PARTITION_SIGNATURE node.content
+      ≡ bytes_in HARD_DRIVE_PARTITION_SIGNATURE other.content
 
 -- what the first node of a short form names, a node names: a partition by its number and signature,
 -- and a file or a URI by an equal node

@@ -20,7 +20,7 @@ fields_fault_at entry None =
 abbrev pub fields_fault : Entry → Option OptionBuildError
 fields_fault entry = fields_fault_at entry (position is_nul entry.description)
 
--- the same by what is wrong with the fields
+-- why these bytes are not written into this room: what is wrong with the fields comes first
 abbrev pub room_fault : List ℕ → ℕ → Option OptionBuildError → Option OptionBuildError
 room_fault bytes room (Some error) = Some error
 room_fault bytes room None = if nat_lt room (length bytes) then Some (BufferTooSmall (length bytes)) else None
@@ -30,7 +30,7 @@ room_fault bytes room None = if nat_lt room (length bytes) then Some (BufferTooS
 abbrev pub write_fault : Entry → ℕ → Option OptionBuildError
 write_fault entry room = room_fault (entry_bytes entry) room (fields_fault entry)
 
--- the same by what is wrong with the fields
+-- what a buffer holds after that, by what is wrong with the fields
 abbrev pub written_where : List ℕ → List ℕ → Option OptionBuildError → List ℕ
 written_where bytes buffer (Some error) = buffer
 written_where bytes buffer None = with_prefix bytes buffer

@@ -1,5 +1,5 @@
 -- Device paths read from texts in a style.
-use Rattle.std.specs.Prelude.{◌≡◌, ◌≤◌, ◌^◌, min, ℕ, zero, suc, drop, take, ◌+◌, ◌-◌, Bool, true, false, nat_lt, ◌==◌, ◌&&◌, if◌then◌else◌, List, [], ◌∷◌, ◌++◌, length, slice_index, codes, Option, Some, None, Result, Ok, Err}
+use Rattle.std.specs.Prelude.{◌≡◌, ◌≤◌, ◌^◌, min, ℕ, zero, suc, drop, take, ◌+◌, ◌-◌, Bool, true, false, nat_lt, ◌==◌, ◌&&◌, if◌then◌else◌, List, [], ◌∷◌, ◌++◌, length, slice_index, codes, Option, Some, None, Result, Ok, Err, is_ok}
 use Rattle.uefi_device_nodes.specs.Nodes.{Node}
 use Rattle.uefi_device_path.specs.Building.{path_length}
 use Rattle.uefi_device_path.specs.PathReading.{end_instance, is_after_instance}
@@ -12,6 +12,8 @@ use Rattle.uefi_device_path.specs.declared.lenient_errors.PushLenientTextError.T
 use Rattle.uefi_device_path.specs.declared.errors.PushTextError.{PushTextError}
 use Rattle.uefi_device_path.specs.declared.errors.PushTextError.TheVariants as push_text
 use Rattle.uefi_device_path.specs.declared.lenient_errors.TextFault.{TextFault}
+use Rattle.uefi_node_reader.specs.declared.faults.Expected.{Expected}
+use Rattle.uefi_node_reader.specs.declared.faults.Expected.TheVariants as expected
 use Rattle.uefi_node_reader.specs.declared.faults.NodeFault.{NodeFault}
 use Rattle.uefi_node_reader.specs.Styles.{is_copied, styled_read}
 use Rattle.uefi_node_reader.specs.declared.styles.TextStyle.{TextStyle}
@@ -126,6 +128,29 @@ abbrev pub GivesText : Result (List Node) LenientTextError → Result (List Node
 GivesText (Ok path) read = read ≡ Ok path
 GivesText (Err (NoNode fault)) read = read ≡ Err fault
 GivesText (Err OutOfMemory) read = Unit {0}
+
+-- the test for a place where a node should end
+abbrev pub is_end : Expected → Bool
+is_end expected.End = true
+is_end other = false
+
+-- how many bytes of a text are the path that it begins with, by what the text is read as: all of them, or
+-- those before a byte where a node should end, if they are read
+abbrev pub extent_by : TextStyle → List ℕ → Result (List Node) TextFault → Result ℕ TextFault
+extent_by style text (Ok nodes) = Ok (length text)
+extent_by style text (Err fault) =
+    if is_end fault.expected && is_ok (path_read style (take fault.byte text))
+    then Ok fault.byte else Err fault
+
+-- how many bytes of a text are the path that it begins with, or why it begins with none
+unfoldable pub text_extent : TextStyle → List ℕ → Result ℕ TextFault
+text_extent style text = extent_by style text (path_read style text)
+
+-- what comes back is how far the path of a text goes, or its fault, unless memory was refused
+abbrev pub GivesExtent : Result ℕ LenientTextError → Result ℕ TextFault → Type 0
+GivesExtent (Ok end) read = read ≡ Ok end
+GivesExtent (Err (NoNode fault)) read = read ≡ Err fault
+GivesExtent (Err OutOfMemory) read = Unit {0}
 
 -- why the nodes that a text is read as are not added to the path that a buffer begins with: there is no
 -- path, the second buffer is not longer than the text that is copied, the text has this fault, or there

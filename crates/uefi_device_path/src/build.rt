@@ -14,8 +14,12 @@ use crate::device_path::DevicePath;
 pub use crate::errors::BuildError;
 use std::alloc::{AllocError, Allocator, Global};
 use std::marker::Model;
-pub use uefi_built_messages::messaging;
-pub use uefi_built_nodes::{BuildNode, RawNode, acpi, bios_boot_spec, hardware, media};
+pub use uefi_device_nodes::build_node::{BuildNode, RawNode};
+pub use uefi_device_nodes::fields::Fields;
+pub use uefi_device_nodes::{
+    built_acpi as acpi, built_bios_boot_spec as bios_boot_spec, built_hardware as hardware,
+    built_media as media, built_messaging as messaging,
+};
 use uefi_device_nodes::{DeviceSubType, DeviceType};
 use uefi_path::Path;
 

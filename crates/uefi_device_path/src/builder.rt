@@ -11,8 +11,8 @@ ghost use Rattle.uefi_device_path.specs.Paths.{IsPath};
 use crate::device_path::DevicePath;
 use crate::errors::BuildError;
 use crate::grow::{append_at, push_at};
-use uefi_built_nodes::{BuildNode, RawNode, media};
-use uefi_device_nodes::{DeviceSubType, DeviceType};
+use uefi_device_nodes::build_node::{BuildNode, RawNode};
+use uefi_device_nodes::{DeviceSubType, DeviceType, built_media as media};
 use uefi_path::Path;
 
 /// A device path that is built in a caller's buffer. A contract sees it as `builder_nodes` of it, the list

@@ -12,7 +12,7 @@ ghost use Rattle.uefi_device_nodes.specs.NodeFaults.{fault_place};
 ghost use Rattle.uefi_device_path.specs.Faults.{RefusedFor, GivesPath};
 ghost use Rattle.uefi_device_path.specs.Instances.{instances};
 ghost use Rattle.uefi_device_nodes.specs.NodeViews.{node_of};
-ghost use Rattle.uefi_device_path.specs.PathTexts.{nodes_text};
+ghost use Rattle.uefi_device_path.specs.PathTexts.{libefivar_text, nodes_text};
 ghost use Rattle.uefi_text.specs.UnalignedCStr16.{with_prefix};
 ghost use Rattle.uefi_text.specs.UnitTexts.{places_needed, utf16_units, written_len};
 ghost use Rattle.uefi_text.specs.Runs.{GivesEach};
@@ -341,6 +341,38 @@ impl<'a> DevicePath<'a> {
     {
         let len = self.write_text(buf, display_only, allow_shortcuts)?;
         Ok(&buf[..len + 1])
+    }
+
+    /// What libefivar prints of the path, and efibootmgr with it, for a `{}` of a format: the text that
+    /// [`DevicePath::display`] gives, but with `File(..)` around the name of a file, and with the numbers of
+    /// a partition in lower case after its kind. Takes no memory.
+    ///
+    /// ```rust
+    /// let path = DevicePathBuf::from_text(rt.alloc(), r"HD(1,MBR,0x000000AB,0x3F,0xC8)/\a.efi")?;
+    /// let text = format!(in rt.alloc(); "{}", path.as_device_path().display_libefivar())?;
+    /// assert_eq!(rt; text.as_str(), r"HD(1,MBR,0x000000ab,0x3f,0xc8)/File(\a.efi)");
+    /// ```
+    pub fn display_libefivar(&self) -> PathText<'a>
+        ensures { printed_path result ≡ libefivar_text (nodes_of self.now) }
+    {
+        PathText::of_libefivar(&self.bytes[..self.bytes.len() - 4])
+    }
+
+    /// Writes this text to the start of a buffer as UTF-16, with a NUL after it, and returns its length, as
+    /// [`DevicePath::write_text`] does.
+    ///
+    /// ```rust
+    /// let path = DevicePathBuf::from_text(rt.alloc(), r"\")?;
+    /// let mut buffer = [0; 8];
+    /// assert_eq!(rt; path.as_device_path().write_libefivar_text(&mut buffer), Ok(7));
+    /// assert_eq!(rt; buffer, [0x46, 0x69, 0x6c, 0x65, 0x28, 0x5c, 0x29, 0]);
+    /// ```
+    pub fn write_libefivar_text(&self, buffer: &mut [u16]) -> Result<usize, BufferTooSmall>
+        ensures len { result ≡ written_len (utf16_units (libefivar_text (nodes_of self.now))) buffer.old }
+        ensures buffer { buffer.new
+            ≡ with_prefix (nul_terminated (utf16_units (libefivar_text (nodes_of self.now)))) buffer.old }
+    {
+        write_units(buffer, &self.display_libefivar())
     }
 
     /// The instances of the path, in order: what stands between the nodes that end one.

@@ -14,7 +14,7 @@ ghost use Rattle.uefi_device_path.specs.declared.errors.DevicePathError.{DeviceP
 use crate::build::{check_node, node_header};
 use crate::device_path::DevicePath;
 use crate::errors::{BuildError, DevicePathError, GrowError};
-use uefi_built_nodes::build_node::{BuildNode, copy_bytes};
+use uefi_device_nodes::build_node::{BuildNode, copy_bytes};
 
 /// Writes a node, and the node that ends a path after it.
 fn put_node<N: BuildNode>(places: &mut [u8], header: [u8; 4], node: &N)

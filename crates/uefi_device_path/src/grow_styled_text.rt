@@ -3,7 +3,7 @@
 
 ghost use Rattle.std.specs.Prelude.{◌≡◌, ◌+◌, true, ◌<◌, ◌≤◌, ◌++◌, List, drop, length, take, Err, IfErr, IfOk, OnErr, OnOk};
 ghost use Rattle.std.specs.Result.{result_err};
-ghost use Rattle.uefi_built_nodes.specs.RawNodes.{raw_node};
+ghost use Rattle.uefi_device_nodes.specs.RawNodes.{raw_node};
 ghost use Rattle.uefi_device_nodes.specs.Nodes.{Node};
 ghost use Rattle.uefi_device_path.specs.PathReading.{end_instance};
 ghost use Rattle.uefi_device_path.specs.Faults.{RefusedFor};

@@ -1,15 +1,13 @@
 //! The laws by which users of device paths and load options reason. They speak of the definitions that
 //! the contracts of the working calls cite. Each law is a function that does nothing: its contract is the
 //! law.
-ghost use Rattle.uefi_device_path.specs.Laws.{AcceptedWithMore, BuiltIsRead, BytesOnce, FaultsWithin, InstancesShown, NamesInARow, NeverBoth, OneName, OnlyFilesCount, OptionsNeverBoth, OptionsOnce, PathsOnce, PathsShown, PrintedIsRead, PrintedStops, ReadIsPrinted, ReadMeans, ReadNeverStops, ReadOnce, ReadTold, ReadingStopsOnce, RefusedByHeader, RelativeNamesArePushed, StopMeans, StopsOnce, TextsNeverBoth, TextsOnce};
+ghost use Rattle.uefi_device_path.specs.Laws.{AcceptedWithMore, BuiltIsRead, BytesOnce, FaultsWithin, InstancesShown, LibefivarShown, NamesInARow, NeverBoth, OneName, OnlyFilesCount, OptionsNeverBoth, OptionsOnce, PathsAreRead, PathsOnce, PathsShown, PrintedIsRead, PrintedStops, ReadIsPrinted, ReadMeans, ReadNeverStops, ReadOnce, ReadTold, ReadingStopsOnce, RefusalsAreRead, RefusedByHeader, RelativeNamesArePushed, StopMeans, StopsOnce, TextsNeverBoth, TextsOnce};
 
-pub use uefi_built_messages::laws as built_messages;
-pub use uefi_built_nodes::laws as built_nodes;
 use uefi_device_nodes::laws::nodes_are_shown;
-pub use uefi_device_nodes::layouts;
+pub use uefi_device_nodes::laws::{units_in_bytes, view_of_built};
 use uefi_field_texts::laws::fields_are_shown;
 pub use uefi_field_texts::laws::guid_texts;
-pub use uefi_node_reader::nodes::texts_alike;
+pub use uefi_node_reader::nodes::{expected_helps, texts_alike};
 use uefi_node_reader::nodes::{node_text_once, nodes_are_read};
 use uefi_node_reader::styles::{faults_lie_within, styled_nodes_are_read};
 use uefi_path::laws::join_components;
@@ -26,6 +24,13 @@ pub fn paths_once()
 pub fn accepted_paths()
     ensures with_more { AcceptedWithMore }
     ensures never_both { NeverBoth }
+{}
+
+/// `path_of_bytes` is what bytes are read as: the nodes of the path that they begin with, or the error for
+/// which they are refused.
+pub fn paths_are_read()
+    ensures path { PathsAreRead }
+    ensures refusal { RefusalsAreRead }
 {}
 
 /// Bytes that are refused for what the header of a node says, as `UnknownEnd`, `LengthBelowHeader` or
@@ -94,11 +99,12 @@ pub fn file_paths()
     join_components();
 }
 
-/// No text of a device path or of an instance holds a control character, nor one that turns the direction
-/// of a text or ends its line: none that [`is_escaped`](crate::is_escaped).
+/// No text of a device path, in libefivar's style too, or of an instance holds a control character, nor one
+/// that turns the direction of a text or ends its line: none that [`is_escaped`](crate::is_escaped).
 pub fn nothing_is_hidden()
     ensures paths { PathsShown }
     ensures instances { InstancesShown }
+    ensures libefivar { LibefivarShown }
 {
     fields_are_shown();
     nodes_are_shown();

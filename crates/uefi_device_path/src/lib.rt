@@ -41,6 +41,7 @@ mod instance_text;
 pub mod laws;
 mod lenient_errors;
 mod lenient_reader;
+mod libefivar_nodes;
 mod load_option;
 mod load_option_parts;
 mod matching;
@@ -51,6 +52,7 @@ mod path_list;
 mod path_reader;
 mod path_text;
 mod styled_reader;
+mod text_extent;
 
 pub use build::{BuildNode, DevicePathBuf};
 pub use builder::DevicePathBuilder;
@@ -79,6 +81,10 @@ pub use option_edits::set_attributes;
 pub use path_list::{DevicePaths, check_paths};
 pub use path_reader::PathTextError;
 pub use path_text::PathText;
+// What the library for C is made of, as above.
+#[doc(hidden)]
+pub use text_extent::styled_text_extent;
+pub use text_extent::{lenient_text_extent, libefivar_text_extent};
 pub use uefi_device_nodes::node::{DevicePathNode, DeviceSubType, DeviceType};
 pub use uefi_device_nodes::node_enum::DevicePathNodeEnum;
 pub use uefi_device_nodes::node_text::NodeText;
@@ -87,4 +93,10 @@ pub use uefi_device_nodes::{acpi, bios_boot_spec, hardware, media, messaging};
 pub use uefi_field_texts::forms::{AllowShortcuts, DisplayOnly};
 pub use uefi_field_texts::guid::Guid;
 pub use uefi_field_texts::shown_texts::is_escaped;
+// What the library for C is made of, as above.
+#[doc(hidden)]
+pub use uefi_device_nodes::node::fault_place;
+#[doc(hidden)]
+pub use uefi_node_reader::styles::TextStyle;
+pub use uefi_node_table::layouts;
 pub use uefi_text::unit_sink::BufferTooSmall;

@@ -13,7 +13,7 @@ ghost use Rattle.uefi_device_path.specs.Views.{nodes_of, option_entry};
 use crate::device_path::DevicePath;
 use crate::errors::OptionBuildError;
 use std::alloc::Allocator;
-use uefi_built_nodes::build_node::copy_bytes;
+use uefi_device_nodes::build_node::copy_bytes;
 use uefi_text::scan::{find_nul, split};
 
 /// The longest file path list that the header of a load option can state.

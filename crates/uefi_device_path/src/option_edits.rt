@@ -16,7 +16,7 @@ ghost use Rattle.uefi_device_path.specs.declared.errors.LoadOptionError.{LoadOpt
 use crate::errors::{LoadOptionError, OptionBuildError};
 use crate::load_option::LoadOption;
 use crate::option_builder::put_description;
-use uefi_built_nodes::build_node::copy_bytes;
+use uefi_device_nodes::build_node::copy_bytes;
 use uefi_text::CStr16;
 
 /// Whether bytes are a load option.

@@ -1,13 +1,14 @@
 //! Device paths as people read them.
-#![tactic(auto, using(uefi_text::proofs::Puts::puts), unfolding(crate::specs::PathTexts::instance_text, crate::specs::Views::printed_path, crate::specs::Views::nodes_of))]
+#![tactic(auto, using(uefi_text::proofs::Puts::puts), unfolding(crate::specs::Views::printed_path))]
 
 ghost use Rattle.std.specs.Fmt.{WritesInCalls};
 ghost use Rattle.std.specs.Prelude.{◌≡◌, ◌≢◌, ◌<◌, ◌∷◌, length, Some};
 ghost use Rattle.uefi_device_nodes.specs.NodeViews.{node_of};
 ghost use Rattle.uefi_device_path.specs.Paths.{AreNodes, nodes_in};
-ghost use Rattle.uefi_device_path.specs.PathTexts.{instance_text, nodes_text};
+ghost use Rattle.uefi_device_path.specs.PathTexts.{instance_text_in, libefivar_text, node_text_in, nodes_text, path_text_in};
 
 use crate::instance::cut_instance;
+use crate::libefivar_nodes;
 use std::fmt;
 use uefi_device_nodes::{AllowShortcuts, DevicePathNode, DisplayOnly};
 use uefi_text::text_sink::{Printed, TextSink, print};
@@ -23,49 +24,58 @@ fn cut_node(bytes: &[u8]) -> (DevicePathNode<'_>, &[u8])
     DevicePathNode::take_first(bytes)
 }
 
+/// How nodes are printed.
+#[derive(Clone, Copy)]
+enum Form {
+    /// As the UEFI Specification has them.
+    Specified(DisplayOnly, AllowShortcuts),
+    /// As libefivar prints them.
+    Libefivar,
+}
+
+/// Puts a node in a form.
+fn put_node<S: TextSink>(sink: &mut S, form: Form, node: DevicePathNode<'_>)
+    ensures { WritesInCalls S.puts sink.old (node_text_in form (node_of node.entry)) sink.new }
+{
+    match form {
+        Form::Specified(display_only, allow_shortcuts) => {
+            node.display(display_only, allow_shortcuts).put(sink);
+        }
+        Form::Libefivar => libefivar_nodes::put_node(sink, node),
+    }
+}
+
 /// Puts the nodes that bytes are, with a slash between each two.
-fn put_instance<S: TextSink>(
-    sink: &mut S,
-    bytes: &[u8],
-    display_only: DisplayOnly,
-    allow_shortcuts: AllowShortcuts,
-)
+fn put_instance<S: TextSink>(sink: &mut S, form: Form, bytes: &[u8])
     requires { AreNodes bytes.now }
-    ensures { WritesInCalls S.puts sink.old
-        (instance_text display_only.0 allow_shortcuts.0 (nodes_in bytes.now)) sink.new }
+    ensures { WritesInCalls S.puts sink.old (instance_text_in form (nodes_in bytes.now)) sink.new }
 {
     if bytes.is_empty() {
         return;
     }
     let (first, after_first) = cut_node(bytes);
-    first.display(display_only, allow_shortcuts).put(sink);
+    put_node(sink, form, first);
     let mut rest = after_first;
     'nodes: while !rest.is_empty() {
         let (node, after) = cut_node(rest);
         sink.put_str("/");
-        node.display(display_only, allow_shortcuts).put(sink);
+        put_node(sink, form, node);
         rest = after;
     }
 }
 
 /// Puts the instances of the nodes that bytes are, with a comma between each two.
-fn put_path<S: TextSink>(
-    sink: &mut S,
-    bytes: &[u8],
-    display_only: DisplayOnly,
-    allow_shortcuts: AllowShortcuts,
-)
+fn put_path<S: TextSink>(sink: &mut S, form: Form, bytes: &[u8])
     requires { AreNodes bytes.now }
-    ensures { WritesInCalls S.puts sink.old
-        (nodes_text display_only.0 allow_shortcuts.0 (nodes_in bytes.now)) sink.new }
+    ensures { WritesInCalls S.puts sink.old (path_text_in form (nodes_in bytes.now)) sink.new }
 {
     let (first, after_first) = cut_instance(bytes);
-    put_instance(sink, first, display_only, allow_shortcuts);
+    put_instance(sink, form, first);
     let mut rest = after_first;
     'instances: while let Some(others) = rest {
         let (instance, after) = cut_instance(others);
         sink.put_str(",");
-        put_instance(sink, instance, display_only, allow_shortcuts);
+        put_instance(sink, form, instance);
         rest = after;
     }
 }
@@ -74,8 +84,7 @@ fn put_path<S: TextSink>(
 #[derive(Clone, Copy)]
 pub struct PathText<'a> {
     bytes: &'a [u8],
-    display_only: DisplayOnly,
-    allow_shortcuts: AllowShortcuts,
+    form: Form,
     pub ghost are_nodes: { AreNodes bytes.now },
 }
 
@@ -83,6 +92,7 @@ impl<'a> PathText<'a> {
     ghost use Rattle.uefi_device_path.specs.Views.{printed_path};
 
     /// The text of the nodes that bytes are.
+    #[tactic(auto, unfolding(crate::specs::PathTexts::instance_text, crate::specs::PathTexts::nodes_text, crate::specs::Views::printed_path))]
     pub(crate) fn of(
         bytes: &'a [u8],
         display_only: DisplayOnly,
@@ -93,8 +103,19 @@ impl<'a> PathText<'a> {
     {
         PathText {
             bytes,
-            display_only,
-            allow_shortcuts,
+            form: Form::Specified(display_only, allow_shortcuts),
+        }
+    }
+
+    /// The text that libefivar prints of the nodes that bytes are.
+    #[tactic(auto, unfolding(crate::specs::PathTexts::libefivar_text, crate::specs::Views::printed_path))]
+    pub(crate) fn of_libefivar(bytes: &'a [u8]) -> Self
+        requires { AreNodes bytes.now }
+        ensures { printed_path result ≡ libefivar_text (nodes_in bytes.now) }
+    {
+        PathText {
+            bytes,
+            form: Form::Libefivar,
         }
     }
 }
@@ -106,7 +127,7 @@ impl<'a> Printed for PathText<'a> {
     ghost printed = { printed_path };
 
     fn put<S: TextSink>(&self, sink: &mut S) {
-        put_path(sink, self.bytes, self.display_only, self.allow_shortcuts);
+        put_path(sink, self.form, self.bytes);
     }
 }
 

@@ -1,6 +1,7 @@
 //! Reads texts of device paths from standard input, a line each and as people write them, and prints
 //! what each means: the bytes of the path in hexadecimal, and the text that is printed of it. With
-//! `--libefivar`, the texts are those that libefivar prints, and efibootmgr with it.
+//! `--libefivar`, the texts are those that libefivar prints, and efibootmgr with it. With `--prefix`,
+//! something else may follow the path in a line, and is printed after it.
 //!
 //! Ends with 0 where each line is a path; with 1 where one is none, which is printed with the node that can't
 //! be read, the byte that is wrong and what has to stand there; with 2 where a read or a write failed, or a
@@ -13,9 +14,11 @@ use std::env;
 use std::fmt::{self, Write};
 use std::io::{self, BufRead, BufReader, Write as _};
 use std::process::ExitCode;
-use uefi_device_path::{DevicePathBuf, LenientTextError};
+use uefi_device_path::{
+    DevicePathBuf, LenientTextError, is_escaped, lenient_text_extent, libefivar_text_extent,
+};
 
-const USAGE: &str = "usage: uefi_device_path_cli [--libefivar] < LINES\n";
+const USAGE: &str = "usage: uefi_device_path_cli [--libefivar] [--prefix] < LINES\n";
 
 /// Whose texts the lines are.
 #[derive(Clone, Copy)]
@@ -24,7 +27,31 @@ enum Writer {
     Libefivar,
 }
 
-/// The path that a line is.
+/// How the lines are read.
+#[derive(Clone, Copy)]
+struct Options {
+    writer: Writer,
+
+    /// Whether something else may follow a path.
+    is_prefix: bool,
+}
+
+/// How many bytes of a line are a path.
+fn extent<A: Allocator + Copy>(
+    options: Options,
+    alloc: A,
+    line: &str,
+) -> Result<usize, LenientTextError> {
+    if !options.is_prefix {
+        return Ok(line.len());
+    }
+    match options.writer {
+        Writer::People => lenient_text_extent(alloc, line),
+        Writer::Libefivar => libefivar_text_extent(alloc, line),
+    }
+}
+
+/// The path that a text is.
 fn read<A: Allocator + Copy>(
     writer: Writer,
     alloc: A,
@@ -36,20 +63,49 @@ fn read<A: Allocator + Copy>(
     }
 }
 
+/// The path that a line begins with, and what follows it.
+fn read_line<A: Allocator + Copy>(
+    options: Options,
+    alloc: A,
+    line: &str,
+) -> Result<(DevicePathBuf<A>, &str), LenientTextError> {
+    let end = extent(options, alloc, line)?;
+    // A path ends where a character does.
+    let (text, rest) = line.split_at_checked(end).unwrap_or((line, ""));
+    Ok((read(options.writer, alloc, text)?, rest))
+}
+
+/// Writes what follows a path, if anything does, with `?` for each character that a terminal may obey.
+fn write_rest<W: Write>(out: &mut W, rest: &str) -> fmt::Result {
+    if rest.is_empty() {
+        return Ok(());
+    }
+    write!(out, "followed by: ")?;
+    for character in rest.chars() {
+        out.write_char(if is_escaped(character) {
+            '?'
+        } else {
+            character
+        })?;
+    }
+    writeln!(out)
+}
+
 /// Writes what a line means. False where it is no path.
 fn write_path<W: Write, A: Allocator + Copy>(
     out: &mut W,
     alloc: A,
-    writer: Writer,
+    options: Options,
     line: &str,
 ) -> Result<bool, fmt::Error> {
-    match read(writer, alloc, line) {
-        Ok(path) => {
+    match read_line(options, alloc, line) {
+        Ok((path, rest)) => {
             let path = path.as_device_path();
             for byte in path.as_bytes() {
                 write!(out, "{byte:02x}")?;
             }
             writeln!(out, " {path}")?;
+            write_rest(out, rest)?;
             Ok(true)
         }
         Err(LenientTextError::NoNode(fault)) => {
@@ -68,7 +124,7 @@ fn refuse(rt: &HostRuntime, message: &str, status: u8) -> ExitCode {
 }
 
 /// Prints what each line of standard input means.
-fn print_paths(rt: &HostRuntime, writer: Writer) -> ExitCode {
+fn print_paths(rt: &HostRuntime, options: Options) -> ExitCode {
     let mut is_well = true;
     let mut output = String::new(rt.alloc());
     for line in rt.lines(rt.alloc()) {
@@ -76,7 +132,7 @@ fn print_paths(rt: &HostRuntime, writer: Writer) -> ExitCode {
             return ExitCode::from(2);
         };
         output.clear();
-        let Ok(is_path) = write_path(&mut output, rt.alloc(), writer, &line) else {
+        let Ok(is_path) = write_path(&mut output, rt.alloc(), options, &line) else {
             return refuse(rt, "out of memory\n", 3);
         };
         is_well = is_well && is_path;
@@ -91,12 +147,16 @@ fn main(rt: HostRuntime) -> ExitCode {
     let Ok(arguments) = env::args(&rt) else {
         return refuse(&rt, "out of memory\n", 3);
     };
-    let mut writer = Writer::People;
+    let mut options = Options {
+        writer: Writer::People,
+        is_prefix: false,
+    };
     for argument in arguments.skip(1) {
         match argument.as_str() {
-            "--libefivar" => writer = Writer::Libefivar,
+            "--libefivar" => options.writer = Writer::Libefivar,
+            "--prefix" => options.is_prefix = true,
             _ => return refuse(&rt, USAGE, 5),
         }
     }
-    print_paths(&rt, writer)
+    print_paths(&rt, options)
 }

@@ -1,8 +1,8 @@
 //! Nodes that are built, and their bytes by the UEFI Specification, section 10.3.
 //!
-//! Laws tie the fields of each kind that is built to the fields of its view, and
-//! `examples/efivar/layouts` compares those with the structs of libefivar. So the rows here are the
-//! kinds that libefivar has no struct for, and those with a reserved field, which no view shows: it
+//! A node that is built has its fields where the view of its kind reads them, and
+//! `examples/efivar/layouts` compares those places with the structs of libefivar. So the rows here are
+//! the kinds that libefivar has no struct for, and those with a reserved field, which no view shows: it
 //! is zero. The other data are 1, 2, 3 and on.
 
 use for_tests::bytes;

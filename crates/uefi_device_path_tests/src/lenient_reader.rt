@@ -62,6 +62,8 @@ pub(crate) const BY_PEOPLE: &str = "\
 0406140078563412bc9af0de123456789abcdef0 fvfile(12345678-9abc-def0-1234-56789abcdef0)
 0104160078563412bc9af0de123456789abcdef0aabb  VenHw(12345678-9ABC-DEF0-1234-56789ABCDEF0,aabb)
 01010500ab path(1,1,ab)
+09fa0500ab path(0x09, 0xfa, ab)
+09fa0400 Path(009,250)
 04041a005c004500460049005c0078002e006500660069000000 EFI\\x.efi
 04041a005c004500460049005c0078002e006500660069000000 file(\\EFI\\x.efi)
 04012a0002000000000000000000000000000000000000000df0ad0b0000000000000000000000000101 \
@@ -89,7 +91,34 @@ const PASTED: &str = "\
 03171000010000000000000000000000 NVMe(1)
 031b0a00001122334455 Bluetooth(00:11:22:33:44:55)
 031e0b0000112233445501 BluetoothLE(00:11:22:33:44:55,1)
-0406140078563412bc9af0de123456789abcdef0 FvFile({12345678-9ABC-DEF0-1234-56789ABCDEF0})";
+0406140078563412bc9af0de123456789abcdef0 FvFile({12345678-9ABC-DEF0-1234-56789ABCDEF0})
+0301080000000000 Ata(0x0)
+0301080000000000 ata(primary,master)
+0301080000010000 Ata(Primary,Slave)
+0301080001000000 Ata(Secondary,Master)
+0301080001010000 Ata(Secondary,Slave)
+030d3c000000000000000000000000000000000020010db80000000000000000000000010000\
+    00000000020000000000000000000000000000000000 \
+    IPv6(2001:0DB8:0000:0000:0000:0000:0000:0001)
+02010c00d041030a0000000001010600021f PciRoot(0x0) / Pci(0x1F,0x2)
+02010c00d041030a0000000001010600021f7f01040004040a005c0061000000 PciRoot(0x0)/Pci(0x1F,0x2) , \\a
+04042c005c004500460049005c00780020002800780038003600290029005c0061002e006500660069000000 \
+    File(\\EFI\\x (x86))\\a.efi)
+04041a005c004500460049005c0078002e006500660069000000  EFI\\x.efi
+04041a005c004500460049005c0078002e006500660069000000  \\EFI\\x.efi";
+
+/// The same with blanks and line ends around the nodes.
+const AROUND: &str = "\r\n PciRoot(0x0)\t/\n  Pci(0x1F,\n0x2)\r\n";
+
+#[test]
+fn blanks_around(rt: HostRuntime) -> Result<(), Fail> {
+    let nodes = [
+        2, 1, 12, 0, 0xd0, 0x41, 3, 10, 0, 0, 0, 0, 1, 1, 6, 0, 2, 0x1f,
+    ];
+    let read = DevicePathBuf::from_lenient_text(rt.alloc(), AROUND);
+    assert!(rt; is_read(rt.alloc(), read, &nodes)?);
+    Ok(())
+}
 
 /// Nodes that libefivar prints in a form of its own: bytes, and the text that it prints.
 const BY_LIBEFIVAR_ALONE: &str = "\
@@ -177,9 +206,11 @@ pub(crate) const REFUSED: &str = "\
 6 6 \\a/\\b//c: the name of a node | \
 11 20 PciRoot(0)/Pci(0x1F,0x12345678901)/Sata(0x0): a number up to 0xFF | \
 0 10 PciRoot(0)x: `/`, `,` or the end of the text | 0 11 Dns(1.1.1.1,1.1.1.256): the exact printed form | \
-0 7 Unit(1) /a: `/`, `,` or the end of the text | 0 9 HD(1,GPT,1234,0x800,0x64000): 8 hexadecimal digits | \
+9 9 Unit(1) /a: the name of a file | 0 7 Unit(1) a: `/`, `,` or the end of the text | \
+0 9 HD(1,GPT,1234,0x800,0x64000): 8 hexadecimal digits | \
 0 9 PciRoot(0: `)` | 0 43 VenHw(12345678-9abc-def0-1234-56789abcdef0,): 2 hexadecimal digits | \
 11 18 PciRoot(0)/Pci(1,2,3): `)` | 0 14 Path(1,1,0102): a shorter node, or one whose text tells all of it | \
+0 7 Path(9,0x100): a number up to 0xFF | \
 0 6 File(a: `)` | 0 7 NVMe(1,0025385b71b0031c): 16 hexadecimal digits in pairs, with dashes between them | \
 2 3 ,,(: a number after `0x` | 0 0 wi-fi(home): the exact printed form | \
 0 45 VenHw(12345678-9abc-def0-1234-56789abcdef0,abc): `)` | 0 18 IPv4(1.2.3.4,TCP,Dynamic,0.0.0.0): `H` | \
@@ -196,7 +227,8 @@ pub(crate) const REFUSED: &str = "\
 0 0 FS0:\\EFI\\x.efi: the name of a file | 7 7 \\EFI\\a,b.efi: the name of a file | 7 7 \
     \\EFI\\a,b\\c.efi: the name of a file | \
 1 1 ,EFI\\a.efi: the name of a file | \
-0 0 EFI\\x)\\y: the name of a file | 0 9 HD(1,MBR,12345678,0x800,0x64000): a number after `0x` | \
+0 0 EFI\\x)\\y: the name of a file | 0 0 \"EFI\\x\": the name of a file | \
+0 9 HD(1,MBR,12345678,0x800,0x64000): a number after `0x` | \
 0 5 Acpi(12345678,0): a number after `0x` | 0 25 BluetoothLE(001122334455,10): a number after `0x` | \
 0 6 Fibre(5006016047273469,0): a number after `0x` | \
 0 11 Fibre(0x1, 5006016047273469): a number after `0x` | \

@@ -145,6 +145,34 @@ fn instances(rt: HostRuntime) -> Result<(), Fail> {
     Ok(())
 }
 
+/// Paths as libefivar 37 prints them.
+const LIBEFIVAR: &str = "\
+7fff0400
+02010c00d041030a0000000001010600021f04012a00010000000008000000000000004006000000\
+    000028732ac11ff8d211ba4b00a0c93ec93b0202040430005c004500460049005c0042004f004f0054005c0042004f004f00\
+    54005800360034002e0045004600490000007fff0400 \
+    PciRoot(0x0)/Pci(0x1F,0x2)/HD(1,GPT,c12a7328-f81f-11d2-ba4b-00a0c93ec93b,0x800,0x64000)\
+    /File(\\EFI\\BOOT\\BOOTX64.EFI)
+04012a00020000003f00000000000000c8000000000000001234abcd00000000000000000000000001017f0104000404080041000000\
+    7fff0400 HD(2,MBR,0xcdab3412,0x3f,0xc8),File(A)
+04010700abcdef04040700610062040404007fff0400 Path(4,1,abcdef)/Path(4,4,610062)/File()";
+
+#[test]
+fn libefivar(rt: HostRuntime) -> Result<(), Fail> {
+    for line in LIBEFIVAR.split('\n') {
+        let (digits, want) = split_row(line);
+        let bytes = bytes(rt.alloc(), digits)?;
+        let path = DevicePath::from_bytes(&bytes)?;
+        assert!(rt; shows(rt.alloc(), &path.display_libefivar(), want));
+        for room in 0..want.len().saturating_add(3) {
+            let mut places = [0xffff; 256];
+            let said = path.write_libefivar_text(places.get_mut(..room).unwrap_or_default());
+            assert!(rt; (said, places) == written(want, room), "{room}");
+        }
+    }
+    Ok(())
+}
+
 #[test]
 fn nodes(rt: HostRuntime) -> Result<(), Fail> {
     let (node, _) = DevicePathNode::split_first(&[

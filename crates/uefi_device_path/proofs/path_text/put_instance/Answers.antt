@@ -1,10 +1,9 @@
 -- One node more is put.
-use Rattle.std.proofs.Common.{◌≡◌, ℕ, List, ◌++◌, codes, length, ap, arith}
+use Rattle.std.proofs.Common.{◌≡◌, ◌++◌, codes, length, refl, arith}
 use Rattle.std.proofs.lemmas.Grind.{common_steps}
-use Rattle.uefi_device_nodes.specs.NodeTexts.{node_text}
 use Rattle.uefi_device_nodes.specs.NodeViews.{node_of}
 use Rattle.uefi_device_path.specs.Paths.{nodes_in}
-use Rattle.uefi_device_path.specs.PathTexts.{instance_text}
+use Rattle.uefi_device_path.specs.PathTexts.{node_text_in}
 use Rattle.uefi_text.proofs.Puts.{puts_as, puts_three}
 use Rattle.uefi_device_path.proofs.PathTexts.{after_more, after_none, first_piece}
 use Rattle.uefi_device_path.proofs.Splits.{nodes_in-nil}
@@ -12,31 +11,29 @@ use Rattle.uefi_device_path.proofs.path_text.put_instance.Goals as goal
 
 pub nodes-init : goal.nodes-init
 nodes-init g c =
-    let text = node_text c.args.display_only.0 c.args.allow_shortcuts.0 in
+    let text = node_text_in c.args.form in
     record {
       left = c.cut_node.ensures.left;
       so_far = text (node_of c.cut_node.result.0);
       rest = first_piece text (codes "/") (nodes_in c.args.bytes.now) (nodes_in c.cut_node.result.1.now) (node_of c.cut_node.result.0) c.cut_node.ensures.cut;
-      put = puts_as _ _ _ _ _ c.put.ensures c.display.ensures;
+      put = c.put_node.ensures;
     }
 
 pub nodes-preserved : goal.nodes-preserved
 nodes-preserved g c =
-    let text = node_text c.args.display_only.0 c.args.allow_shortcuts.0 in
+    let text = node_text_in c.args.form in
     let node = node_of c.cut_node-in-nodes.result.0 in
     let so_far = c.nodes.invariant in
     record {
       left = c.cut_node-in-nodes.ensures.left;
       so_far = so_far.so_far ++ (codes "/" ++ text node);
       rest = after_more text (codes "/") so_far.so_far _ (nodes_in c.nodes.rest.now) (nodes_in c.cut_node-in-nodes.result.1.now) node so_far.rest c.cut_node-in-nodes.ensures.cut;
-      put = puts_three _ _ _ _ _ _ _ _ _ so_far.put c.put_str.ensures c.put-in-nodes.ensures
-          (ap (λ (bytes : List ℕ). so_far.so_far ++ (codes "/" ++ bytes)) c.display-in-nodes.ensures);
+      put = puts_three _ _ _ _ _ _ _ _ _ so_far.put c.put_str.ensures c.put_node-in-nodes.ensures refl;
     }
 
 pub returns : goal.returns
-unfolding instance_text
 returns g c =
     let so_far = c.nodes.invariant in
     let none : length c.nodes.rest.now ≡ 0 = grind (arith, common_steps) in
     puts_as _ _ _ _ _ so_far.put
-    (after_none (node_text c.args.display_only.0 c.args.allow_shortcuts.0) (codes "/") so_far.so_far _ (nodes_in c.nodes.rest.now) so_far.rest (nodes_in-nil c.nodes.rest.now none))
+    (after_none (node_text_in c.args.form) (codes "/") so_far.so_far _ (nodes_in c.nodes.rest.now) so_far.rest (nodes_in-nil c.nodes.rest.now none))

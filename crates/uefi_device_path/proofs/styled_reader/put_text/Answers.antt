@@ -5,7 +5,7 @@ use Rattle.std.specs.Result.{result_map_both}
 use Rattle.std.proofs.lemmas.Bool.Decides.{nat_tests}
 use Rattle.std.proofs.lemmas.Grind.{common_steps}
 use Rattle.std.proofs.lemmas.Result.{IfErr-at_err}
-use Rattle.uefi_built_nodes.specs.RawNodes.{raw_node}
+use Rattle.uefi_device_nodes.specs.RawNodes.{raw_node}
 use Rattle.uefi_device_nodes.specs.Nodes.{Node}
 use Rattle.uefi_node_reader.specs.TextNodeViews.{text_node}
 use Rattle.uefi_node_reader.specs.declared.faults.NodeFault.{NodeFault}

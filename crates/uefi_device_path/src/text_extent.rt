@@ -1,0 +1,108 @@
+//! How far the path goes that a text begins with, where something else follows it.
+#![tactic(auto)]
+
+ghost use Rattle.std.specs.Prelude.{◌≡◌};
+ghost use Rattle.uefi_device_path.specs.StyledReading.{GivesExtent, is_end, text_extent};
+ghost use Rattle.uefi_node_reader.specs.Styles.{HasScratch};
+ghost use Rattle.uefi_node_reader.specs.declared.styles.TextStyle.TheVariants.{Lenient, Libefivar};
+
+use crate::laws::styled_texts;
+use crate::lenient_errors::{Expected, LenientTextError, TextFault};
+use crate::styled_reader::put_text;
+use std::alloc::Allocator;
+use uefi_node_reader::styles::TextStyle;
+
+/// Whether a node should end there.
+fn is_end(expected: Expected) -> bool
+    ensures { result ≡ is_end expected }
+{
+    match expected {
+        Expected::End => true,
+        _ => false,
+    }
+}
+
+/// How many bytes of a text are the path that it begins with, read in a style, or the fault of the text. The
+/// buffer then holds anything.
+///
+/// Hidden: the library for C calls it, and nothing promises that it stays. Other callers have
+/// [`lenient_text_extent`] and [`libefivar_text_extent`].
+#[doc(hidden)]
+pub fn styled_text_extent(
+    style: TextStyle,
+    text: &[u8],
+    scratch: &mut [u8],
+) -> Result<usize, TextFault>
+    requires { HasScratch style text.now scratch.old }
+    ensures { result ≡ text_extent style text.now }
+{
+    // The law says that the wrong byte lies in the text, or at its end.
+    styled_texts();
+    let fault = match put_text(style, &mut [], 4, text, scratch) {
+        Ok(_) => return Ok(text.len()),
+        Err(fault) => fault,
+    };
+    if !is_end(fault.expected) {
+        return Err(fault);
+    }
+    match put_text(style, &mut [], 4, &text[..fault.byte], scratch) {
+        Ok(_) => Ok(fault.byte),
+        Err(_) => Err(fault),
+    }
+}
+
+/// The same, with memory for the buffer.
+fn extent_in<A: Allocator + Copy>(
+    style: TextStyle,
+    alloc: A,
+    text: &str,
+) -> Result<usize, LenientTextError>
+    ensures { GivesExtent result (text_extent style text.now) }
+{
+    let mut scratch = Vec::new(alloc);
+    if scratch.resize(text.len() + 1, 0).is_err() {
+        return Err(LenientTextError::OutOfMemory);
+    }
+    match styled_text_extent(style, text.as_bytes(), &mut scratch) {
+        Ok(end) => Ok(end),
+        Err(fault) => Err(LenientTextError::NoNode(fault)),
+    }
+}
+
+/// How many bytes of a text are the path that it begins with, as people write it, where something else may
+/// follow: programs such as efibootmgr print optional data directly after the last node.
+///
+/// The path is all of the text if [`DevicePathBuf::from_lenient_text`](crate::DevicePathBuf) reads that. If
+/// the call refuses the text at a byte where a node should end, the path is what stands before this byte.
+/// Any other text is refused as by that call. Allocates one byte more than the text has, for copies, before
+/// the text is judged.
+///
+/// ```rust
+/// let text = r"HD(1,MBR,0x12345678)/File(\a.efi)RC";
+/// let end = lenient_text_extent(rt.alloc(), text)?;
+/// assert_eq!(rt; text.get(..end), Some(r"HD(1,MBR,0x12345678)/File(\a.efi)"));
+/// ```
+pub fn lenient_text_extent<A: Allocator + Copy>(
+    alloc: A,
+    text: &str,
+) -> Result<usize, LenientTextError>
+    ensures { GivesExtent result (text_extent Lenient text.now) }
+{
+    extent_in(TextStyle::Lenient, alloc, text)
+}
+
+/// The same of a text that libefivar prints, and efibootmgr with it, as
+/// [`DevicePathBuf::from_libefivar_text`](crate::DevicePathBuf) reads it.
+///
+/// ```rust
+/// let end = libefivar_text_extent(rt.alloc(), "NVMe(0x1,00-25-38-5B-71-B0-03-1C)..BO")?;
+/// assert_eq!(rt; end, 33);
+/// ```
+pub fn libefivar_text_extent<A: Allocator + Copy>(
+    alloc: A,
+    text: &str,
+) -> Result<usize, LenientTextError>
+    ensures { GivesExtent result (text_extent Libefivar text.now) }
+{
+    extent_in(TextStyle::Libefivar, alloc, text)
+}
