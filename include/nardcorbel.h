@@ -9,12 +9,12 @@
  *   unit    a code unit of UCS-2, two bytes
  *   text    units without a NUL and without a surrogate (0xd800 to 0xdfff)
  *   string  a text and its NUL. Units "begin with a string" if a NUL comes before any surrogate; what follows it is not read.
- *   path    a string whose components stand between separators, '\'. One separator at its start is ignored.
+ *   path    a string of components with separators, '\', between them. One separator at its start is ignored.
  *
  * What the caller must see to
  *   - A pointer with a count is null only if the count is 0; no other pointer is null.
- *   - Pointers to units, sizes and structs are aligned for their type. Bytes may lie anywhere, so a device path may too; the
- *     name in a node may begin at an odd address, and nard_units_from_bytes copies it to an even one.
+ *   - Pointers to units, sizes and structs are aligned for their type. Bytes, and so device paths, may have any address. The
+ *     name in a node may begin at an odd address: nard_units_from_bytes copies it to an even one.
  *   - The memory has as many elements as the count or the room says, at most PTRDIFF_MAX bytes.
  *   - What a call reads is initialized. What it only writes, a buffer or a number such as *length, need not be.
  *   - A nard_bool is 0 or 1.
@@ -131,7 +131,7 @@ enum nard_reason {
 #undef NARD_AS_CONSTANT
 };
 
-/* The order of two things of which one is no string: the least nard_order. */
+/* The order if one of the two is not a string: the least nard_order. */
 #define NARD_NO_ORDER (-2147483647 - 1)
 
 /* A reason in words. */
@@ -260,7 +260,7 @@ nard_result NARD_CALL nard_units_from_bytes(const nard_byte *bytes, nard_size by
  * Counts the units before the first NUL of those that bytes encode. They may be surrogates; an odd byte at the end is ignored.
  *
  * Returns
- *   NARD_OK      *count is how many units stand before the NUL
+ *   NARD_OK      *count is the number of units before the NUL
  *   NARD_NO_NUL  there is none; *count is half of byte_count, rounded down
  */
 nard_result NARD_CALL nard_packed_until_nul(const nard_byte *bytes, nard_size byte_count, nard_size *count);
@@ -271,8 +271,8 @@ nard_result NARD_CALL nard_packed_until_nul(const nard_byte *bytes, nard_size by
  * Returns
  *   NARD_OK
  *   NARD_NOT_UTF8                           *length is how many bytes before the fault are UTF-8; the buffer is unchanged
- *   NARD_INVALID_CHAR, NARD_INTERIOR_NUL    a character is above U+FFFF, or a NUL, whichever comes first; *length is how many
- *                                           characters stand before it, and the buffer is unchanged
+ *   NARD_INVALID_CHAR, NARD_INTERIOR_NUL    a character is above U+FFFF, or a NUL, whichever comes first; *length is the number of
+ *                                           characters before it, and the buffer is unchanged
  *   NARD_BUFFER_TOO_SMALL                   room <= *length; the buffer is unchanged
  */
 nard_result NARD_CALL nard_string_from_utf8(const nard_byte *bytes, nard_size byte_count,
@@ -282,7 +282,7 @@ nard_result NARD_CALL nard_string_from_utf8(const nard_byte *bytes, nard_size by
  * Writes the text of the string that units begin with, as UTF-8 with a NUL.
  *
  * Returns
- *   NARD_OK                            *length is how many bytes stand before the NUL
+ *   NARD_OK                            *length is the number of bytes before the NUL
  *   NARD_NO_NUL, NARD_INVALID_CHAR     as nard_string_until_nul, *length too; the bytes are unchanged
  *   NARD_BUFFER_TOO_SMALL              room <= *length; the bytes are unchanged
  */
@@ -291,13 +291,13 @@ nard_result NARD_CALL nard_utf8_from_string(const nard_unit *units, nard_size co
 
 /*
  * Writes the units before the first NUL, or all of them if there is none, as UTF-8 with a NUL. Each pair of surrogates is one
- * character, and U+FFFD stands for each surrogate that has no partner, so that nothing is refused.
+ * character, and each surrogate without a partner becomes U+FFFD, so the call refuses no units.
  *
  * The text may hold control characters, ESC among them, and characters that change the direction of a text. Replace them
  * before you show a description or a name to a person, as examples/boot_entry.c does.
  *
  * Returns
- *   NARD_OK                 *length is how many bytes stand before the NUL
+ *   NARD_OK                 *length is the number of bytes before the NUL
  *   NARD_BUFFER_TOO_SMALL   room <= *length; the bytes are unchanged
  */
 nard_result NARD_CALL nard_utf8_from_units_lossy(const nard_unit *units, nard_size count,
@@ -386,7 +386,7 @@ nard_result NARD_CALL nard_path_join(const nard_unit *path, nard_size count, con
 
 /*
  * Writes the parent of a path to a buffer: all components but the last, slashes replaced, without a separator at the start.
- * Empty components are left out, but if one stands right before the last component, a separator ends the parent: that of
+ * Empty components are left out. If one comes right before the last component, the parent ends with a separator: the parent of
  * `a\\b\\c` is `a\b\`.
  *
  * Returns
@@ -601,6 +601,16 @@ nard_result NARD_CALL nard_device_path_text(const nard_byte *bytes, nard_size by
                                             nard_unit *buffer, nard_size room, nard_size *length);
 
 /*
+ * Formats a device path as libefivar does, and efibootmgr with it, for scripts that read their output: as nard_device_path_text,
+ * but with File(..) around the name of a file, and with the numbers of a partition in lower case. For example
+ *     HD(1,GPT,03020100-0504-0706-0809-0a0b0c0d0e0f,0x800,0x100000)/File(\EFI\debian\shimx64.efi)
+ *
+ * Returns as nard_device_path_text does.
+ */
+nard_result NARD_CALL nard_device_path_libefivar_text(const nard_byte *bytes, nard_size byte_count,
+                                                      nard_unit *buffer, nard_size room, nard_size *length);
+
+/*
  * Formats one node as text, as nard_device_path_text formats a path, for example
  *     Pci(0x1F,0x2)
  * What follows the node is not read: for a node of a path, give the bytes from where nard_device_path_next_node finds it. A node
@@ -617,7 +627,7 @@ nard_result NARD_CALL nard_node_text(const nard_byte *bytes, nard_size byte_coun
                                      nard_bool display_only, nard_bool allow_shortcuts,
                                      nard_unit *buffer, nard_size room, nard_size *length);
 
-/* Where the parts of a load option stand in its bytes. */
+/* Where the parts of a load option begin in its bytes, and how long they are. */
 struct nard_load_option {
     nard_size attributes;         /* 32 bits; bit 0 is LOAD_OPTION_ACTIVE */
     nard_size description_start;
@@ -697,10 +707,15 @@ nard_result NARD_CALL nard_device_path_push_text(nard_byte *buffer, nard_size ro
  * Adds the nodes of a text of the UEFI Specification, in UTF-8 and as people write it, to the device path that a buffer begins
  * with, before its end, for example
  *     pciroot(0)/pci(31, 2)/HD(1,GPT,12345678-9abc-def0-1234-56789abcdef0,0x800,0x100000)/File(\EFI\boot\bootx64.efi)
- * Names and digits stand in either case, numbers in decimal or after 0x, with zeros before them; blanks may stand in a call, and
- * numbers at its end may be left out, but not all of them; the name of a file may stand in File(..), or without its first
- * backslash if it has another, and neither a `)` nor a `:`, but not after a comma, which ends an instance. What
- * nard_device_path_push_text reads is read as the same.
+ *
+ *   - Case does not matter, except in texts such as names of files.
+ *   - A number is hexadecimal after 0x and otherwise decimal, and may begin with zeros. Numbers at the end of a call may be left
+ *     out, but not all of them.
+ *   - Blanks and line ends are ignored in calls and around nodes.
+ *   - The name of a file may be in File(..). It may lack its first backslash if it has another backslash, has no `)`, `:` or
+ *     quotation mark, and does not follow a comma. A comma ends an instance.
+ *
+ * A text that nard_device_path_push_text reads is read as the same nodes.
  *
  * A call in which other programs print hexadecimal numbers without 0x, such as Fibre(5006,0), is refused. efibootmgr's text of an
  * NVMe node is the specification's text of another node: read what it prints by nard_device_path_push_libefivar_text.
@@ -725,13 +740,36 @@ nard_result NARD_CALL nard_device_path_push_lenient_text(nard_byte *buffer, nard
  * before its end, for example
  *     PciRoot(0x0)/Pci(0x1d,0x0)/NVMe(0x1,00-25-38-5B-71-B0-03-1C)/HD(1,GPT,12345678-9abc-def0-1234-56789abcdef0,0x800,0x64000)
  * libefivar prints the identifier of an NVMe node from its first byte on, and Ata with three numbers. Its Fibre, SAS and UsbClass
- * leave out what distinguishes two nodes, and in PciRoot and PcieRoot a text may stand in place of the number, which begins with
- * 0x: these are refused. All other nodes are read as nard_device_path_push_lenient_text reads them, and the arguments and what it
+ * leave out what distinguishes two nodes, and PciRoot and PcieRoot may have a text instead of the number, which begins with 0x:
+ * these are refused. All other nodes are read as nard_device_path_push_lenient_text reads them, and the arguments and what it
  * returns are as there.
  */
 nard_result NARD_CALL nard_device_path_push_libefivar_text(nard_byte *buffer, nard_size room, const nard_byte *bytes,
                                                            nard_size byte_count, nard_byte *scratch, nard_size scratch_room,
                                                            nard_size *length);
+
+/*
+ * Finds the end of the path at the start of a text. Other data may follow the path: efibootmgr -v prints optional data directly
+ * after it, for example
+ *     HD(1,GPT,12345678-9abc-def0-1234-56789abcdef0,0x800,0x100000)/File(\EFI\debian\shimx64.efi)RC
+ * If nard_device_path_push_lenient_text reads all of the text, the path is all of it. If that call stops at a byte because a node
+ * should end there, the path is the text before this byte. The data that follow need not be UTF-8.
+ *
+ *   scratch, scratch_room   for copies: one byte more than the text; it then holds anything
+ *
+ * Returns
+ *   NARD_OK                 *length is how many bytes the path has
+ *   NARD_SCRATCH_TOO_SMALL  scratch_room < *length, one more than byte_count
+ *   NARD_NO_NODE            the text begins with no path; *length is as from nard_device_path_push_lenient_text
+ */
+nard_result NARD_CALL nard_lenient_text_extent(const nard_byte *bytes, nard_size byte_count, nard_byte *scratch,
+                                               nard_size scratch_room, nard_size *length);
+
+/*
+ * Finds the same end in a text that libefivar or efibootmgr printed, as nard_device_path_push_libefivar_text reads it.
+ */
+nard_result NARD_CALL nard_libefivar_text_extent(const nard_byte *bytes, nard_size byte_count, nard_byte *scratch,
+                                                 nard_size scratch_room, nard_size *length);
 
 /*
  * Writes in words why nard_device_path_push_lenient_text returns NARD_NO_NODE for a text, as UTF-16 with a NUL, for example
@@ -787,9 +825,9 @@ nard_bool NARD_CALL nard_device_path_strip_prefix(const nard_byte *bytes, nard_s
                                                   const nard_byte *prefix, nard_size prefix_count, nard_size *offset);
 
 /*
- * Whether both begin with a device path, and the second is a short form that stands for the first (section 3.1.2): some nodes,
- * then one that the first node of the short form names, then its other nodes. HD(..) names a partition by number and
- * signature; a file name and a URI name an equal node.
+ * Returns whether both begin with a device path, and the second is a short form of the first (section 3.1.2). The first path is
+ * then some nodes, a node that the first node of the short form names, and the other nodes of the short form. HD(..) names a
+ * partition by number and signature; a file name and a URI name an equal node.
  */
 nard_bool NARD_CALL nard_device_path_is_expansion(const nard_byte *bytes, nard_size byte_count,
                                                   const nard_byte *form, nard_size form_count);
@@ -852,8 +890,8 @@ nard_result NARD_CALL nard_boot_order_read(const nard_byte *bytes, nard_size byt
  * end is the end. It returns NARD_OK, or NARD_BUFFER_TOO_SMALL if the number is not in the order, and there is no room for
  * it; the order and *count are then unchanged.
  *
- * The other two return whether the number was in the order. One takes it out, wherever it stands; the other moves it to the
- * front.
+ * The other two return whether the number was in the order. nard_boot_order_remove takes it out, and
+ * nard_boot_order_move_to_front moves it to the front.
  */
 nard_result NARD_CALL nard_boot_order_insert(nard_unit *order, nard_size room, nard_size *count, nard_size place, nard_unit number);
 nard_bool NARD_CALL nard_boot_order_remove(nard_unit *order, nard_size room, nard_size *count, nard_unit number);
@@ -1217,6 +1255,13 @@ static inline NARD_MUST_USE nard_result NARD_CALL nard_call_device_path_text(con
 }
 #define nard_device_path_text nard_call_device_path_text
 
+static inline NARD_MUST_USE nard_result NARD_CALL nard_call_device_path_libefivar_text(const nard_byte *bytes,
+        nard_size byte_count, nard_unit *buffer, nard_size room, nard_size *length)
+{
+    return nard_device_path_libefivar_text(nard_given_bytes(bytes), byte_count, nard_given_unit_room(buffer), room, length);
+}
+#define nard_device_path_libefivar_text nard_call_device_path_libefivar_text
+
 static inline NARD_MUST_USE nard_result NARD_CALL nard_call_node_text(const nard_byte *bytes, nard_size byte_count,
         nard_bool display_only, nard_bool allow_shortcuts, nard_unit *buffer, nard_size room, nard_size *length)
 {
@@ -1272,6 +1317,20 @@ static inline NARD_MUST_USE nard_result NARD_CALL nard_call_device_path_push_lib
     return nard_device_path_push_libefivar_text(nard_given_byte_room(buffer), room, nard_given_bytes(bytes), byte_count, nard_given_byte_room(scratch), scratch_room, length);
 }
 #define nard_device_path_push_libefivar_text nard_call_device_path_push_libefivar_text
+
+static inline NARD_MUST_USE nard_result NARD_CALL nard_call_lenient_text_extent(const nard_byte *bytes, nard_size byte_count,
+        nard_byte *scratch, nard_size scratch_room, nard_size *length)
+{
+    return nard_lenient_text_extent(nard_given_bytes(bytes), byte_count, nard_given_byte_room(scratch), scratch_room, length);
+}
+#define nard_lenient_text_extent nard_call_lenient_text_extent
+
+static inline NARD_MUST_USE nard_result NARD_CALL nard_call_libefivar_text_extent(const nard_byte *bytes, nard_size byte_count,
+        nard_byte *scratch, nard_size scratch_room, nard_size *length)
+{
+    return nard_libefivar_text_extent(nard_given_bytes(bytes), byte_count, nard_given_byte_room(scratch), scratch_room, length);
+}
+#define nard_libefivar_text_extent nard_call_libefivar_text_extent
 
 static inline NARD_MUST_USE nard_result NARD_CALL nard_call_lenient_text_fault(const nard_byte *bytes, nard_size byte_count,
         nard_byte *scratch, nard_size scratch_room, nard_unit *buffer, nard_size room, nard_size *length)

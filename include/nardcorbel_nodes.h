@@ -1,7 +1,7 @@
 /*
  * nardcorbel_nodes.h - where the fields of device path nodes lie (UEFI Specification 2.10, section 10.3)
  *
- * Made by include/make-nodes from the contracts of the views. A kind of node is its type and its sub-type. A field is the place
+ * Made by include/make-nodes from the layouts of the proved views. A kind of node is its type and its sub-type. A field is the place
  * of its first byte in the data of the node, and how many bytes it has, or 0 for all that follow. Of a list of numbers, it is
  * the first. A part whose place depends on the bytes before it is no field.
  *

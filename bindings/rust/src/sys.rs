@@ -218,6 +218,9 @@ call!(nard_device_path_file_path(bytes: &[u8], buffer: &mut [u16], length: &mut 
 call!(nard_device_path_text(bytes: &[u8], display_only: bool, allow_shortcuts: bool, buffer: &mut [u16], length: &mut usize) -> u32
     as (bytes.as_ptr(), bytes.len(), display_only, allow_shortcuts, buffer.as_mut_ptr(), buffer.len(), length)
     of (*const u8, usize, bool, bool, *mut u16, usize, *mut usize));
+call!(nard_device_path_libefivar_text(bytes: &[u8], buffer: &mut [u16], length: &mut usize) -> u32
+    as (bytes.as_ptr(), bytes.len(), buffer.as_mut_ptr(), buffer.len(), length)
+    of (*const u8, usize, *mut u16, usize, *mut usize));
 call!(nard_node_text(bytes: &[u8], display_only: bool, allow_shortcuts: bool, buffer: &mut [u16], length: &mut usize) -> u32
     as (bytes.as_ptr(), bytes.len(), display_only, allow_shortcuts, buffer.as_mut_ptr(), buffer.len(), length)
     of (*const u8, usize, bool, bool, *mut u16, usize, *mut usize));
@@ -242,6 +245,12 @@ call!(nard_device_path_push_lenient_text(buffer: &mut [u8], bytes: &[u8], scratc
 call!(nard_device_path_push_libefivar_text(buffer: &mut [u8], bytes: &[u8], scratch: &mut [u8], length: &mut usize) -> u32
     as (buffer.as_mut_ptr(), buffer.len(), bytes.as_ptr(), bytes.len(), scratch.as_mut_ptr(), scratch.len(), length)
     of (*mut u8, usize, *const u8, usize, *mut u8, usize, *mut usize));
+call!(nard_lenient_text_extent(bytes: &[u8], scratch: &mut [u8], length: &mut usize) -> u32
+    as (bytes.as_ptr(), bytes.len(), scratch.as_mut_ptr(), scratch.len(), length)
+    of (*const u8, usize, *mut u8, usize, *mut usize));
+call!(nard_libefivar_text_extent(bytes: &[u8], scratch: &mut [u8], length: &mut usize) -> u32
+    as (bytes.as_ptr(), bytes.len(), scratch.as_mut_ptr(), scratch.len(), length)
+    of (*const u8, usize, *mut u8, usize, *mut usize));
 call!(nard_lenient_text_fault(bytes: &[u8], scratch: &mut [u8], buffer: &mut [u16], length: &mut usize) -> u32
     as (bytes.as_ptr(), bytes.len(), scratch.as_mut_ptr(), scratch.len(), buffer.as_mut_ptr(), buffer.len(), length)
     of (*const u8, usize, *mut u8, usize, *mut u16, usize, *mut usize));

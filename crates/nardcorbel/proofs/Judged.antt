@@ -6,7 +6,7 @@ use Rattle.std.specs.List.{find, position_or_len}
 use Rattle.uefi_text.specs.FromStr.{is_deciding_char}
 use Rattle.uefi_text.specs.UnalignedCStr16.{with_prefix}
 use Rattle.uefi_text.specs.Units.{nul_terminated}
-use Rattle.nardcorbel.specs.Buffers.{room_reason}
+use Rattle.nardcorbel.specs.Outcomes.{room_reason}
 use Rattle.nardcorbel.specs.Reasons.{character_reason}
 
 -- a NUL comes first

@@ -1,3 +1,4 @@
+pub mod Inputs
 pub mod Nodes
 pub mod Options
 pub mod Written

@@ -4,9 +4,9 @@ use Rattle.std.specs.Prelude.{slice_range}
 use Rattle.std.proofs.Math.Seq.{drop-append_seam, take-append_seam}
 use Rattle.std.proofs.lemmas.List.{drop-drop, take_all}
 use Rattle.std.proofs.lemmas.List.Elements.{All-nil}
-use Rattle.uefi_device_nodes.specs.NodeFaults.{node_fault}
-use Rattle.uefi_device_nodes.specs.Nodes.{IsInner, Node, end_entire, node_bytes, node_with}
-use Rattle.uefi_device_nodes.specs.declared.errors.NodeError.{NodeError}
+use Rattle.uefi_device_path.specs.NodeFaults.{node_fault}
+use Rattle.uefi_device_path.specs.Nodes.{IsInner, Node, end_entire, node_bytes, node_with}
+use Rattle.uefi_device_path.specs.NodeError.{NodeError}
 use Rattle.uefi_device_path.proofs.Splits.{path_no_fault, path_once}
 use Rattle.uefi_device_path.specs.Paths.{BeginWithPath}
 

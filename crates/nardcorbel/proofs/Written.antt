@@ -1,65 +1,181 @@
--- The reason that is reported is that of what was not written.
-use Rattle.std.proofs.Common.{◌≡◌, ◌≤◌, ap, refl, ℕ, List, [], ◌∷◌, Option, None, Some, arith, Result, Ok, Err, IsOk}
-use Rattle.uefi_device_nodes.specs.Nodes.{Node}
-use Rattle.uefi_device_nodes.specs.declared.errors.NodeError.{NodeError}
-use Rattle.uefi_device_nodes.specs.declared.errors.NodeError.TheVariants as node
-use Rattle.std.specs.Prelude.{OnErr, OnOk}
-use Rattle.std.proofs.lemmas.Bool.{false≢true}
+-- A caller sees what became of what a call writes.
+use Rattle.std.proofs.Common.{◌≡◌, refl, subst, ℕ, ◌+◌, ◌<◌, ◌≤◌, ◌^◌, Bool, true, false, nat_lt, ◌&&◌, not, if◌then◌else◌, List, [], ◌∷◌, ◌++◌, All, length, Option, None, Some, Result, Ok, Err, arith}
+use Rattle.std.proofs.lemmas.Grind.{common_steps}
+use Rattle.std.proofs.lemmas.Bool.Decides.{nat_tests}
+use Rattle.std.specs.Prelude.{IfOk, OnErr, OnOk}
+use Rattle.std.specs.Result.{result_err, result_map_both}
+use Rattle.uefi_text.specs.Packed.{IsByte}
+use Rattle.uefi_text.specs.UnalignedCStr16.{with_prefix}
+use Rattle.uefi_text.specs.UnitTexts.{places_needed, written_len}
+use Rattle.uefi_text.specs.Units.{nul_terminated}
+use Rattle.uefi_text.specs.declared.unit_sink.BufferTooSmall.{BufferTooSmall}
+use Rattle.uefi_device_path.proofs.CheckedRuns.{reads_path, reads_refusal}
 use Rattle.uefi_device_path.proofs.Entries.{same_entry}
-use Rattle.uefi_device_path.specs.Building.{grow_refusal}
-use Rattle.uefi_device_path.specs.StyledReading.{IsPushLenientError, IsStyledText}
-use Rattle.uefi_device_path.specs.LoadOptions.{Entry}
-use Rattle.uefi_device_path.specs.PathReading.{HasPath, IsPushTextError, StopsAt}
+use Rattle.uefi_device_path.specs.Building.{grow_refusal, room_refusal}
+use Rattle.uefi_device_path.specs.CheckedNodes.{path_of_bytes}
+use Rattle.uefi_device_path.specs.Faults.{RefusedFor}
+use Rattle.uefi_device_path.specs.LoadOptions.{Entry, entry_bytes}
+use Rattle.uefi_device_path.specs.Nodes.{Node}
+use Rattle.uefi_device_path.specs.OptionBuilding.{room_fault, written_where}
+use Rattle.uefi_device_path.specs.Paths.{BeginWithPath, path_bytes}
+use Rattle.uefi_device_path.specs.StyledReading.{IsReadAs, ReadingStopsAt, lenient_refusal, path_read}
+use Rattle.uefi_device_path.specs.Styles.{HasScratch, is_copied}
+use Rattle.uefi_device_path.specs.TextStyle.{TextStyle}
 use Rattle.uefi_device_path.specs.declared.errors.BuildError.{BuildError}
-use Rattle.uefi_device_path.specs.declared.errors.GrowError.TheVariants.{Build, Path}
-use Rattle.uefi_device_path.specs.declared.errors.PushTextError.{PushTextError}
-use Rattle.uefi_device_path.specs.declared.errors.PushTextError.TheVariants as text
-use Rattle.uefi_device_path.specs.declared.lenient_errors.PushLenientTextError.{PushLenientTextError}
-use Rattle.uefi_device_path.specs.declared.lenient_errors.PushLenientTextError.TheVariants as lenient
-use Rattle.uefi_node_reader.specs.declared.styles.TextStyle.{TextStyle}
-use Rattle.nardcorbel.specs.Building.{IsWrongAt, build_place, build_reason, entry_of_path, lenient_place, lenient_reason, text_place, text_reason}
-use Rattle.nardcorbel.specs.Reasons.{node_reason}
-use Rattle.nardcorbel.specs.declared.reasons.TheConstants.{OK, BUFFER_TOO_SMALL, NO_NODE}
 use Rattle.uefi_device_path.specs.declared.errors.DevicePathError.{DevicePathError}
+use Rattle.uefi_device_path.specs.declared.errors.GrowError.{GrowError}
+use Rattle.uefi_device_path.specs.declared.errors.GrowError.TheVariants.{Build, Path}
+use Rattle.uefi_device_path.specs.declared.errors.OptionBuildError.{OptionBuildError}
+use Rattle.uefi_device_path.specs.declared.lenient_errors.PushLenientTextError.{PushLenientTextError}
+use Rattle.uefi_device_path.specs.declared.lenient_errors.PushLenientTextError.TheVariants.{NoNode, ScratchTooSmall}
+use Rattle.uefi_device_path.specs.declared.lenient_errors.TextFault.{TextFault}
+use Rattle.nardcorbel.specs.Building.{entry_of_path}
+use Rattle.nardcorbel.specs.Outcomes.{Shows, ShowsNumber, when_read, refusal_at, unless}
+use Rattle.nardcorbel.specs.Outcomes.Outcome.{Content, Number, Text}
+use Rattle.nardcorbel.specs.Reading.{read_path, read_text}
+use Rattle.nardcorbel.specs.Refusals.{build_refused, fault_refusal, grow_refused, missing_scratch, option_refused, path_refusal, room_refused, text_refused}
+use Rattle.nardcorbel.specs.declared.outcomes.Refusal.{Refusal}
+use Rattle.nardcorbel.specs.declared.reasons.TheConstants.{SCRATCH_TOO_SMALL}
 
--- a path that grew is not refused
-pub grown_ok : (refusal : Option BuildError) → None ≡ grow_refusal refusal → OK ≡ build_reason refusal
-grown_ok None e = refl
-grown_ok (Some error) e = absurd (cc)
+-- what a call reports of what it gives
+abbrev pub Reports : {E : Type 0} → (E → Refusal) → Result ℕ E → ℕ → ℕ → ℕ → Type 0
+Reports refusal given before returned number =
+    ShowsNumber (when_read (result_map_both (λ (n : ℕ). n) refusal given) Number) before returned number
 
--- and one that did not is refused for the error
-pub grown_err : (refusal : Option BuildError) (error : BuildError) → Some (Build error) ≡ grow_refusal refusal
-    → build_reason (Some error) ≡ build_reason refusal
-grown_err None error e = absurd (cc)
-grown_err (Some other) error e = let same : error ≡ other = cc in ap (λ k. build_reason (Some k)) same
+-- a text that was written with its NUL, or had no room
+pub text_shown : (text old new : List ℕ) (given : Result ℕ BufferTooSmall) (before returned number : ℕ) → length old < 2 ^ 64
+    → given ≡ written_len text old → new ≡ with_prefix (nul_terminated text) old → Reports room_refused given before returned number
+    → Shows (Text text) before old returned number new
+text_shown text old new given before returned number small is wrote shown =
+    by (nat_lt (length text) (length old)) refl (subst (λ r. Reports room_refused r before returned number) is shown)
+  where
+    by : (room : Bool) → nat_lt (length text) (length old) ≡ room
+        → Reports room_refused (if room then Ok (length text) else Err (record { 0 = places_needed text })) before returned number
+        → Shows (Text text) before old returned number new
+    by true e said = record { reason = grind (arith, common_steps, said.reason); place = grind (arith, common_steps, said.place); buffer = wrote }
+    by false e said = record { reason = grind (arith, common_steps, said.reason); place = grind (arith, common_steps, said.place); buffer = wrote }
 
--- nor is one whose path is at fault
-pub grown_path : (refusal : Option BuildError) (error : DevicePathError) → Some (Path error) ≡ grow_refusal refusal → ⊥
-grown_path None error e = absurd (cc)
-grown_path (Some other) error e = absurd (cc)
+-- a path that grew, or did not, by what is wrong with what was added
+pub grown_by : (old new content : List ℕ) (fault : Option BuildError) (given : Result ℕ GrowError) (before returned number : ℕ) → number < 2 ^ 64
+    → result_err given ≡ grow_refusal (room_refusal (length content) (length old) fault)
+    → IfOk given (λ len. len ≡ length content) → OnOk given (new ≡ with_prefix content old) → OnErr given (new ≡ old)
+    → Reports grow_refused given before returned number
+    → Shows (unless fault build_refused (Content content)) before old returned number new
+grown_by old new content (Some error) (Ok len) before returned number small refusal len_is wrote none shown = absurd (cc)
+grown_by old new content (Some error) (Err other) before returned number small refusal len_is wrote none shown =
+    let same : other ≡ Build error = cc in
+    let there = subst (λ e. Reports grow_refused (Err e) before returned number) same shown in
+    record { reason = there.reason; place = there.place; buffer = none }
+grown_by old new content None (Ok len) before returned number small refusal len_is wrote none shown =
+    record {
+      reason = grind (arith, common_steps);
+      place = grind (arith, common_steps);
+      buffer = wrote;
+    }
+grown_by old new content None (Err error) before returned number small refusal len_is wrote none shown =
+    record {
+      reason = grind (arith, common_steps);
+      place = grind (arith, common_steps);
+      buffer = grind (arith, common_steps);
+    }
 
--- an error tells which path is at fault
-pub same_path : (error other : DevicePathError) → Some (Path error) ≡ Some (Path other) → error ≡ other
-same_path error other e = cc
+-- the same of the path that a buffer begins with, or of why it begins with none
+pub grown : (old new : List ℕ) (fault : Option BuildError) (content : List Node → List ℕ) (given : Result ℕ GrowError) (before returned number : ℕ)
+    → All IsByte old → number < 2 ^ 64
+    → ((error : DevicePathError) → RefusedFor old error → given ≡ Err (Path error))
+    → ((nodes : List Node) → BeginWithPath old nodes → result_err given ≡ grow_refusal (room_refusal (length (content nodes)) (length old) fault))
+    → ((nodes : List Node) → BeginWithPath old nodes → IfOk given (λ len. len ≡ length (content nodes)))
+    → ((nodes : List Node) → BeginWithPath old nodes → OnOk given (new ≡ with_prefix (content nodes) old))
+    → OnErr given (new ≡ old) → Reports grow_refused given before returned number
+    → Shows (when_read (read_path old) (λ nodes. unless fault build_refused (Content (content nodes)))) before old returned number new
+unfolding read_path
+grown old new fault content given before returned number byte small refused refusal len_is wrote none shown = by (path_of_bytes old) refl
+  where
+    by : (read : Result (List Node) DevicePathError) → path_of_bytes old ≡ read
+        → Shows (when_read (result_map_both (λ nodes. nodes) path_refusal read) (λ nodes. unless fault build_refused (Content (content nodes)))) before old returned number new
+    by (Ok nodes) e =
+        let begins = reads_path old nodes byte e in
+        grown_by old new (content nodes) fault given before returned number small (refusal nodes begins) (len_is nodes begins) (wrote nodes begins) none shown
+    by (Err error) e =
+        let same = refused error (reads_refusal old error byte e) in
+        let there = subst (λ r. Reports grow_refused r before returned number) same shown in
+        record { reason = there.reason; place = there.place; buffer = subst (λ r. OnErr r (new ≡ old)) same none }
 
--- what a call leaves where it does what it says, and where it does not
-pub at_ok : {T E P : Type 0} (r : Result T E) → IsOk r → OnOk r P → P
-at_ok (Ok value) ok p = p
-at_ok (Err error) ok p = absurd (false≢true ok)
+-- the nodes that a text is read as were added, or why they were not
+added_by : (style : TextStyle) (old new : List ℕ) (nodes : List Node) (read : Result (List Node) TextFault) (given : Result ℕ PushLenientTextError) (before returned number : ℕ)
+    → length old < 2 ^ 63
+    → ((fault : TextFault) → read ≡ Err fault → given ≡ Err (NoNode fault))
+    → ((others : List Node) → read ≡ Ok others → result_err given ≡ lenient_refusal nodes others (length old))
+    → ((others : List Node) → read ≡ Ok others → IfOk given (λ len. len ≡ length (path_bytes (nodes ++ others))))
+    → ((others : List Node) → read ≡ Ok others → OnOk given (new ≡ with_prefix (path_bytes (nodes ++ others)) old))
+    → OnErr given (new ≡ old) → Reports (text_refused style) given before returned number
+    → Shows (when_read (result_map_both (λ ns. ns) (fault_refusal style) read) (λ others. Content (path_bytes (nodes ++ others)))) before old returned number new
+added_by style old new nodes (Err fault) given before returned number small stops refusal len_is wrote none shown =
+    let same = stops fault refl in
+    let there = subst (λ r. Reports (text_refused style) r before returned number) same shown in
+    record { reason = there.reason; place = there.place; buffer = subst (λ r. OnErr r (new ≡ old)) same none }
+added_by style old new nodes (Ok others) (Ok len) before returned number small stops refusal len_is wrote none shown =
+    let content = path_bytes (nodes ++ others) in
+    let e = refusal others refl in
+    let long = len_is others refl in
+    record {
+      reason = grind (arith, common_steps);
+      place = grind (arith, common_steps);
+      buffer = wrote others refl;
+    }
+added_by style old new nodes (Ok others) (Err error) before returned number small stops refusal len_is wrote none shown =
+    let content = path_bytes (nodes ++ others) in
+    let e = refusal others refl in
+    record {
+      reason = grind (arith, common_steps);
+      place = grind (arith, common_steps);
+      buffer = grind (arith, common_steps);
+    }
 
-pub at_err : {T E P : Type 0} (r : Result T E) → (IsOk r → ⊥) → OnErr r P → P
-at_err (Ok value) none p = absurd (none refl)
-at_err (Err error) none p = p
+-- the same by the second buffer
+pub added : (style : TextStyle) (old new text scratch : List ℕ) (nodes : List Node) (given : Result ℕ PushLenientTextError) (before returned number : ℕ)
+    → length old < 2 ^ 63
+    → (is_copied style ≡ true → length scratch ≤ length text → given ≡ Err (ScratchTooSmall (length text + 1)))
+    → (HasScratch style text scratch → (fault : TextFault) → ReadingStopsAt style text fault → given ≡ Err (NoNode fault))
+    → ((others : List Node) → HasScratch style text scratch → IsReadAs style text others → result_err given ≡ lenient_refusal nodes others (length old))
+    → ((others : List Node) → IsReadAs style text others → IfOk given (λ len. len ≡ length (path_bytes (nodes ++ others))))
+    → ((others : List Node) → IsReadAs style text others → OnOk given (new ≡ with_prefix (path_bytes (nodes ++ others)) old))
+    → OnErr given (new ≡ old) → Reports (text_refused style) given before returned number
+    → Shows (unless (missing_scratch style text scratch) (refusal_at SCRATCH_TOO_SMALL)
+    (when_read (read_text style text) (λ others. Content (path_bytes (nodes ++ others))))) before old returned number new
+unfolding read_text
+added style old new text scratch nodes given before returned number small no_scratch stops refusal len_is wrote none shown =
+    by (is_copied style) refl (nat_lt (length text) (length scratch)) refl
+  where
+    there : HasScratch style text scratch
+        → Shows (when_read (result_map_both (λ ns. ns) (fault_refusal style) (path_read style text)) (λ others. Content (path_bytes (nodes ++ others)))) before old returned number new
+    there has = added_by style old new nodes (path_read style text) given before returned number small (stops has) (λ others e. refusal others has e) len_is wrote none shown
 
--- and the place that is reported is that of the refusal
-pub place_ok : (refusal : Option BuildError) (len place : ℕ) → None ≡ grow_refusal refusal → len ≡ build_place refusal len place
-place_ok None len place e = refl
-place_ok (Some error) len place e = absurd (cc)
+    by : (copied : Bool) → is_copied style ≡ copied → (room : Bool) → nat_lt (length text) (length scratch) ≡ room
+        → Shows (unless (if copied && not room then Some (length text + 1) else None) (refusal_at SCRATCH_TOO_SMALL)
+        (when_read (result_map_both (λ ns. ns) (fault_refusal style) (path_read style text)) (λ others. Content (path_bytes (nodes ++ others))))) before old returned number new
+    by true e false f =
+        let same = no_scratch e (grind (arith, nat_tests, f)) in
+        let said = subst (λ r. Reports (text_refused style) r before returned number) same shown in
+        record { reason = said.reason; place = said.place; buffer = subst (λ r. OnErr r (new ≡ old)) same none }
+    by true e true f = there (λ _. grind (arith, nat_tests, f))
+    by false e room f = there (λ yes. absurd (cc (e, yes)))
 
-pub place_err : (refusal : Option BuildError) (error : BuildError) (len place : ℕ) → Some (Build error) ≡ grow_refusal refusal
-    → build_place (Some error) len place ≡ build_place refusal len place
-place_err None error len place e = absurd (cc)
-place_err (Some other) error len place e = let same : error ≡ other = cc in ap (λ k. build_place (Some k) len place) same
+-- a load option that was written, or why it was not
+pub entry_by : (entry : Entry) (fault : Option OptionBuildError) (old new : List ℕ) (given : Result ℕ OptionBuildError) (before returned number : ℕ) → number < 2 ^ 64
+    → result_err given ≡ room_fault (entry_bytes entry) (length old) fault
+    → IfOk given (λ len. len ≡ length (entry_bytes entry)) → new ≡ written_where (entry_bytes entry) old fault
+    → Reports option_refused given before returned number
+    → Shows (unless fault option_refused (Content (entry_bytes entry))) before old returned number new
+entry_by entry (Some error) old new (Ok len) before returned number small refusal len_is wrote shown = absurd (cc)
+entry_by entry (Some error) old new (Err other) before returned number small refusal len_is wrote shown =
+    let same : other ≡ error = cc in
+    let there = subst (λ e. Reports option_refused (Err e) before returned number) same shown in
+    record { reason = there.reason; place = there.place; buffer = wrote }
+entry_by entry None old new (Ok len) before returned number small refusal len_is wrote shown =
+    record { reason = grind (arith, common_steps); place = grind (arith, common_steps); buffer = wrote }
+entry_by entry None old new (Err error) before returned number small refusal len_is wrote shown =
+    record { reason = grind (arith, common_steps); place = grind (arith, common_steps); buffer = wrote }
 
 -- the load option of these fields
 pub fields_are : (entry : Entry) (attributes : ℕ) (description : List ℕ) (nodes : List Node) (optional : List ℕ)
@@ -67,59 +183,3 @@ pub fields_are : (entry : Entry) (attributes : ℕ) (description : List ℕ) (no
     → entry ≡ entry_of_path attributes description nodes optional
 fields_are entry attributes description nodes optional a d p o =
     same_entry entry.attributes attributes entry.description description entry.paths (nodes ∷ []) entry.optional optional a d p o
-
--- the reasons why no node stands at a place are numbers of their own
-pub node_reason_above : (cause : NodeError) → 12 ≤ node_reason cause
-node_reason_above node.Missing = omega arith
-node_reason_above node.TruncatedHeader = omega arith
-node_reason_above node.UnknownEnd = omega arith
-node_reason_above node.LengthBelowHeader = omega arith
-node_reason_above node.EndWithData = omega arith
-node_reason_above node.BeyondEnd = omega arith
-
-pub node_reason_below : (cause : NodeError) → node_reason cause ≤ 17
-node_reason_below node.Missing = omega arith
-node_reason_below node.TruncatedHeader = omega arith
-node_reason_below node.UnknownEnd = omega arith
-node_reason_below node.LengthBelowHeader = omega arith
-node_reason_below node.EndWithData = omega arith
-node_reason_below node.BeyondEnd = omega arith
-
--- so what is reported where the nodes of a text are not added says which of its causes holds
-pub never_added : (error : PushTextError) → text_reason (Some error) ≡ OK → ⊥
-never_added (text.Path error) is = omega (arith, is, node_reason_above error.cause)
-never_added (text.NoNode place) is = omega (arith, is)
-never_added (text.BufferTooSmall needed) is = omega (arith, is)
-
-pub stops_there : (buffer bytes : List ℕ) (error : PushTextError) → IsPushTextError buffer bytes error
-    → text_reason (Some error) ≡ NO_NODE → StopsAt bytes (text_place (Some error) 0)
-stops_there buffer bytes (text.Path error) cause is = absurd (omega (arith, is, node_reason_below error.cause))
-stops_there buffer bytes (text.NoNode place) cause is = cause
-stops_there buffer bytes (text.BufferTooSmall needed) cause is = absurd (omega (arith, is))
-
-pub has_no_room : (buffer bytes : List ℕ) (error : PushTextError) → IsPushTextError buffer bytes error
-    → text_reason (Some error) ≡ BUFFER_TOO_SMALL → HasPath bytes
-has_no_room buffer bytes (text.Path error) cause is = absurd (omega (arith, is, node_reason_above error.cause))
-has_no_room buffer bytes (text.NoNode place) cause is = absurd (omega (arith, is))
-has_no_room buffer bytes (text.BufferTooSmall needed) cause is = cause
-
--- the same of a text as people write it
-pub lenient_never_added : (error : PushLenientTextError) → lenient_reason (Some error) ≡ OK → ⊥
-lenient_never_added (lenient.Path error) is = omega (arith, is, node_reason_above error.cause)
-lenient_never_added (lenient.ScratchTooSmall needed) is = omega (arith, is)
-lenient_never_added (lenient.NoNode fault) is = omega (arith, is)
-lenient_never_added (lenient.BufferTooSmall needed) is = omega (arith, is)
-
-pub reading_stops_there : (style : TextStyle) (buffer bytes : List ℕ) (error : PushLenientTextError) → IsPushLenientError style buffer bytes error
-    → lenient_reason (Some error) ≡ NO_NODE → IsWrongAt style bytes (lenient_place (Some error) 0)
-reading_stops_there style buffer bytes (lenient.Path error) cause is = absurd (omega (arith, is, node_reason_below error.cause))
-reading_stops_there style buffer bytes (lenient.ScratchTooSmall needed) cause is = absurd (omega (arith, is))
-reading_stops_there style buffer bytes (lenient.NoNode fault) cause is = (fault, (cause, refl))
-reading_stops_there style buffer bytes (lenient.BufferTooSmall needed) cause is = absurd (omega (arith, is))
-
-pub read_has_no_room : (style : TextStyle) (buffer bytes : List ℕ) (error : PushLenientTextError) → IsPushLenientError style buffer bytes error
-    → lenient_reason (Some error) ≡ BUFFER_TOO_SMALL → IsStyledText style bytes
-read_has_no_room style buffer bytes (lenient.Path error) cause is = absurd (omega (arith, is, node_reason_above error.cause))
-read_has_no_room style buffer bytes (lenient.ScratchTooSmall needed) cause is = absurd (omega (arith, is))
-read_has_no_room style buffer bytes (lenient.NoNode fault) cause is = absurd (omega (arith, is))
-read_has_no_room style buffer bytes (lenient.BufferTooSmall needed) cause is = cause

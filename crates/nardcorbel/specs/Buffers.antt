@@ -1,16 +1,25 @@
--- What becomes of a text that is written into a caller's buffer, with a NUL after it.
-use Rattle.std.specs.Prelude.{ℕ, ◌-◌, ◌/◌, ◌<◌, ◌^◌, min, nat_lt, if◌then◌else◌, List, drop, length, take}
-use Rattle.std.specs.Str.{IsUtf8, chars}
-use Rattle.uefi_text.specs.Units.{IsText}
-use Rattle.nardcorbel.specs.declared.reasons.TheConstants.{OK, BUFFER_TOO_SMALL}
+-- What becomes of paths that are made in a caller's buffer.
+use Rattle.std.specs.Prelude.{◌≡◌, ℕ, ◌/◌, List, drop, length, take, Option, Some, None}
+use Rattle.uefi_path.specs.Components.{components_of}
+use Rattle.uefi_path.specs.NormalForms.{normal_of, normal_text}
+use Rattle.uefi_path.specs.Separators.{with_separators}
+use Rattle.uefi_path.specs.Verdicts.{verdict}
+use Rattle.nardcorbel.specs.Outcomes.{Outcome, reason_shown, refusal_at, refusal_for, unless}
+use Rattle.nardcorbel.specs.Outcomes.Outcome.{Refused, Text}
+use Rattle.nardcorbel.specs.Reading.{string_of_utf8}
+use Rattle.nardcorbel.specs.Reasons.{path_reason}
+use Rattle.nardcorbel.specs.declared.reasons.TheConstants.{NO_PARENT, OK}
 
--- it is written where the buffer has more places than it has elements
-abbrev pub room_reason : List ℕ → List ℕ → ℕ
-room_reason text buffer = if nat_lt (length text) (length buffer) then OK else BUFFER_TOO_SMALL
+-- the parent of a path, if it has one
+abbrev pub parent_or_none : Option (List ℕ) → Outcome
+parent_or_none None = Refused (refusal_for NO_PARENT)
+parent_or_none (Some parent) = Text parent
 
--- its length, as far as a `usize` counts it with the NUL
-abbrev pub length_shown : List ℕ → ℕ
-length_shown text = min (length text) (2 ^ 64 - 2)
+-- the normal path of a text, each slash of which is a separator, unless that is no valid path
+abbrev pub normalized : List ℕ → Outcome
+normalized text =
+    unless (verdict (with_separators text)) (λ error. refusal_at (path_reason error) (length text))
+    (Text (normal_text (normal_of (components_of (with_separators text)))))
 
 -- the two halves of a buffer: the second has one place more where their number is odd
 abbrev pub first_half : List ℕ → List ℕ
@@ -19,8 +28,6 @@ first_half buffer = take (length buffer / 2) buffer
 abbrev pub second_half : List ℕ → List ℕ
 second_half buffer = drop (length buffer / 2) buffer
 
--- bytes are a text in UTF-8, and a buffer has room for it and a NUL
-pub record HasStringIn (bytes buffer : List ℕ) : Type 0 where
-  pub utf8 : IsUtf8 bytes
-  pub text : IsText (chars bytes)
-  pub room : length (chars bytes) < length buffer
+-- bytes are the UTF-8 of a string for which a buffer has room
+abbrev pub HasStringIn : List ℕ → List ℕ → Type 0
+HasStringIn bytes buffer = reason_shown (string_of_utf8 bytes) buffer ≡ OK

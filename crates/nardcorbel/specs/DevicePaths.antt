@@ -1,14 +1,17 @@
 -- What bytes show: a node of a device path, its text, and the parts of a load option.
-use Rattle.std.specs.Prelude.{◌≡◌, ℕ, Bool, ◌+◌, ◌*◌, List, ◌++◌, ◌∷◌, length, slice_range}
-use Rattle.uefi_device_nodes.specs.Nodes.{Node, node_bytes, node_with}
-use Rattle.uefi_device_nodes.specs.NodeTexts.{node_text}
+use Rattle.std.specs.Prelude.{◌≡◌, ℕ, ◌+◌, ◌*◌, All, List, ◌++◌, ◌∷◌, length, slice_range, Result, Ok, Err}
+use Rattle.std.specs.Result.{result_map_both}
+use Rattle.uefi_device_path.specs.Nodes.{Node, node_bytes, node_with}
+use Rattle.uefi_device_path.specs.FilePaths.{FileRefusedFor, IsReadable, file_path}
 use Rattle.uefi_device_path.specs.LoadOptions.{Entry}
 use Rattle.uefi_device_path.specs.declared.extent.PathExtent.{PathExtent}
 use Rattle.uefi_device_path.specs.declared.extent.PathExtent.TheVariants.{Whole, Cut}
 use Rattle.uefi_device_path.specs.PathLists.{list_bytes}
 use Rattle.uefi_device_path.specs.Paths.{path_bytes}
-use Rattle.uefi_device_path.specs.PathTexts.{nodes_text}
-use Rattle.uefi_text.specs.UnitTexts.{utf16_units}
+use Rattle.uefi_device_path.specs.declared.errors.FilePathError.{FilePathError}
+use Rattle.nardcorbel.specs.Outcomes.{Outcome, when_read}
+use Rattle.nardcorbel.specs.Outcomes.Outcome.{Text}
+use Rattle.nardcorbel.specs.Refusals.{nameless_refusal}
 use Rattle.nardcorbel.specs.declared.device_paths.DeviceNode.{DeviceNode}
 use Rattle.nardcorbel.specs.declared.load_options.LoadOptionParts.{LoadOptionParts}
 
@@ -23,17 +26,18 @@ abbrev pub ShowsExtent : ℕ → PathExtent → ℕ → ℕ → Type 0
 ShowsExtent start (Whole len) place needed = (place ≡ start) × (needed ≡ start + len)
 ShowsExtent start (Cut cut) place needed = (place ≡ start + cut.passed) × (needed ≡ start + cut.needed)
 
--- the text of a device path of these nodes, in UTF-16
-abbrev pub text_units : Bool → Bool → List Node → List ℕ
-text_units display_only shortcuts nodes = utf16_units (nodes_text display_only shortcuts nodes)
-
 -- bytes begin with the bytes of this node
 abbrev pub BeginWithNode : List ℕ → Node → Type 0
 BeginWithNode bytes node = (rest : List ℕ) × (bytes ≡ node_bytes node ++ rest)
 
--- the text of a node, in UTF-16
-abbrev pub node_units : Bool → Bool → Node → List ℕ
-node_units display_only shortcuts node = utf16_units (node_text display_only shortcuts node)
+-- nodes have this file path, or one of them that should name a file has no name
+abbrev pub GivesFilePath : List Node → Result (List ℕ) FilePathError → Type 0
+GivesFilePath nodes (Ok path) = All IsReadable nodes × (path ≡ file_path nodes)
+GivesFilePath nodes (Err error) = FileRefusedFor nodes error
+
+-- what becomes of it
+abbrev pub file_outcome : Result (List ℕ) FilePathError → Outcome
+file_outcome file = when_read (result_map_both (λ path. path) nameless_refusal file) Text
 
 -- where the parts of a load option stand in its bytes, one after the other, and how long they are
 pub record HasParts (entry : Entry) (parts : LoadOptionParts) : Type 0 where

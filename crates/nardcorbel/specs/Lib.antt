@@ -1,9 +1,13 @@
 pub mod Reasons
+pub mod Outcomes
+pub mod Refusals
 pub mod Strings
+pub mod Reading
 pub mod Buffers
 pub mod DevicePaths
 pub mod Building
 pub mod BootVariables
 pub mod NodeNumbers
 pub mod Paths
+pub mod FatNames
 pub mod TextFaults

@@ -2,37 +2,27 @@
 use Rattle.std.specs.Prelude.{ℕ, ℤ, ◌==◌, if◌then◌else◌, pos, negsuc, Option, Some, None}
 use Rattle.std.specs.declared.cmp.Ordering.{Ordering}
 use Rattle.std.specs.declared.cmp.Ordering.TheVariants.{Less, Equal, Greater}
-use Rattle.uefi_text.specs.declared.errors.FromSliceUntilNulError.{FromSliceUntilNulError}
-use Rattle.uefi_text.specs.declared.errors.FromSliceUntilNulError.TheVariants as until_nul
 use Rattle.uefi_text.specs.declared.errors.FromSliceWithNulError.{FromSliceWithNulError}
 use Rattle.uefi_text.specs.declared.errors.FromSliceWithNulError.TheVariants as with_nul
 use Rattle.uefi_fat.specs.declared.long_names.FatNameError.{FatNameError}
 use Rattle.uefi_fat.specs.declared.long_names.FatNameError.TheVariants as fat_name
 use Rattle.uefi_path.specs.declared.validation.PathError.{PathError}
 use Rattle.uefi_path.specs.declared.validation.PathError.TheVariants.{Empty, EmptyComponent, IllegalChar, ClimbsAboveRoot}
-use Rattle.uefi_device_nodes.specs.declared.errors.NodeError.{NodeError}
-use Rattle.uefi_device_nodes.specs.declared.errors.NodeError.TheVariants as node
+use Rattle.uefi_device_path.specs.NodeError.{NodeError}
+use Rattle.uefi_device_path.specs.NodeError.TheVariants as node
 use Rattle.uefi_device_path.specs.declared.errors.FilePathCause.{FilePathCause}
 use Rattle.uefi_device_path.specs.declared.errors.FilePathCause.TheVariants as file
 use Rattle.uefi_device_path.specs.declared.errors.LoadOptionCause.{LoadOptionCause}
 use Rattle.uefi_device_path.specs.declared.errors.LoadOptionCause.TheVariants as option
 use Rattle.nardcorbel.specs.declared.reasons.TheConstants.{OK, NO_NUL, INVALID_CHAR, INTERIOR_NUL, ODD_BYTES, PATH_EMPTY, EMPTY_COMPONENT, ILLEGAL_CHAR, CLIMBS_ABOVE_ROOT, NO_END_NODE, TRUNCATED_HEADER, UNKNOWN_END, LENGTH_BELOW_HEADER, END_WITH_DATA, NODE_BEYOND_END, OPTION_TOO_SHORT, DESCRIPTION_WITHOUT_END, LIST_BEYOND_END, EMPTY_LIST, NAME_EMPTY, NAME_TOO_LONG}
 
--- the reason why units begin with no string; memory is never the reason
-abbrev pub until_nul_reason : Option FromSliceUntilNulError → ℕ
-until_nul_reason None = OK
-until_nul_reason (Some (until_nul.InvalidChar place)) = INVALID_CHAR
-until_nul_reason (Some until_nul.NoNul) = NO_NUL
-until_nul_reason (Some until_nul.OutOfMemory) = NO_NUL
-
 -- the reason why units are no string; neither memory nor a place in memory is ever the reason
-abbrev pub with_nul_reason : Option FromSliceWithNulError → ℕ
-with_nul_reason None = OK
-with_nul_reason (Some (with_nul.InvalidChar place)) = INVALID_CHAR
-with_nul_reason (Some (with_nul.InteriorNul place)) = INTERIOR_NUL
-with_nul_reason (Some with_nul.NotNulTerminated) = NO_NUL
-with_nul_reason (Some with_nul.NotAligned) = NO_NUL
-with_nul_reason (Some with_nul.OutOfMemory) = NO_NUL
+abbrev pub with_nul_reason : FromSliceWithNulError → ℕ
+with_nul_reason (with_nul.InvalidChar place) = INVALID_CHAR
+with_nul_reason (with_nul.InteriorNul place) = INTERIOR_NUL
+with_nul_reason with_nul.NotNulTerminated = NO_NUL
+with_nul_reason with_nul.NotAligned = NO_NUL
+with_nul_reason with_nul.OutOfMemory = NO_NUL
 
 -- the reason why a text is no string, by its first character that none holds
 abbrev pub character_reason : Option ℕ → ℕ
@@ -40,12 +30,11 @@ character_reason None = OK
 character_reason (Some character) = if character == 0 then INTERIOR_NUL else INVALID_CHAR
 
 -- the reason why a path is refused
-abbrev pub path_reason : Option PathError → ℕ
-path_reason None = OK
-path_reason (Some Empty) = PATH_EMPTY
-path_reason (Some EmptyComponent) = EMPTY_COMPONENT
-path_reason (Some (IllegalChar character)) = ILLEGAL_CHAR
-path_reason (Some ClimbsAboveRoot) = CLIMBS_ABOVE_ROOT
+abbrev pub path_reason : PathError → ℕ
+path_reason Empty = PATH_EMPTY
+path_reason EmptyComponent = EMPTY_COMPONENT
+path_reason (IllegalChar character) = ILLEGAL_CHAR
+path_reason ClimbsAboveRoot = CLIMBS_ABOVE_ROOT
 
 -- the character for which a path is refused, and 0 for other reasons
 abbrev pub refused_character : Option PathError → ℕ
@@ -56,11 +45,10 @@ refused_character (Some (IllegalChar character)) = character
 refused_character (Some ClimbsAboveRoot) = 0
 
 -- the reason why a file on a FAT volume can not have a name
-abbrev pub fat_name_reason : Option FatNameError → ℕ
-fat_name_reason None = OK
-fat_name_reason (Some fat_name.Empty) = NAME_EMPTY
-fat_name_reason (Some fat_name.TooLong) = NAME_TOO_LONG
-fat_name_reason (Some (fat_name.IllegalChar character)) = ILLEGAL_CHAR
+abbrev pub fat_name_reason : FatNameError → ℕ
+fat_name_reason fat_name.Empty = NAME_EMPTY
+fat_name_reason fat_name.TooLong = NAME_TOO_LONG
+fat_name_reason (fat_name.IllegalChar character) = ILLEGAL_CHAR
 
 -- the character for which such a name is refused, and 0 for other reasons
 abbrev pub refused_fat_character : Option FatNameError → ℕ
@@ -95,5 +83,5 @@ option_reason (option.FilePathList cause) = node_reason cause
 -- the reason why a node that names a file has no name; memory is never the reason
 abbrev pub name_reason : FilePathCause → ℕ
 name_reason file.HalfUnit = ODD_BYTES
-name_reason (file.Text error) = with_nul_reason (Some error)
+name_reason (file.Text error) = with_nul_reason error
 name_reason file.OutOfMemory = ODD_BYTES

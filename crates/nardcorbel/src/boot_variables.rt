@@ -1,25 +1,23 @@
 //! Names of load options and orders of them in units that C holds (UEFI Specification 2.10, section
 //! 3.3).
-ghost use Rattle.std.specs.Prelude.{◌≡◌, ◌≢◌, ◌↔◌, ◌%◌, ◌<◌, ◌≤◌, ◌^◌, false, length, slice_get, take, Some};
+ghost use Rattle.std.specs.Prelude.{◌≡◌, ◌≢◌, ◌↔◌, ◌%◌, ◌<◌, ◌≤◌, ◌^◌, false, length, slice_get, take, Err, Some};
 ghost use Rattle.uefi_boot_variables.specs.declared.variable_names.LoadOptionKind.{LoadOptionKind};
 ghost use Rattle.uefi_boot_variables.specs.declared.variable_names.LoadOptionName.{LoadOptionName};
 ghost use Rattle.uefi_boot_variables.specs.Names.{name_text};
 ghost use Rattle.uefi_boot_variables.specs.Orders.{over, stands_in, with_at, with_front, without};
-ghost use Rattle.uefi_text.specs.FromSliceUntilNul.{until_nul_refusal};
-ghost use Rattle.uefi_text.specs.UnalignedCStr16.{with_prefix};
 ghost use Rattle.uefi_text.specs.UnitBytes.{units_of_bytes};
-ghost use Rattle.uefi_text.specs.Units.{BeginsWithString, nul_terminated};
+ghost use Rattle.uefi_text.specs.Units.{BeginsWithString};
 ghost use Rattle.nardcorbel.specs.BootVariables.{kind_number};
-ghost use Rattle.nardcorbel.specs.Buffers.{room_reason};
-ghost use Rattle.nardcorbel.specs.Reasons.{until_nul_reason};
+ghost use Rattle.nardcorbel.specs.Outcomes.{Shows, refusal_for};
+ghost use Rattle.nardcorbel.specs.Outcomes.Outcome.{Refused, Text};
+ghost use Rattle.nardcorbel.specs.Reading.{read_string};
 ghost use Rattle.nardcorbel.specs.Strings.{text_until_nul};
+ghost use Rattle.nardcorbel.specs.declared.outcomes.Refusal.{Refusal};
 
-use crate::reasons::{
-    BUFFER_TOO_SMALL, END_OF_ORDER, NOT_A_NAME, ODD_BYTES, OK, report, until_nul_reason,
-};
+use crate::outcomes::{Refusal, read_string, report};
+use crate::reasons::{BUFFER_TOO_SMALL, END_OF_ORDER, NOT_A_NAME, ODD_BYTES, OK};
 use uefi_boot_variables::order_edits::{contains, insert, move_to_front, remove};
 use uefi_boot_variables::{LoadOptionKind, LoadOptionName, LoadOrder};
-use uefi_text::CStr16;
 
 /// `Boot####`.
 pub const BOOT: u8 = 0;
@@ -74,8 +72,8 @@ fn kind_of(number: u8) -> Option<LoadOptionKind>
 /// `NOT_A_NAME`. Refused, `kind` and `number` stay unchanged. Takes no memory.
 #[unsafe(no_mangle)]
 pub extern "C" fn nard_boot_name_read(units: &[u16], kind: &mut u8, number: &mut u16) -> u32
-    ensures no_string { ¬ BeginsWithString units.now
-        → result ≡ until_nul_reason (until_nul_refusal units.now) }
+    ensures no_string { (refusal : Refusal) → read_string units.now ≡ Err refusal
+        → result ≡ refusal.reason }
     ensures name { BeginsWithString units.now → (name : LoadOptionName) → name.number < 2 ^ 16
         → text_until_nul units.now ≡ name_text name
         → (result ≡ OK) × (kind.new ≡ kind_number name.kind) × (number.new ≡ name.number) }
@@ -84,9 +82,9 @@ pub extern "C" fn nard_boot_name_read(units: &[u16], kind: &mut u8, number: &mut
     ensures refused { BeginsWithString units.now → result ≢ OK → result ≡ NOT_A_NAME }
     ensures unchanged { result ≢ OK → (kind.new ≡ kind.old) × (number.new ≡ number.old) }
 {
-    let string = match CStr16::from_u16_until_nul(units) {
+    let string = match read_string(units) {
         Ok(string) => string,
-        Err(error) => return until_nul_reason(error),
+        Err(refusal) => return refusal.reason,
     };
     match LoadOptionName::from_cstr16(string) {
         Some(name) => {
@@ -110,14 +108,10 @@ pub extern "C" fn nard_boot_name_write(
     buffer: &mut [u16],
     place: &mut usize,
 ) -> u32
-    ensures unknown { 3 < kind
-        → (result ≡ NOT_A_NAME) × (buffer.new ≡ buffer.old) × (place.new ≡ place.old) }
-    ensures reason { (name : LoadOptionName) → kind ≡ kind_number name.kind → number ≡ name.number
-        → result ≡ room_reason (name_text name) buffer.old }
-    ensures place { (name : LoadOptionName) → kind ≡ kind_number name.kind → number ≡ name.number
-        → place.new ≡ length (name_text name) }
-    ensures buffer { (name : LoadOptionName) → kind ≡ kind_number name.kind → number ≡ name.number
-        → buffer.new ≡ with_prefix (nul_terminated (name_text name)) buffer.old }
+    ensures unknown { 3 < kind → Shows (Refused (refusal_for NOT_A_NAME)) place.old buffer.old
+        result place.new buffer.new }
+    ensures name { (name : LoadOptionName) → kind ≡ kind_number name.kind → number ≡ name.number
+        → Shows (Text (name_text name)) place.old buffer.old result place.new buffer.new }
 {
     let Some(kind) = kind_of(kind) else {
         return NOT_A_NAME;

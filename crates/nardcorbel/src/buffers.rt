@@ -1,28 +1,23 @@
 //! Paths that are made in a caller's buffer: whole, or not at all. No call takes memory.
-ghost use Rattle.std.specs.Prelude.{◌≡◌, ◌+◌, ◌*◌, ℕ, ◌≤◌, List, None, Some, length};
-ghost use Rattle.std.specs.List.{find, position_or_len};
+ghost use Rattle.std.specs.Prelude.{◌≡◌, ◌+◌, ◌*◌, ◌≤◌, ℕ, List, Err, Ok, length};
 ghost use Rattle.std.specs.Str.{IsUtf8, chars};
-ghost use Rattle.std.specs.Str.Lossy.{utf8_valid_len};
-ghost use Rattle.uefi_text.specs.FromSliceUntilNul.{until_nul_refusal};
-ghost use Rattle.uefi_text.specs.FromStr.{is_deciding_char};
-ghost use Rattle.uefi_text.specs.UnalignedCStr16.{with_prefix};
-ghost use Rattle.uefi_text.specs.Units.{BeginsWithString, IsText, nul_terminated};
+ghost use Rattle.uefi_text.specs.Units.{IsText};
 ghost use Rattle.uefi_path.specs.Parents.{parent_text};
 ghost use Rattle.uefi_path.specs.Pushing.{pushed};
 ghost use Rattle.uefi_path.specs.Separators.{with_separators};
-ghost use Rattle.nardcorbel.specs.Buffers.{HasStringIn, first_half, length_shown, room_reason, second_half};
 ghost use Rattle.uefi_path.specs.Verdicts.{IsValid, verdict};
-ghost use Rattle.uefi_path.specs.Writing.{normal_path};
-ghost use Rattle.nardcorbel.specs.Reasons.{character_reason, path_reason, refused_character, until_nul_reason};
-ghost use Rattle.nardcorbel.specs.Strings.{text_until_nul, until_nul_place};
+ghost use Rattle.nardcorbel.specs.Buffers.{HasStringIn, first_half, normalized, parent_or_none, second_half};
+ghost use Rattle.nardcorbel.specs.Outcomes.{Shows, when_read, buffer_shown};
+ghost use Rattle.nardcorbel.specs.Outcomes.Outcome.{Text};
+ghost use Rattle.nardcorbel.specs.Reading.{read_string, string_of_utf8};
+ghost use Rattle.nardcorbel.specs.Reasons.{refused_character};
+ghost use Rattle.nardcorbel.specs.declared.outcomes.Refusal.{Refusal};
 
-use crate::reasons::{
-    BUFFER_TOO_SMALL, NO_PARENT, NOT_UTF8, OK, path_reason, report, until_nul_reason,
-};
-use crate::strings::until_nul_place;
+use crate::outcomes::{Refusal, read_string, refuse, refuse_room, report};
+use crate::reasons::{NO_PARENT, OK, path_reason};
 use crate::utf8_texts::nard_string_from_utf8;
 use uefi_path::{NormalWriteError, Path, laws, push_in_buf};
-use uefi_text::{BufferTooSmall, CStr16};
+use uefi_text::BufferTooSmall;
 
 /// Pushes a path on the path that a buffer begins with, in place, as `PathBuf::push` does: a separator
 /// between the two where the first is not empty and does not end in one, and each slash of the second
@@ -34,35 +29,16 @@ use uefi_text::{BufferTooSmall, CStr16};
 /// Takes no memory.
 #[unsafe(no_mangle)]
 pub extern "C" fn nard_path_push(buffer: &mut [u16], path: &[u16], place: &mut usize) -> u32
-    ensures no_string { ¬ BeginsWithString buffer.old
-        → (result ≡ until_nul_reason (until_nul_refusal buffer.old))
-        × (place.new ≡ until_nul_place buffer.old) }
-    ensures no_path { BeginsWithString buffer.old → ¬ BeginsWithString path.now
-        → (result ≡ until_nul_reason (until_nul_refusal path.now))
-        × (place.new ≡ until_nul_place path.now) }
-    ensures unchanged { ¬ (BeginsWithString buffer.old × BeginsWithString path.now)
-        → buffer.new ≡ buffer.old }
-    ensures reason { BeginsWithString buffer.old → BeginsWithString path.now
-        → result ≡ room_reason (pushed (text_until_nul buffer.old) (text_until_nul path.now)) buffer.old }
-    ensures place { BeginsWithString buffer.old → BeginsWithString path.now
-        → place.new ≡ length_shown (pushed (text_until_nul buffer.old) (text_until_nul path.now)) }
-    ensures buffer { BeginsWithString buffer.old → BeginsWithString path.now → buffer.new
-        ≡ with_prefix
-        (nul_terminated (pushed (text_until_nul buffer.old) (text_until_nul path.now))) buffer.old }
+    ensures { Shows (when_read (read_string buffer.old) (λ text. when_read (read_string path.now) (λ other.
+        Text (pushed text other)))) place.old buffer.old result place.new buffer.new }
 {
-    let end = match CStr16::from_u16_until_nul(buffer) {
+    let end = match read_string(buffer) {
         Ok(string) => string.num_chars(),
-        Err(error) => {
-            *place = until_nul_place(error, buffer);
-            return until_nul_reason(error);
-        }
+        Err(refusal) => return refuse(refusal, place),
     };
-    let path = match CStr16::from_u16_until_nul(path) {
+    let path = match read_string(path) {
         Ok(string) => string.to_u16_slice(),
-        Err(error) => {
-            *place = until_nul_place(error, path);
-            return until_nul_reason(error);
-        }
+        Err(refusal) => return refuse(refusal, place),
     };
     report(push_in_buf(buffer, end, path), place)
 }
@@ -80,37 +56,16 @@ pub extern "C" fn nard_path_join(
     buffer: &mut [u16],
     place: &mut usize,
 ) -> u32
-    ensures no_string { ¬ BeginsWithString path.now
-        → (result ≡ until_nul_reason (until_nul_refusal path.now))
-        × (place.new ≡ until_nul_place path.now) }
-    ensures no_other { BeginsWithString path.now → ¬ BeginsWithString other.now
-        → (result ≡ until_nul_reason (until_nul_refusal other.now))
-        × (place.new ≡ until_nul_place other.now) }
-    ensures unchanged { ¬ (BeginsWithString path.now × BeginsWithString other.now)
-        → buffer.new ≡ buffer.old }
-    ensures reason { BeginsWithString path.now → BeginsWithString other.now → result
-        ≡ room_reason
-        (pushed (with_separators (text_until_nul path.now)) (text_until_nul other.now)) buffer.old }
-    ensures place { BeginsWithString path.now → BeginsWithString other.now → place.new
-        ≡ length_shown (pushed (with_separators (text_until_nul path.now)) (text_until_nul other.now)) }
-    ensures buffer { BeginsWithString path.now → BeginsWithString other.now → buffer.new
-        ≡ with_prefix (nul_terminated
-        (pushed (with_separators (text_until_nul path.now)) (text_until_nul other.now)))
-        buffer.old }
+    ensures { Shows (when_read (read_string path.now) (λ text. when_read (read_string other.now) (λ added.
+        Text (pushed (with_separators text) added)))) place.old buffer.old result place.new buffer.new }
 {
-    let path = match CStr16::from_u16_until_nul(path) {
+    let path = match read_string(path) {
         Ok(string) => Path::new(string),
-        Err(error) => {
-            *place = until_nul_place(error, path);
-            return until_nul_reason(error);
-        }
+        Err(refusal) => return refuse(refusal, place),
     };
-    let other = match CStr16::from_u16_until_nul(other) {
+    let other = match read_string(other) {
         Ok(string) => Path::new(string),
-        Err(error) => {
-            *place = until_nul_place(error, other);
-            return until_nul_reason(error);
-        }
+        Err(refusal) => return refuse(refusal, place),
     };
     report(path.write_joined(other, buffer), place)
 }
@@ -124,31 +79,17 @@ pub extern "C" fn nard_path_join(
 /// what stands after the NUL stays. Takes no memory.
 #[unsafe(no_mangle)]
 pub extern "C" fn nard_path_parent(path: &[u16], buffer: &mut [u16], place: &mut usize) -> u32
-    ensures no_string { ¬ BeginsWithString path.now
-        → (result ≡ until_nul_reason (until_nul_refusal path.now))
-        × (place.new ≡ until_nul_place path.now)
-        × (buffer.new ≡ buffer.old) }
-    ensures none { BeginsWithString path.now → parent_text (text_until_nul path.now) ≡ None
-        → (result ≡ NO_PARENT) × (place.new ≡ place.old) × (buffer.new ≡ buffer.old) }
-    ensures reason { BeginsWithString path.now → (parent : List ℕ)
-        → parent_text (text_until_nul path.now) ≡ Some parent → result ≡ room_reason parent buffer.old }
-    ensures place { BeginsWithString path.now → (parent : List ℕ)
-        → parent_text (text_until_nul path.now) ≡ Some parent → place.new ≡ length parent }
-    ensures buffer { BeginsWithString path.now → (parent : List ℕ)
-        → parent_text (text_until_nul path.now) ≡ Some parent
-        → buffer.new ≡ with_prefix (nul_terminated parent) buffer.old }
+    ensures { Shows (when_read (read_string path.now) (λ text. parent_or_none (parent_text text)))
+        place.old buffer.old result place.new buffer.new }
 {
-    let path = match CStr16::from_u16_until_nul(path) {
+    let path = match read_string(path) {
         Ok(string) => Path::new(string),
-        Err(error) => {
-            *place = until_nul_place(error, path);
-            return until_nul_reason(error);
-        }
+        Err(refusal) => return refuse(refusal, place),
     };
     match path.write_parent(buffer) {
-        Ok(Some(len)) => report(Ok(len), place),
+        Ok(Some(len)) => report::<BufferTooSmall>(Ok(len), place),
         Ok(None) => NO_PARENT,
-        Err(error) => report(Err(error), place),
+        Err(error) => refuse(error, place),
     }
 }
 
@@ -167,46 +108,25 @@ pub extern "C" fn nard_path_normalize(
     place: &mut usize,
     character: &mut u16,
 ) -> u32
-    ensures no_string { ¬ BeginsWithString path.now
-        → (result ≡ until_nul_reason (until_nul_refusal path.now))
-        × (place.new ≡ until_nul_place path.now)
-        × (character.new ≡ 0)
-        × (buffer.new ≡ buffer.old) }
-    ensures refused { BeginsWithString path.now → ¬ IsValid (with_separators (text_until_nul path.now))
-        → (result ≡ path_reason (verdict (with_separators (text_until_nul path.now))))
-        × (place.new ≡ until_nul_place path.now)
-        × (buffer.new ≡ buffer.old) }
-    ensures character { BeginsWithString path.now
-        → character.new ≡ refused_character (verdict (with_separators (text_until_nul path.now))) }
-    ensures reason { BeginsWithString path.now → (normal : List ℕ)
-        → normal_path (with_separators (text_until_nul path.now)) ≡ Some normal
-        → result ≡ room_reason normal buffer.old }
-    ensures place { BeginsWithString path.now → (normal : List ℕ)
-        → normal_path (with_separators (text_until_nul path.now)) ≡ Some normal
-        → place.new ≡ length normal }
-    ensures buffer { BeginsWithString path.now → (normal : List ℕ)
-        → normal_path (with_separators (text_until_nul path.now)) ≡ Some normal
-        → buffer.new ≡ with_prefix (nul_terminated normal) buffer.old }
+    ensures path { Shows (when_read (read_string path.now) normalized) place.old buffer.old
+        result place.new buffer.new }
+    ensures no_character { (refusal : Refusal) → read_string path.now ≡ Err refusal → character.new ≡ 0 }
+    ensures character { (text : List ℕ) → read_string path.now ≡ Ok text
+        → character.new ≡ refused_character (verdict (with_separators text)) }
 {
-    // The law does nothing: it says that a path that is not valid is refused.
-    laws::validity();
     *character = 0;
-    let string = match CStr16::from_u16_until_nul(path) {
+    let string = match read_string(path) {
         Ok(string) => string,
-        Err(error) => {
-            *place = until_nul_place(error, path);
-            return until_nul_reason(error);
-        }
+        Err(refusal) => return refuse(refusal, place),
     };
     match Path::new(string).write_normal(buffer) {
-        Ok(len) => report(Ok(len), place),
+        Ok(len) => report::<BufferTooSmall>(Ok(len), place),
         Err(NormalWriteError::Invalid(error)) => {
-            *place = string.num_chars();
             let (reason, refused) = path_reason(error);
             *character = refused;
-            reason
+            refuse(Refusal::at(reason, string.num_chars()), place)
         }
-        Err(NormalWriteError::BufferTooSmall(needed)) => report(Err(BufferTooSmall(needed)), place),
+        Err(NormalWriteError::BufferTooSmall(needed)) => refuse_room(needed, place),
     }
 }
 
@@ -224,42 +144,20 @@ pub extern "C" fn nard_path_normalize_utf8(
     place: &mut usize,
     character: &mut u16,
 ) -> u32
-    ensures not_utf8 { ¬ IsUtf8 bytes.now → (result ≡ NOT_UTF8)
-        × (place.new ≡ utf8_valid_len bytes.now)
-        × (character.new ≡ 0)
-        × (buffer.new ≡ buffer.old) }
-    ensures no_text { IsUtf8 bytes.now → ¬ IsText (chars bytes.now)
-        → (result ≡ character_reason (find is_deciding_char (chars bytes.now)))
-        × (place.new ≡ position_or_len is_deciding_char (chars bytes.now))
-        × (character.new ≡ 0)
-        × (buffer.new ≡ buffer.old) }
-    ensures no_room { IsUtf8 bytes.now → IsText (chars bytes.now)
-        → length (second_half buffer.old) ≤ length (chars bytes.now)
-        → (result ≡ BUFFER_TOO_SMALL)
-        × (place.new ≡ length (chars bytes.now))
-        × (character.new ≡ 0)
-        × (buffer.new ≡ buffer.old) }
-    ensures refused { HasStringIn bytes.now (second_half buffer.old)
-        → ¬ IsValid (with_separators (chars bytes.now))
-        → (result ≡ path_reason (verdict (with_separators (chars bytes.now))))
-        × (place.new ≡ length (chars bytes.now))
-        × (first_half buffer.new ≡ first_half buffer.old) }
+    ensures string { second_half buffer.new
+        ≡ buffer_shown (string_of_utf8 bytes.now) (second_half buffer.old) }
+    ensures refused { ¬ HasStringIn bytes.now (second_half buffer.old)
+        → Shows (string_of_utf8 bytes.now) place.old (second_half buffer.old)
+        result place.new (second_half buffer.new)
+        × (character.new ≡ 0) × (buffer.new ≡ buffer.old) }
+    ensures path { HasStringIn bytes.now (second_half buffer.old)
+        → Shows (normalized (chars bytes.now)) place.old (first_half buffer.old)
+        result place.new (first_half buffer.new) }
     ensures character { HasStringIn bytes.now (second_half buffer.old)
         → character.new ≡ refused_character (verdict (with_separators (chars bytes.now))) }
-    ensures reason { HasStringIn bytes.now (second_half buffer.old) → (normal : List ℕ)
-        → normal_path (with_separators (chars bytes.now)) ≡ Some normal
-        → result ≡ room_reason normal (first_half buffer.old) }
-    ensures place { HasStringIn bytes.now (second_half buffer.old) → (normal : List ℕ)
-        → normal_path (with_separators (chars bytes.now)) ≡ Some normal
-        → place.new ≡ length normal }
-    ensures normal { HasStringIn bytes.now (second_half buffer.old) → (normal : List ℕ)
-        → normal_path (with_separators (chars bytes.now)) ≡ Some normal
-        → first_half buffer.new ≡ with_prefix (nul_terminated normal) (first_half buffer.old) }
     ensures enough { 2 * length bytes.now + 2 ≤ length buffer.old → IsUtf8 bytes.now
         → IsText (chars bytes.now)
         → IsValid (with_separators (chars bytes.now)) → result ≡ OK }
-    ensures string { HasStringIn bytes.now (second_half buffer.old) → second_half buffer.new
-        ≡ with_prefix (nul_terminated (chars bytes.now)) (second_half buffer.old) }
 {
     *character = 0;
     let (first, second) = buffer.split_at_mut(buffer.len() / 2);

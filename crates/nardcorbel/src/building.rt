@@ -1,91 +1,24 @@
 //! Device paths and load options that C writes into its own buffers, and device paths beside others.
-ghost use Rattle.std.specs.Prelude.{◌≡◌, ◌≢◌, ◌↔◌, ℕ, ◌+◌, ◌%◌, ◌^◌, ◌<◌, ◌≤◌, ◌++◌, ◌∷◌, [], IsTrue, List, Some, false, length, Err, IfOk, IsOk, Option};
-ghost use Rattle.std.specs.Str.{IsUtf8};
-ghost use Rattle.std.specs.Str.Lossy.{utf8_valid_len};
-ghost use Rattle.std.specs.Result.{result_err};
-ghost use Rattle.uefi_text.specs.FromSliceUntilNul.{until_nul_refusal};
-ghost use Rattle.uefi_text.specs.UnalignedCStr16.{with_prefix};
-ghost use Rattle.uefi_text.specs.Units.{BeginsWithString};
-ghost use Rattle.uefi_device_nodes.specs.Nodes.{Node, node_with};
-ghost use Rattle.uefi_device_path.specs.Building.{append_refusal, push_refusal, text_refusal, grow_refusal};
-ghost use Rattle.uefi_device_path.specs.Faults.{RefusedFor};
-ghost use Rattle.uefi_device_path.specs.StyledReading.{IsReadAs, IsStyledText, ReadingStopsAt, lenient_refusal};
-ghost use Rattle.uefi_device_path.specs.LoadOptions.{entry_bytes};
+ghost use Rattle.std.specs.Prelude.{◌≡◌, ◌↔◌, ◌+◌, ◌%◌, ◌^◌, ◌≤◌, ◌++◌, ◌∷◌, [], All, IsTrue, List, length};
+ghost use Rattle.uefi_text.specs.Packed.{IsByte};
+ghost use Rattle.uefi_device_path.specs.Building.{build_refusal};
 ghost use Rattle.uefi_device_path.specs.Matching.{IsExpansion};
-ghost use Rattle.uefi_device_path.specs.OptionBuilding.{option_over, write_fault};
-ghost use Rattle.uefi_device_path.specs.PathReading.{AreTold, HasPath, StopsAt};
+ghost use Rattle.uefi_device_path.specs.Nodes.{Node, node_with};
 ghost use Rattle.uefi_device_path.specs.Paths.{BeginWithPath, path_bytes};
-ghost use Rattle.uefi_device_path.specs.PathTexts.{nodes_text};
-ghost use Rattle.uefi_device_path.specs.declared.errors.BuildError.{BuildError};
-ghost use Rattle.uefi_device_path.specs.declared.errors.DevicePathError.{DevicePathError};
-ghost use Rattle.uefi_device_path.specs.declared.lenient_errors.TextFault.{TextFault};
-ghost use Rattle.uefi_node_reader.specs.Styles.{is_copied};
-ghost use Rattle.uefi_node_reader.specs.declared.styles.TextStyle.TheVariants.{Lenient, Libefivar};
-ghost use Rattle.nardcorbel.specs.Building.{build_place, build_reason, entry_of_path, IsWrongAt, lenient_place, lenient_reason, option_build_place, option_build_reason, text_place, text_reason};
-ghost use Rattle.nardcorbel.specs.Reasons.{node_reason, until_nul_reason};
-ghost use Rattle.nardcorbel.specs.Strings.{text_until_nul, until_nul_place};
+ghost use Rattle.uefi_device_path.specs.TextStyle.TheVariants.{Lenient, Libefivar, Printed};
+ghost use Rattle.nardcorbel.specs.Building.{added_text, entry_of_path, written_entry};
+ghost use Rattle.nardcorbel.specs.Outcomes.{Shows, when_read, unless};
+ghost use Rattle.nardcorbel.specs.Outcomes.Outcome.{Content};
+ghost use Rattle.nardcorbel.specs.Reading.{read_path, read_string};
+ghost use Rattle.nardcorbel.specs.Refusals.{build_refused, text_refused};
 
-use crate::device_paths::nard_device_path_check;
-use crate::reasons::{
-    BUFFER_TOO_SMALL, EMPTY_LIST, INTERIOR_NUL, LIST_TOO_LONG, NO_NODE, NODE_OF_END, NODE_TOO_LONG,
-    NOT_UTF8, OK, SCRATCH_TOO_SMALL, node_reason, until_nul_reason,
-};
-use crate::strings::until_nul_place;
+use crate::outcomes::{Refusal, Refused, read_path, read_string, read_utf8, refuse, report};
+use crate::reasons::{BUFFER_TOO_SMALL, NO_NODE, SCRATCH_TOO_SMALL};
 use uefi_device_path::build::RawNode;
 use uefi_device_path::{
-    BuildError, DevicePath, DeviceSubType, DeviceType, GrowError, LoadOptionBuilder,
-    OptionBuildError, PushLenientTextError, PushTextError, append_in_buf, laws, push_in_buf,
-    push_styled_text_in_buf, push_text_in_buf,
+    DevicePath, DeviceSubType, DeviceType, LoadOptionBuilder, PushLenientTextError, TextStyle,
+    append_in_buf, push_in_buf, push_styled_text_in_buf,
 };
-use uefi_node_reader::styles::TextStyle;
-use uefi_text::CStr16;
-
-/// The reason why nodes are not added; memory is never the reason.
-fn build_reason(error: BuildError) -> u32
-    ensures { result ≡ build_reason (Some error) }
-{
-    match error {
-        BuildError::EndNode => NODE_OF_END,
-        BuildError::NodeTooLong => NODE_TOO_LONG,
-        BuildError::BufferTooSmall(_) | BuildError::OutOfMemory => BUFFER_TOO_SMALL,
-    }
-}
-
-/// The place that is reported where nodes are not added, and a place was there.
-fn build_place(error: BuildError, place: usize) -> usize
-    ensures { (len : ℕ) → result ≡ build_place (Some error) len place }
-{
-    match error {
-        BuildError::BufferTooSmall(needed) => needed,
-        BuildError::EndNode | BuildError::NodeTooLong | BuildError::OutOfMemory => place,
-    }
-}
-
-/// Reports how many bytes a device path has that grew, or why it did not grow.
-fn report_grown(grown: Result<usize, GrowError>, place: &mut usize) -> u32
-    ensures no_path { (error : DevicePathError) → grown ≡ Err (GrowError.Path error)
-        → (result ≡ node_reason error.cause) × (place.new ≡ error.offset) }
-    ensures reason { (refusal : Option BuildError) → result_err grown ≡ grow_refusal refusal
-        → result ≡ build_reason refusal }
-    ensures place { (refusal : Option BuildError) → (len : ℕ) → result_err grown ≡ grow_refusal refusal
-        → IfOk grown (λ end. end ≡ len) → place.new ≡ build_place refusal len place.old }
-    ensures ok { (result ≡ OK) ↔ IsOk grown }
-{
-    match grown {
-        Ok(len) => {
-            *place = len;
-            OK
-        }
-        Err(GrowError::Path(error)) => {
-            *place = error.offset;
-            node_reason(error.cause)
-        }
-        Err(GrowError::Build(error)) => {
-            *place = build_place(error, *place);
-            build_reason(error)
-        }
-    }
-}
 
 /// Writes the device path without nodes to the start of a buffer: its end node alone.
 ///
@@ -94,18 +27,19 @@ fn report_grown(grown: Result<usize, GrowError>, place: &mut usize) -> u32
 /// section 10.3.1).
 #[unsafe(no_mangle)]
 pub extern "C" fn nard_device_path_begin(buffer: &mut [u8], place: &mut usize) -> u32
-    ensures ok { (result ≡ OK) ↔ (4 ≤ length buffer.old) }
-    ensures small { result ≢ OK → result ≡ BUFFER_TOO_SMALL }
-    ensures place { place.new ≡ 4 }
-    ensures buffer { buffer.new ≡ with_prefix (path_bytes []) buffer.old }
+    ensures { Shows (Content (path_bytes [])) place.old buffer.old result place.new buffer.new }
 {
-    *place = 4;
     if buffer.len() < 4 {
-        return BUFFER_TOO_SMALL;
+        return refuse(Refusal::at(BUFFER_TOO_SMALL, 4), place);
     }
     buffer[..4].copy_from_slice(&[0x7f, 0xff, 4, 0]);
-    OK
+    report::<Refusal>(Ok(4), place)
 }
+
+/// Does nothing: a clause for the proof of the calls below.
+fn are_bytes(bytes: &[u8])
+    ensures { All IsByte bytes.now }
+{}
 
 /// Adds a node to the device path that a buffer begins with, before its end, as [`push_in_buf`] does.
 ///
@@ -123,24 +57,18 @@ pub extern "C" fn nard_device_path_push(
     content: &[u8],
     place: &mut usize,
 ) -> u32
-    ensures no_path { (error : DevicePathError) → RefusedFor buffer.old error
-        → (result ≡ node_reason error.cause) × (place.new ≡ error.offset) }
-    ensures reason { (nodes : List Node) → BeginWithPath buffer.old nodes → result ≡ build_reason
-        (push_refusal nodes (node_with device_type sub_type content.now) (length buffer.old)) }
-    ensures place { (nodes : List Node) → BeginWithPath buffer.old nodes → place.new ≡ build_place
-        (push_refusal nodes (node_with device_type sub_type content.now) (length buffer.old))
-        (length (path_bytes (nodes ++ node_with device_type sub_type content.now ∷ []))) place.old }
-    ensures buffer { (nodes : List Node) → BeginWithPath buffer.old nodes → result ≡ OK
-        → buffer.new ≡ with_prefix (path_bytes
-        (nodes ++ node_with device_type sub_type content.now ∷ [])) buffer.old }
-    ensures unchanged { result ≢ OK → buffer.new ≡ buffer.old }
+    ensures { Shows (when_read (read_path buffer.old) (λ nodes.
+        unless (build_refusal (node_with device_type sub_type content.now)) build_refused
+        (Content (path_bytes (nodes ++ node_with device_type sub_type content.now ∷ [])))))
+        place.old buffer.old result place.new buffer.new }
 {
     let node = RawNode {
         device_type: DeviceType(device_type),
         sub_type: DeviceSubType(sub_type),
         content,
     };
-    report_grown(push_in_buf(buffer, &node), place)
+    are_bytes(buffer);
+    report(push_in_buf(buffer, &node), place)
 }
 
 /// Adds the nodes of the device path that bytes begin with to the one that a buffer begins with, as
@@ -152,60 +80,57 @@ pub extern "C" fn nard_device_path_push(
 /// Takes no memory.
 #[unsafe(no_mangle)]
 pub extern "C" fn nard_device_path_append(buffer: &mut [u8], bytes: &[u8], place: &mut usize) -> u32
-    ensures no_path { (error : DevicePathError) → RefusedFor buffer.old error
-        → (result ≡ node_reason error.cause) × (place.new ≡ error.offset) }
-    ensures no_bytes { (nodes : List Node) → BeginWithPath buffer.old nodes → (error : DevicePathError)
-        → RefusedFor bytes.now error → (result ≡ node_reason error.cause) × (place.new ≡ error.offset) }
-    ensures reason { (nodes : List Node) → (others : List Node) → BeginWithPath buffer.old nodes
-        → BeginWithPath bytes.now others
-        → result ≡ build_reason (append_refusal nodes others (length buffer.old)) }
-    ensures place { (nodes : List Node) → (others : List Node) → BeginWithPath buffer.old nodes
-        → BeginWithPath bytes.now others
-        → place.new ≡ build_place (append_refusal nodes others (length buffer.old))
-        (length (path_bytes (nodes ++ others))) place.old }
-    ensures buffer { (nodes : List Node) → (others : List Node) → BeginWithPath buffer.old nodes
-        → BeginWithPath bytes.now others → result ≡ OK
-        → buffer.new ≡ with_prefix (path_bytes (nodes ++ others)) buffer.old }
-    ensures unchanged { result ≢ OK → buffer.new ≡ buffer.old }
+    ensures { Shows (when_read (read_path buffer.old) (λ nodes. when_read (read_path bytes.now) (λ others.
+        Content (path_bytes (nodes ++ others))))) place.old buffer.old result place.new buffer.new }
 {
-    // The law does nothing: it says that no path is refused.
-    laws::accepted_paths();
-    if let Err(error) = DevicePath::from_bytes(buffer) {
-        *place = error.offset;
-        return node_reason(error.cause);
+    if let Err(refusal) = read_path(buffer) {
+        return refuse(refusal, place);
     }
-    let path = match DevicePath::from_bytes(bytes) {
+    let path = match read_path(bytes) {
         Ok(path) => path,
-        Err(error) => {
-            *place = error.offset;
-            return node_reason(error.cause);
-        }
+        Err(refusal) => return refuse(refusal, place),
     };
-    report_grown(append_in_buf(buffer, path), place)
+    report(append_in_buf(buffer, path), place)
 }
 
-/// The reason why the nodes of a text are not added, and the place that is reported.
-fn text_reason(error: PushTextError) -> (u32, usize)
-    ensures reason { result.0 ≡ text_reason (Some error) }
-    ensures place { (len : ℕ) → result.1 ≡ text_place (Some error) len }
+/// Why the nodes of a text are not added: the place of a fault is where its node begins, or, if the text is
+/// copied, the byte that is wrong.
+fn text_refused(style: TextStyle, error: PushLenientTextError) -> Refusal
+    ensures { result ≡ text_refused style error }
 {
     match error {
-        PushTextError::Path(error) => (node_reason(error.cause), error.offset),
-        PushTextError::NoNode(place) => (NO_NODE, place),
-        PushTextError::BufferTooSmall(needed) => (BUFFER_TOO_SMALL, needed),
+        PushLenientTextError::Path(error) => error.refusal(),
+        PushLenientTextError::ScratchTooSmall(needed) => Refusal::at(SCRATCH_TOO_SMALL, needed),
+        PushLenientTextError::NoNode(fault) => match style {
+            TextStyle::Printed => Refusal::at(NO_NODE, fault.node),
+            TextStyle::Lenient | TextStyle::Libefivar => Refusal::at(NO_NODE, fault.byte),
+        },
+        PushLenientTextError::BufferTooSmall(needed) => Refusal::at(BUFFER_TOO_SMALL, needed),
     }
 }
 
-/// The same of a text as people write it.
-fn lenient_reason(error: PushLenientTextError) -> (u32, usize)
-    ensures reason { result.0 ≡ lenient_reason (Some error) }
-    ensures place { (len : ℕ) → result.1 ≡ lenient_place (Some error) len }
+/// Adds the nodes of a text in UTF-8, read in a style, to the device path that a buffer begins with,
+/// before its end.
+fn push_styled_text(
+    style: TextStyle,
+    buffer: &mut [u8],
+    bytes: &[u8],
+    scratch: &mut [u8],
+    place: &mut usize,
+) -> u32
+    ensures { Shows (when_read (read_path buffer.old) (added_text style bytes.now scratch.old))
+        place.old buffer.old result place.new buffer.new }
 {
-    match error {
-        PushLenientTextError::Path(error) => (node_reason(error.cause), error.offset),
-        PushLenientTextError::ScratchTooSmall(needed) => (SCRATCH_TOO_SMALL, needed),
-        PushLenientTextError::NoNode(fault) => (NO_NODE, fault.byte),
-        PushLenientTextError::BufferTooSmall(needed) => (BUFFER_TOO_SMALL, needed),
+    if let Err(refusal) = read_path(buffer) {
+        return refuse(refusal, place);
+    }
+    let text = match read_utf8(bytes) {
+        Ok(text) => text,
+        Err(refusal) => return refuse(refusal, place),
+    };
+    match push_styled_text_in_buf(style, buffer, text, scratch) {
+        Ok(len) => report::<Refusal>(Ok(len), place),
+        Err(error) => refuse(text_refused(style, error), place),
     }
 }
 
@@ -225,112 +150,10 @@ pub extern "C" fn nard_device_path_push_text(
     bytes: &[u8],
     place: &mut usize,
 ) -> u32
-    ensures no_path { (error : DevicePathError) → RefusedFor buffer.old error
-        → (result ≡ node_reason error.cause) × (place.new ≡ error.offset) }
-    ensures not_utf8 { (nodes : List Node) → BeginWithPath buffer.old nodes → ¬ IsUtf8 bytes.now
-        → (result ≡ NOT_UTF8) × (place.new ≡ utf8_valid_len bytes.now) }
-    ensures no_node { (nodes : List Node) → BeginWithPath buffer.old nodes → IsUtf8 bytes.now
-        → (at : ℕ) → StopsAt bytes.now at → (result ≡ NO_NODE) × (place.new ≡ at) }
-    ensures reason { (nodes told : List Node) → BeginWithPath buffer.old nodes → IsUtf8 bytes.now
-        → AreTold told → nodes_text false false told ≡ bytes.now
-        → result ≡ text_reason (text_refusal nodes told (length buffer.old)) }
-    ensures place { (nodes told : List Node) → BeginWithPath buffer.old nodes → IsUtf8 bytes.now
-        → AreTold told → nodes_text false false told ≡ bytes.now
-        → place.new ≡ text_place (text_refusal nodes told (length buffer.old))
-        (length (path_bytes (nodes ++ told))) }
-    ensures buffer { (nodes told : List Node) → BeginWithPath buffer.old nodes → AreTold told
-        → nodes_text false false told ≡ bytes.now → result ≡ OK
-        → buffer.new ≡ with_prefix (path_bytes (nodes ++ told)) buffer.old }
-    ensures stops { result ≡ NO_NODE → StopsAt bytes.now place.new }
-    ensures read { result ≡ OK → HasPath bytes.now }
-    ensures small { result ≡ BUFFER_TOO_SMALL → HasPath bytes.now }
-    ensures unchanged { result ≢ OK → buffer.new ≡ buffer.old }
+    ensures { Shows (when_read (read_path buffer.old) (added_text Printed bytes.now []))
+        place.old buffer.old result place.new buffer.new }
 {
-    // The law does nothing: it says that no path is refused.
-    laws::accepted_paths();
-    let reason = nard_device_path_check(buffer, place);
-    if reason != OK {
-        return reason;
-    }
-    let text = match str::from_utf8(bytes) {
-        Ok(text) => text,
-        Err(error) => {
-            *place = error.valid_up_to();
-            return NOT_UTF8;
-        }
-    };
-    match push_text_in_buf(buffer, text) {
-        Ok(len) => {
-            *place = len;
-            OK
-        }
-        Err(error) => {
-            let (reason, at) = text_reason(error);
-            *place = at;
-            reason
-        }
-    }
-}
-
-/// Adds the nodes of a text in UTF-8, read in a style, to the device path that a buffer begins with,
-/// before its end.
-fn push_styled_text(
-    style: TextStyle,
-    buffer: &mut [u8],
-    bytes: &[u8],
-    scratch: &mut [u8],
-    place: &mut usize,
-) -> u32
-    requires { IsTrue (is_copied style) }
-    ensures no_path { (error : DevicePathError) → RefusedFor buffer.old error
-        → (result ≡ node_reason error.cause) × (place.new ≡ error.offset) }
-    ensures not_utf8 { (nodes : List Node) → BeginWithPath buffer.old nodes → ¬ IsUtf8 bytes.now
-        → (result ≡ NOT_UTF8) × (place.new ≡ utf8_valid_len bytes.now) }
-    ensures no_scratch { (nodes : List Node) → BeginWithPath buffer.old nodes → IsUtf8 bytes.now
-        → length scratch.old ≤ length bytes.now
-        → (result ≡ SCRATCH_TOO_SMALL) × (place.new ≡ length bytes.now + 1) }
-    ensures no_node { (nodes : List Node) → BeginWithPath buffer.old nodes → IsUtf8 bytes.now
-        → length bytes.now < length scratch.old
-        → (fault : TextFault) → ReadingStopsAt style bytes.now fault
-        → (result ≡ NO_NODE) × (place.new ≡ fault.byte) }
-    ensures reason { (nodes read : List Node) → BeginWithPath buffer.old nodes → IsUtf8 bytes.now
-        → length bytes.now < length scratch.old → IsReadAs style bytes.now read
-        → result ≡ lenient_reason (lenient_refusal nodes read (length buffer.old)) }
-    ensures place { (nodes read : List Node) → BeginWithPath buffer.old nodes → IsUtf8 bytes.now
-        → length bytes.now < length scratch.old → IsReadAs style bytes.now read
-        → place.new ≡ lenient_place (lenient_refusal nodes read (length buffer.old))
-        (length (path_bytes (nodes ++ read))) }
-    ensures buffer { (nodes read : List Node) → BeginWithPath buffer.old nodes → IsReadAs style bytes.now read
-        → result ≡ OK → buffer.new ≡ with_prefix (path_bytes (nodes ++ read)) buffer.old }
-    ensures stops { result ≡ NO_NODE → IsWrongAt style bytes.now place.new }
-    ensures read { result ≡ OK → IsStyledText style bytes.now }
-    ensures small { result ≡ BUFFER_TOO_SMALL → IsStyledText style bytes.now }
-    ensures unchanged { result ≢ OK → buffer.new ≡ buffer.old }
-{
-    // The law does nothing: it says that no path is refused.
-    laws::accepted_paths();
-    let reason = nard_device_path_check(buffer, place);
-    if reason != OK {
-        return reason;
-    }
-    let text = match str::from_utf8(bytes) {
-        Ok(text) => text,
-        Err(error) => {
-            *place = error.valid_up_to();
-            return NOT_UTF8;
-        }
-    };
-    match push_styled_text_in_buf(style, buffer, text, scratch) {
-        Ok(len) => {
-            *place = len;
-            OK
-        }
-        Err(error) => {
-            let (reason, at) = lenient_reason(error);
-            *place = at;
-            reason
-        }
-    }
+    push_styled_text(TextStyle::Printed, buffer, bytes, &mut [], place)
 }
 
 /// Adds the nodes of a text in UTF-8, as people write it, to the device path that a buffer begins with,
@@ -351,31 +174,8 @@ pub extern "C" fn nard_device_path_push_lenient_text(
     scratch: &mut [u8],
     place: &mut usize,
 ) -> u32
-    ensures no_path { (error : DevicePathError) → RefusedFor buffer.old error
-        → (result ≡ node_reason error.cause) × (place.new ≡ error.offset) }
-    ensures not_utf8 { (nodes : List Node) → BeginWithPath buffer.old nodes → ¬ IsUtf8 bytes.now
-        → (result ≡ NOT_UTF8) × (place.new ≡ utf8_valid_len bytes.now) }
-    ensures no_scratch { (nodes : List Node) → BeginWithPath buffer.old nodes → IsUtf8 bytes.now
-        → length scratch.old ≤ length bytes.now
-        → (result ≡ SCRATCH_TOO_SMALL) × (place.new ≡ length bytes.now + 1) }
-    ensures no_node { (nodes : List Node) → BeginWithPath buffer.old nodes → IsUtf8 bytes.now
-        → length bytes.now < length scratch.old
-        → (fault : TextFault) → ReadingStopsAt Lenient bytes.now fault
-        → (result ≡ NO_NODE) × (place.new ≡ fault.byte) }
-    ensures reason { (nodes read : List Node) → BeginWithPath buffer.old nodes → IsUtf8 bytes.now
-        → length bytes.now < length scratch.old → IsReadAs Lenient bytes.now read
-        → result ≡ lenient_reason (lenient_refusal nodes read (length buffer.old)) }
-    ensures place { (nodes read : List Node) → BeginWithPath buffer.old nodes → IsUtf8 bytes.now
-        → length bytes.now < length scratch.old → IsReadAs Lenient bytes.now read
-        → place.new ≡ lenient_place (lenient_refusal nodes read (length buffer.old))
-        (length (path_bytes (nodes ++ read))) }
-    ensures buffer { (nodes read : List Node) → BeginWithPath buffer.old nodes
-        → IsReadAs Lenient bytes.now read
-        → result ≡ OK → buffer.new ≡ with_prefix (path_bytes (nodes ++ read)) buffer.old }
-    ensures stops { result ≡ NO_NODE → IsWrongAt Lenient bytes.now place.new }
-    ensures read { result ≡ OK → IsStyledText Lenient bytes.now }
-    ensures small { result ≡ BUFFER_TOO_SMALL → IsStyledText Lenient bytes.now }
-    ensures unchanged { result ≢ OK → buffer.new ≡ buffer.old }
+    ensures { Shows (when_read (read_path buffer.old) (added_text Lenient bytes.now scratch.old))
+        place.old buffer.old result place.new buffer.new }
 {
     push_styled_text(TextStyle::Lenient, buffer, bytes, scratch, place)
 }
@@ -390,31 +190,8 @@ pub extern "C" fn nard_device_path_push_libefivar_text(
     scratch: &mut [u8],
     place: &mut usize,
 ) -> u32
-    ensures no_path { (error : DevicePathError) → RefusedFor buffer.old error
-        → (result ≡ node_reason error.cause) × (place.new ≡ error.offset) }
-    ensures not_utf8 { (nodes : List Node) → BeginWithPath buffer.old nodes → ¬ IsUtf8 bytes.now
-        → (result ≡ NOT_UTF8) × (place.new ≡ utf8_valid_len bytes.now) }
-    ensures no_scratch { (nodes : List Node) → BeginWithPath buffer.old nodes → IsUtf8 bytes.now
-        → length scratch.old ≤ length bytes.now
-        → (result ≡ SCRATCH_TOO_SMALL) × (place.new ≡ length bytes.now + 1) }
-    ensures no_node { (nodes : List Node) → BeginWithPath buffer.old nodes → IsUtf8 bytes.now
-        → length bytes.now < length scratch.old
-        → (fault : TextFault) → ReadingStopsAt Libefivar bytes.now fault
-        → (result ≡ NO_NODE) × (place.new ≡ fault.byte) }
-    ensures reason { (nodes read : List Node) → BeginWithPath buffer.old nodes → IsUtf8 bytes.now
-        → length bytes.now < length scratch.old → IsReadAs Libefivar bytes.now read
-        → result ≡ lenient_reason (lenient_refusal nodes read (length buffer.old)) }
-    ensures place { (nodes read : List Node) → BeginWithPath buffer.old nodes → IsUtf8 bytes.now
-        → length bytes.now < length scratch.old → IsReadAs Libefivar bytes.now read
-        → place.new ≡ lenient_place (lenient_refusal nodes read (length buffer.old))
-        (length (path_bytes (nodes ++ read))) }
-    ensures buffer { (nodes read : List Node) → BeginWithPath buffer.old nodes
-        → IsReadAs Libefivar bytes.now read
-        → result ≡ OK → buffer.new ≡ with_prefix (path_bytes (nodes ++ read)) buffer.old }
-    ensures stops { result ≡ NO_NODE → IsWrongAt Libefivar bytes.now place.new }
-    ensures read { result ≡ OK → IsStyledText Libefivar bytes.now }
-    ensures small { result ≡ BUFFER_TOO_SMALL → IsStyledText Libefivar bytes.now }
-    ensures unchanged { result ≢ OK → buffer.new ≡ buffer.old }
+    ensures { Shows (when_read (read_path buffer.old) (added_text Libefivar bytes.now scratch.old))
+        place.old buffer.old result place.new buffer.new }
 {
     push_styled_text(TextStyle::Libefivar, buffer, bytes, scratch, place)
 }
@@ -462,50 +239,6 @@ pub extern "C" fn nard_device_path_strip_prefix(
     true
 }
 
-/// The reason why a load option is not written; memory is never the reason.
-fn option_build_reason(error: OptionBuildError) -> u32
-    ensures { result ≡ option_build_reason (Some error) }
-{
-    match error {
-        OptionBuildError::NulInDescription(_) => INTERIOR_NUL,
-        OptionBuildError::EmptyList => EMPTY_LIST,
-        OptionBuildError::ListTooLong | OptionBuildError::TooLong => LIST_TOO_LONG,
-        OptionBuildError::BufferTooSmall(_) | OptionBuildError::OutOfMemory => BUFFER_TOO_SMALL,
-    }
-}
-
-/// The place that is reported where a load option is not written, and a place was there.
-fn option_build_place(error: OptionBuildError, place: usize) -> usize
-    ensures { (len : ℕ) → result ≡ option_build_place (Some error) len place }
-{
-    match error {
-        OptionBuildError::BufferTooSmall(needed) => needed,
-        OptionBuildError::NulInDescription(_)
-        | OptionBuildError::EmptyList
-        | OptionBuildError::ListTooLong
-        | OptionBuildError::TooLong
-        | OptionBuildError::OutOfMemory => place,
-    }
-}
-
-/// Reports how many bytes a load option has that was written, or why it was not written.
-fn report_option(written: Result<usize, OptionBuildError>, place: &mut usize) -> u32
-    ensures reason { result ≡ option_build_reason (result_err written) }
-    ensures place { (len : ℕ) → IfOk written (λ end. end ≡ len)
-        → place.new ≡ option_build_place (result_err written) len place.old }
-{
-    match written {
-        Ok(len) => {
-            *place = len;
-            OK
-        }
-        Err(error) => {
-            *place = option_build_place(error, *place);
-            option_build_reason(error)
-        }
-    }
-}
-
 /// Writes a load option of one device path to the start of a buffer, as [`LoadOptionBuilder::write`] does.
 ///
 /// Of `attributes` the lowest 32 bits count. Units of the description that begin with no string are
@@ -524,44 +257,22 @@ pub extern "C" fn nard_load_option_write(
     buffer: &mut [u8],
     place: &mut usize,
 ) -> u32
-    ensures no_string { ¬ BeginsWithString description.now
-        → (result ≡ until_nul_reason (until_nul_refusal description.now))
-        × (place.new ≡ until_nul_place description.now) × (buffer.new ≡ buffer.old) }
-    ensures no_path { BeginsWithString description.now → (error : DevicePathError)
-        → RefusedFor bytes.now error
-        → (result ≡ node_reason error.cause) × (place.new ≡ error.offset) × (buffer.new ≡ buffer.old) }
-    ensures reason { BeginsWithString description.now → (nodes : List Node) → BeginWithPath bytes.now nodes
-        → result ≡ option_build_reason (write_fault
-        (entry_of_path (attributes % 2 ^ 32) (text_until_nul description.now) nodes optional.now)
-        (length buffer.old)) }
-    ensures place { BeginsWithString description.now → (nodes : List Node) → BeginWithPath bytes.now nodes
-        → let entry = entry_of_path (attributes % 2 ^ 32)
-        (text_until_nul description.now) nodes optional.now in
-        place.new ≡ option_build_place (write_fault entry (length buffer.old)) (length (entry_bytes entry))
-        place.old }
-    ensures buffer { BeginsWithString description.now → (nodes : List Node) → BeginWithPath bytes.now nodes
-        → buffer.new ≡ option_over
-        (entry_of_path (attributes % 2 ^ 32) (text_until_nul description.now) nodes optional.now) buffer.old }
+    ensures { Shows (when_read (read_string description.now) (λ text.
+        when_read (read_path bytes.now) (λ nodes.
+        written_entry (entry_of_path (attributes % 2 ^ 32) text nodes optional.now))))
+        place.old buffer.old result place.new buffer.new }
 {
-    // The law does nothing: it says that no path is refused.
-    laws::accepted_paths();
-    let text = match CStr16::from_u16_until_nul(description) {
+    let text = match read_string(description) {
         Ok(string) => string.to_u16_slice(),
-        Err(error) => {
-            *place = until_nul_place(error, description);
-            return until_nul_reason(error);
-        }
+        Err(refusal) => return refuse(refusal, place),
     };
-    let path = match DevicePath::from_bytes(bytes) {
+    let path = match read_path(bytes) {
         Ok(path) => path,
-        Err(error) => {
-            *place = error.offset;
-            return node_reason(error.cause);
-        }
+        Err(refusal) => return refuse(refusal, place),
     };
     let paths = [path];
     let lowest = (attributes % 0x1_0000_0000) as u32;
-    report_option(
+    report(
         LoadOptionBuilder::new(lowest, text, &paths, optional).write(buffer),
         place,
     )

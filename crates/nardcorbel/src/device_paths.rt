@@ -1,28 +1,29 @@
 //! Device paths in bytes that C holds: whether bytes begin with one, its nodes, the file that it names, and
 //! its text.
-ghost use Rattle.std.specs.Prelude.{◌≡◌, ◌≢◌, ◌↔◌, ◌+◌, ◌<◌, ◌≤◌, ◌++◌, ◌∷◌, [], All, List, None, Some, drop, length};
-ghost use Rattle.uefi_text.specs.UnalignedCStr16.{with_prefix};
-ghost use Rattle.uefi_text.specs.Units.{nul_terminated};
-ghost use Rattle.uefi_device_nodes.specs.NodeFaults.{fault_place, node_fault};
-ghost use Rattle.uefi_device_nodes.specs.Nodes.{IsInner, Node, end_entire, node_bytes};
-ghost use Rattle.uefi_device_nodes.specs.declared.errors.NodeError.{NodeError};
+ghost use Rattle.std.specs.Prelude.{◌≡◌, ◌≢◌, ◌+◌, ◌<◌, ◌≤◌, ◌++◌, ◌∷◌, [], ℕ, List, None, Some, Err, Ok, Result, drop, length};
+ghost use Rattle.uefi_device_path.specs.NodeFaults.{fault_place, node_fault};
+ghost use Rattle.uefi_device_path.specs.NodeError.{NodeError};
+ghost use Rattle.uefi_device_path.specs.Nodes.{IsInner, Node, end_entire, node_bytes};
 ghost use Rattle.uefi_device_path.specs.Extents.{BeginNoPath, HasExtent};
 ghost use Rattle.uefi_device_path.specs.Faults.{RefusedFor};
-ghost use Rattle.uefi_device_path.specs.FilePaths.{FileRefusedFor, IsReadable, file_path};
 ghost use Rattle.uefi_device_path.specs.Paths.{BeginWithPath, path_bytes};
 ghost use Rattle.uefi_device_path.specs.declared.errors.DevicePathError.{DevicePathError};
 ghost use Rattle.uefi_device_path.specs.declared.errors.FilePathError.{FilePathError};
 ghost use Rattle.uefi_device_path.specs.declared.extent.PathExtent.{PathExtent};
-ghost use Rattle.nardcorbel.specs.Buffers.{length_shown, room_reason};
-ghost use Rattle.nardcorbel.specs.DevicePaths.{ShowsExtent, node_in, text_units};
-ghost use Rattle.nardcorbel.specs.Reasons.{name_reason, node_reason};
+ghost use Rattle.uefi_device_path.specs.PathTexts.{libefivar_text, nodes_text};
+ghost use Rattle.uefi_text.specs.UnitTexts.{utf16_units};
+ghost use Rattle.nardcorbel.specs.DevicePaths.{GivesFilePath, ShowsExtent, file_outcome, node_in};
+ghost use Rattle.nardcorbel.specs.Outcomes.{Shows, ShowsNumber, when_read};
+ghost use Rattle.nardcorbel.specs.Outcomes.Outcome.{Number, Refused, Text};
+ghost use Rattle.nardcorbel.specs.Reading.{read_path};
+ghost use Rattle.nardcorbel.specs.Reasons.{node_reason};
+ghost use Rattle.nardcorbel.specs.declared.outcomes.Refusal.{Refusal};
 
-use crate::reasons::{
-    BUFFER_TOO_SMALL, END_OF_PATH, NO_END_NODE, OK, name_reason, node_reason, report,
-};
-use uefi_device_nodes::node::fault_place;
+use crate::outcomes::{Refusal, read_path, refuse, refuse_room, report};
+use crate::reasons::{END_OF_PATH, NO_END_NODE, OK, node_reason};
 use uefi_device_path::{
-    AllowShortcuts, DevicePath, DevicePathNode, DisplayOnly, FilePathWriteError, PathExtent, laws,
+    AllowShortcuts, DevicePath, DevicePathNode, DisplayOnly, FilePathWriteError, PathExtent,
+    fault_place,
 };
 
 /// Whether bytes begin with a device path: `OK`, or why not.
@@ -32,24 +33,12 @@ use uefi_device_path::{
 /// is not read. Takes no memory (UEFI Specification 2.10, section 10.3.1).
 #[unsafe(no_mangle)]
 pub extern "C" fn nard_device_path_check(bytes: &[u8], place: &mut usize) -> u32
-    ensures accepts { (result ≡ OK) ↔ ((nodes : List Node) × BeginWithPath bytes.now nodes) }
-    ensures path { (nodes : List Node) → BeginWithPath bytes.now nodes
-        → place.new ≡ length (path_bytes nodes) }
-    ensures refuses { result ≢ OK → (error : DevicePathError) × RefusedFor bytes.now error }
-    ensures refusal { (error : DevicePathError) → RefusedFor bytes.now error
-        → (result ≡ node_reason error.cause) × (place.new ≡ error.offset) }
+    ensures { ShowsNumber (when_read (read_path bytes.now) (λ nodes. Number (length (path_bytes nodes))))
+        place.old result place.new }
 {
-    // The law does nothing: it says that no path is refused.
-    laws::accepted_paths();
-    match DevicePath::from_bytes(bytes) {
-        Ok(path) => {
-            *place = path.as_bytes().len();
-            OK
-        }
-        Err(error) => {
-            *place = error.offset;
-            node_reason(error.cause)
-        }
+    match read_path(bytes) {
+        Ok(path) => report::<Refusal>(Ok(path.as_bytes().len()), place),
+        Err(refusal) => refuse(refusal, place),
     }
 }
 
@@ -186,44 +175,20 @@ pub extern "C" fn nard_device_path_file_path(
     buffer: &mut [u16],
     place: &mut usize,
 ) -> u32
-    ensures no_path { (error : DevicePathError) → RefusedFor bytes.now error
-        → (result ≡ node_reason error.cause) × (place.new ≡ error.offset) }
-    ensures path { result ≡ OK → (nodes : List Node) × BeginWithPath bytes.now nodes }
-    ensures ok { result ≡ OK → (nodes : List Node) → BeginWithPath bytes.now nodes
-        → All IsReadable nodes × (place.new ≡ length (file_path nodes))
-        × (length (file_path nodes) < length buffer.old)
-        × (buffer.new ≡ with_prefix (nul_terminated (file_path nodes)) buffer.old) }
-    ensures small { result ≡ BUFFER_TOO_SMALL → (nodes : List Node) → BeginWithPath bytes.now nodes
-        → All IsReadable nodes × (place.new ≡ length (file_path nodes))
-        × (length buffer.old ≤ length (file_path nodes)) }
-    ensures name { result ≢ OK → result ≢ BUFFER_TOO_SMALL
-        → (nodes : List Node) → BeginWithPath bytes.now nodes
-        → (error : FilePathError) × FileRefusedFor nodes error
-        × (result ≡ name_reason error.cause) × (place.new ≡ error.offset) }
-    ensures unchanged { result ≢ OK → buffer.new ≡ buffer.old }
+    ensures no_path { (refusal : Refusal) → read_path bytes.now ≡ Err refusal
+        → Shows (Refused refusal) place.old buffer.old result place.new buffer.new }
+    ensures path { (nodes : List Node) → read_path bytes.now ≡ Ok nodes
+        → (file : Result (List ℕ) FilePathError) × GivesFilePath nodes file
+        × Shows (file_outcome file) place.old buffer.old result place.new buffer.new }
 {
-    // The law does nothing: it says that no path is refused.
-    laws::accepted_paths();
-    let path = match DevicePath::from_bytes(bytes) {
+    let path = match read_path(bytes) {
         Ok(path) => path,
-        Err(error) => {
-            *place = error.offset;
-            return node_reason(error.cause);
-        }
+        Err(refusal) => return refuse(refusal, place),
     };
     match path.write_file_path(buffer) {
-        Ok(len) => {
-            *place = len;
-            OK
-        }
-        Err(FilePathWriteError::BufferTooSmall(needed)) => {
-            *place = needed - 1;
-            BUFFER_TOO_SMALL
-        }
-        Err(FilePathWriteError::Name(error)) => {
-            *place = error.offset;
-            name_reason(error.cause)
-        }
+        Ok(len) => report::<Refusal>(Ok(len), place),
+        Err(FilePathWriteError::BufferTooSmall(needed)) => refuse_room(needed, place),
+        Err(FilePathWriteError::Name(error)) => refuse(error, place),
     }
 }
 
@@ -242,24 +207,13 @@ pub extern "C" fn nard_device_path_text(
     buffer: &mut [u16],
     place: &mut usize,
 ) -> u32
-    ensures no_path { (error : DevicePathError) → RefusedFor bytes.now error
-        → (result ≡ node_reason error.cause) × (place.new ≡ error.offset) × (buffer.new ≡ buffer.old) }
-    ensures path { result ≡ OK → (nodes : List Node) × BeginWithPath bytes.now nodes }
-    ensures reason { (nodes : List Node) → BeginWithPath bytes.now nodes
-        → result ≡ room_reason (text_units display_only allow_shortcuts nodes) buffer.old }
-    ensures place { (nodes : List Node) → BeginWithPath bytes.now nodes
-        → place.new ≡ length_shown (text_units display_only allow_shortcuts nodes) }
-    ensures buffer { (nodes : List Node) → BeginWithPath bytes.now nodes → buffer.new
-        ≡ with_prefix (nul_terminated (text_units display_only allow_shortcuts nodes)) buffer.old }
+    ensures { Shows (when_read (read_path bytes.now) (λ nodes.
+        Text (utf16_units (nodes_text display_only allow_shortcuts nodes))))
+        place.old buffer.old result place.new buffer.new }
 {
-    // The law does nothing: it says that no path is refused.
-    laws::accepted_paths();
-    let path = match DevicePath::from_bytes(bytes) {
+    let path = match read_path(bytes) {
         Ok(path) => path,
-        Err(error) => {
-            *place = error.offset;
-            return node_reason(error.cause);
-        }
+        Err(refusal) => return refuse(refusal, place),
     };
     let text = path.write_text(
         buffer,
@@ -267,4 +221,22 @@ pub extern "C" fn nard_device_path_text(
         AllowShortcuts(allow_shortcuts),
     );
     report(text, place)
+}
+
+/// Writes the device path that bytes begin with as libefivar prints it, and efibootmgr with it, which
+/// [`DevicePath::write_libefivar_text`] does, as [`nard_device_path_text`] writes its text.
+#[unsafe(no_mangle)]
+pub extern "C" fn nard_device_path_libefivar_text(
+    bytes: &[u8],
+    buffer: &mut [u16],
+    place: &mut usize,
+) -> u32
+    ensures { Shows (when_read (read_path bytes.now) (λ nodes. Text (utf16_units (libefivar_text nodes))))
+        place.old buffer.old result place.new buffer.new }
+{
+    let path = match read_path(bytes) {
+        Ok(path) => path,
+        Err(refusal) => return refuse(refusal, place),
+    };
+    report(path.write_libefivar_text(buffer), place)
 }

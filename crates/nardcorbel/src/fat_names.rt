@@ -1,44 +1,25 @@
 //! Names on FAT volumes in units that C holds: which are names of files, which are of one file, and
 //! the characters of short names (UEFI Specification 2.10, sections 13.3 and 21.1).
-ghost use Rattle.std.specs.Prelude.{◌≡◌, ◌↔◌, if◌then◌else◌, length, min, take, IsTrue};
-ghost use Rattle.std.specs.List.{list_any};
+ghost use Rattle.std.specs.Prelude.{◌≡◌, ◌↔◌, ℕ, List, Err, Ok, IsTrue};
 ghost use Rattle.uefi_text.specs.Case.{uppers};
-ghost use Rattle.uefi_text.specs.FromSliceUntilNul.{until_nul_refusal};
-ghost use Rattle.uefi_text.specs.FromStrWithBuf.{with_units};
-ghost use Rattle.uefi_text.specs.UnalignedCStr16.{with_prefix};
-ghost use Rattle.uefi_text.specs.Units.{BeginsWithString, nul_terminated};
+ghost use Rattle.uefi_text.specs.Units.{BeginsWithString};
 ghost use Rattle.uefi_text.specs.Views.{units_of};
 ghost use Rattle.uefi_fat.specs.LongNames.{IsFatName, name_refusal};
-ghost use Rattle.uefi_fat.specs.Oem.{fat_bytes, fat_text, is_unfit, kept_units};
+ghost use Rattle.uefi_fat.specs.Oem.{fat_text};
 ghost use Rattle.uefi_fat.specs.ShortNames.{IsShortName};
 ghost use Rattle.uefi_fat.specs.Trimming.{trimmed};
-ghost use Rattle.nardcorbel.specs.Buffers.{room_reason};
-ghost use Rattle.nardcorbel.specs.Reasons.{fat_name_reason, refused_fat_character, until_nul_reason};
-ghost use Rattle.nardcorbel.specs.Strings.{text_until_nul, until_nul_place};
+ghost use Rattle.nardcorbel.specs.FatNames.{ShowsFat, checked_name, replaced_reason};
+ghost use Rattle.nardcorbel.specs.Outcomes.{Shows, ShowsNumber, when_read};
+ghost use Rattle.nardcorbel.specs.Outcomes.Outcome.{Refused, Text};
+ghost use Rattle.nardcorbel.specs.Reading.{read_string};
+ghost use Rattle.nardcorbel.specs.Reasons.{refused_fat_character};
+ghost use Rattle.nardcorbel.specs.Strings.{text_until_nul};
+ghost use Rattle.nardcorbel.specs.declared.outcomes.Refusal.{Refusal};
 
-use crate::reasons::{CHAR_REPLACED, OK, fat_name_reason, report, until_nul_reason};
-use crate::strings::until_nul_place;
+use crate::outcomes::{Refusal, read_string, refuse, report};
+use crate::reasons::{CHAR_REPLACED, OK, fat_name_reason};
 use uefi_fat::{FatBytes, check_fat_name, fat_to_str, is_short_name, same_fat_file, str_to_fat};
-use uefi_text::{CStr16, Char16Slice};
-
-/// Whether a file can have a name: `OK`, or why not, and the character that is refused.
-fn judge_name(name: Char16Slice<'_>, character: &mut u16) -> u32
-    ensures reason { result ≡ fat_name_reason (name_refusal (units_of name.entry)) }
-    ensures valid { (result ≡ OK) ↔ IsFatName (units_of name.entry) }
-    ensures character { character.new ≡ refused_fat_character (name_refusal (units_of name.entry)) }
-{
-    match check_fat_name(name) {
-        Ok(()) => {
-            *character = 0;
-            OK
-        }
-        Err(error) => {
-            let (reason, refused) = fat_name_reason(error);
-            *character = refused;
-            reason
-        }
-    }
-}
+use uefi_text::{BufferTooSmall, CStr16, Char16Slice};
 
 /// Whether the units begin with a string that a file on a FAT volume can have as its name: `OK`, or
 /// why not.
@@ -49,25 +30,23 @@ fn judge_name(name: Char16Slice<'_>, character: &mut u16) -> u32
 /// no memory.
 #[unsafe(no_mangle)]
 pub extern "C" fn nard_fat_name_check(units: &[u16], place: &mut usize, character: &mut u16) -> u32
-    ensures no_string { ¬ BeginsWithString units.now
-        → result ≡ until_nul_reason (until_nul_refusal units.now) }
-    ensures reason { BeginsWithString units.now
-        → result ≡ fat_name_reason (name_refusal (text_until_nul units.now)) }
+    ensures shows { ShowsNumber (when_read (read_string units.now) checked_name) place.old result place.new }
     ensures valid { (result ≡ OK) ↔ (BeginsWithString units.now × IsFatName (text_until_nul units.now)) }
-    ensures place { place.new ≡ until_nul_place units.now }
-    ensures no_character { ¬ BeginsWithString units.now → character.new ≡ 0 }
-    ensures character { BeginsWithString units.now
-        → character.new ≡ refused_fat_character (name_refusal (text_until_nul units.now)) }
+    ensures no_character { (refusal : Refusal) → read_string units.now ≡ Err refusal → character.new ≡ 0 }
+    ensures character { (text : List ℕ) → read_string units.now ≡ Ok text
+        → character.new ≡ refused_fat_character (name_refusal text) }
 {
     *character = 0;
-    match CStr16::from_u16_until_nul(units) {
-        Ok(string) => {
-            *place = string.num_chars();
-            judge_name(string.as_slice(), character)
-        }
+    let string = match read_string(units) {
+        Ok(string) => string,
+        Err(refusal) => return refuse(refusal, place),
+    };
+    match check_fat_name(string.as_slice()) {
+        Ok(()) => report::<BufferTooSmall>(Ok(string.num_chars()), place),
         Err(error) => {
-            *place = until_nul_place(error, units);
-            until_nul_reason(error)
+            let (reason, refused) = fat_name_reason(error);
+            *character = refused;
+            refuse(Refusal::at(reason, string.num_chars()), place)
         }
     }
 }
@@ -101,7 +80,7 @@ pub extern "C" fn nard_fat_name_is_short(units: &[u16]) -> bool
 
 /// What a call returns that wrote bytes in the characters of short names. `place` becomes how many.
 pub(crate) fn report_fat(written: FatBytes, place: &mut usize) -> u32
-    ensures reason { result ≡ (if written.is_replaced then CHAR_REPLACED else OK) }
+    ensures reason { result ≡ replaced_reason written.is_replaced }
     ensures place { place.new ≡ written.len }
 {
     *place = written.len;
@@ -121,24 +100,14 @@ pub(crate) fn report_fat(written: FatBytes, place: &mut usize) -> u32
 /// the bytes stay unchanged. Takes no memory.
 #[unsafe(no_mangle)]
 pub extern "C" fn nard_fat_from_string(units: &[u16], bytes: &mut [u8], place: &mut usize) -> u32
-    ensures no_string { ¬ BeginsWithString units.now
-        → result ≡ until_nul_reason (until_nul_refusal units.now) }
-    ensures unchanged { ¬ BeginsWithString units.now → bytes.new ≡ bytes.old }
-    ensures refused_place { ¬ BeginsWithString units.now → place.new ≡ until_nul_place units.now }
-    ensures reason { BeginsWithString units.now → result
-        ≡ (if list_any is_unfit (take (length bytes.old) (kept_units (text_until_nul units.now)))
-        then CHAR_REPLACED else OK) }
-    ensures bytes { BeginsWithString units.now
-        → bytes.new ≡ with_units (fat_bytes (text_until_nul units.now)) bytes.old }
-    ensures place { BeginsWithString units.now
-        → place.new ≡ min (length (fat_bytes (text_until_nul units.now))) (length bytes.old) }
+    ensures refused { (refusal : Refusal) → read_string units.now ≡ Err refusal
+        → Shows (Refused refusal) place.old bytes.old result place.new bytes.new }
+    ensures text { (text : List ℕ) → read_string units.now ≡ Ok text
+        → ShowsFat text bytes.old result place.new bytes.new }
 {
-    match CStr16::from_u16_until_nul(units) {
+    match read_string(units) {
         Ok(string) => report_fat(str_to_fat(string.as_slice(), bytes), place),
-        Err(error) => {
-            *place = until_nul_place(error, units);
-            until_nul_reason(error)
-        }
+        Err(refusal) => refuse(refusal, place),
     }
 }
 
@@ -150,9 +119,7 @@ pub extern "C" fn nard_fat_from_string(units: &[u16], bytes: &mut [u8], place: &
 /// `BUFFER_TOO_SMALL`, and stays unchanged. Takes no memory.
 #[unsafe(no_mangle)]
 pub extern "C" fn nard_string_from_fat(bytes: &[u8], buffer: &mut [u16], place: &mut usize) -> u32
-    ensures reason { result ≡ room_reason (fat_text bytes.now) buffer.old }
-    ensures buffer { buffer.new ≡ with_prefix (nul_terminated (fat_text bytes.now)) buffer.old }
-    ensures place { place.new ≡ length (fat_text bytes.now) }
+    ensures { Shows (Text (fat_text bytes.now)) place.old buffer.old result place.new buffer.new }
 {
     report(fat_to_str(bytes, buffer), place)
 }

@@ -1,14 +1,17 @@
 //! Load options in bytes that C holds: where their parts stand.
 ghost use Rattle.std.specs.Prelude.{◌≡◌, ◌≢◌, ◌↔◌, ◌<◌, ◌^◌, List, ◌∷◌, length};
-ghost use Rattle.uefi_device_nodes.specs.Nodes.{Node};
+ghost use Rattle.uefi_device_path.specs.Nodes.{Node};
 ghost use Rattle.uefi_device_path.specs.LoadOptions.{Entry, EntryRefusedFor, IsEntry, entry_bytes};
 ghost use Rattle.uefi_device_path.specs.Paths.{path_bytes};
 ghost use Rattle.uefi_device_path.specs.Views.{entry_of};
 ghost use Rattle.uefi_device_path.specs.declared.errors.LoadOptionError.{LoadOptionError};
 ghost use Rattle.nardcorbel.specs.DevicePaths.{HasParts};
-ghost use Rattle.nardcorbel.specs.Reasons.{option_reason};
+ghost use Rattle.nardcorbel.specs.Outcomes.{ShowsNumber};
+ghost use Rattle.nardcorbel.specs.Outcomes.Outcome.{Refused};
+ghost use Rattle.nardcorbel.specs.Refusals.{entry_refusal};
 
-use crate::reasons::{OK, option_reason};
+use crate::outcomes::refuse;
+use crate::reasons::OK;
 use uefi_device_path::{LoadOption, laws};
 
 /// Where the parts of a load option stand in its bytes, which follow one another. Offsets and lengths are in
@@ -89,7 +92,7 @@ pub extern "C" fn nard_load_option_read(
         → HasParts entry option.new × (place.new ≡ length bytes.now) }
     ensures refuses { result ≢ OK → (error : LoadOptionError) × EntryRefusedFor bytes.now error }
     ensures refusal { (error : LoadOptionError) → EntryRefusedFor bytes.now error
-        → (result ≡ option_reason error.cause) × (place.new ≡ error.offset) }
+        → ShowsNumber (Refused (entry_refusal error)) place.old result place.new }
     ensures unchanged { result ≢ OK → option.new ≡ option.old }
 {
     // The law does nothing: it says that no load option is refused.
@@ -100,9 +103,6 @@ pub extern "C" fn nard_load_option_read(
             *place = bytes.len();
             OK
         }
-        Err(error) => {
-            *place = error.offset;
-            option_reason(error.cause)
-        }
+        Err(error) => refuse(error, place),
     }
 }

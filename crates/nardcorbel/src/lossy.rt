@@ -1,13 +1,11 @@
 //! Units that may be anything, in UTF-8: descriptions of load options and names of files are mostly
 //! strings, and a menu shows them where they are none.
-ghost use Rattle.std.specs.Prelude.{◌≡◌};
 ghost use Rattle.uefi_device_path.specs.LoadOptions.{lossy_utf8};
-ghost use Rattle.uefi_text.specs.UnalignedCStr16.{with_prefix};
-ghost use Rattle.uefi_text.specs.Units.{nul_terminated};
-ghost use Rattle.nardcorbel.specs.Buffers.{length_shown, room_reason};
+ghost use Rattle.nardcorbel.specs.Outcomes.{Shows};
+ghost use Rattle.nardcorbel.specs.Outcomes.Outcome.{Text};
 ghost use Rattle.nardcorbel.specs.Strings.{text_until_nul};
 
-use crate::reasons::report;
+use crate::outcomes::report;
 use crate::strings::until_nul;
 use uefi_text::decode::write_lossy;
 
@@ -24,10 +22,8 @@ pub extern "C" fn nard_utf8_from_units_lossy(
     bytes: &mut [u8],
     place: &mut usize,
 ) -> u32
-    ensures reason { result ≡ room_reason (lossy_utf8 (text_until_nul units.now)) bytes.old }
-    ensures place { place.new ≡ length_shown (lossy_utf8 (text_until_nul units.now)) }
-    ensures bytes { bytes.new
-        ≡ with_prefix (nul_terminated (lossy_utf8 (text_until_nul units.now))) bytes.old }
+    ensures { Shows (Text (lossy_utf8 (text_until_nul units.now))) place.old bytes.old
+        result place.new bytes.new }
 {
     report(write_lossy(until_nul(units), bytes), place)
 }

@@ -1,6 +1,6 @@
 //! Numbers in the data of nodes that C holds.
 ghost use Rattle.std.specs.Prelude.{◌≡◌, ◌≢◌, ◌↔◌, length};
-ghost use Rattle.uefi_device_nodes.specs.TypedNodes.{number_at};
+ghost use Rattle.uefi_device_path.specs.TypedNodes.{number_at};
 ghost use Rattle.nardcorbel.specs.NodeNumbers.{IsNumberIn};
 
 use crate::reasons::{NO_FIELD, OK};

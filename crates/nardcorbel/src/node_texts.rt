@@ -1,16 +1,17 @@
 //! The text of a node in bytes that C holds.
-ghost use Rattle.std.specs.Prelude.{◌≡◌, None, Some};
-ghost use Rattle.uefi_text.specs.UnalignedCStr16.{with_prefix};
-ghost use Rattle.uefi_text.specs.Units.{nul_terminated};
-ghost use Rattle.uefi_device_nodes.specs.NodeFaults.{fault_place, node_fault};
-ghost use Rattle.uefi_device_nodes.specs.Nodes.{Node};
-ghost use Rattle.uefi_device_nodes.specs.declared.errors.NodeError.{NodeError};
-ghost use Rattle.nardcorbel.specs.Buffers.{length_shown, room_reason};
-ghost use Rattle.nardcorbel.specs.DevicePaths.{BeginWithNode, node_units};
-ghost use Rattle.nardcorbel.specs.Reasons.{node_reason};
+#![tactic(auto, unfolding(crate::specs::Reading::read_node))]
 
-use crate::reasons::{node_reason, report};
-use uefi_device_nodes::node::fault_place;
+ghost use Rattle.std.specs.Prelude.{◌≡◌, None};
+ghost use Rattle.uefi_device_path.specs.NodeFaults.{node_fault};
+ghost use Rattle.uefi_device_path.specs.NodeTexts.{node_text};
+ghost use Rattle.uefi_device_path.specs.Nodes.{first_node};
+ghost use Rattle.uefi_text.specs.UnitTexts.{utf16_units};
+ghost use Rattle.nardcorbel.specs.DevicePaths.{BeginWithNode};
+ghost use Rattle.nardcorbel.specs.Outcomes.{Shows, when_read};
+ghost use Rattle.nardcorbel.specs.Outcomes.Outcome.{Text};
+ghost use Rattle.nardcorbel.specs.Reading.{read_node};
+
+use crate::outcomes::{refuse, report};
 use uefi_device_path::{AllowShortcuts, DevicePathNode, DisplayOnly};
 
 /// Writes the text of the node that bytes begin with, as [`DevicePathNode::write_text`] does, into the first
@@ -30,22 +31,14 @@ pub extern "C" fn nard_node_text(
     buffer: &mut [u16],
     place: &mut usize,
 ) -> u32
-    ensures no_node { (cause : NodeError) → node_fault bytes.now ≡ Some cause
-        → (result ≡ node_reason cause) × (place.new ≡ fault_place cause) × (buffer.new ≡ buffer.old) }
-    ensures node { node_fault bytes.now ≡ None → (node : Node) × BeginWithNode bytes.now node }
-    ensures reason { (node : Node) → BeginWithNode bytes.now node → node_fault bytes.now ≡ None
-        → result ≡ room_reason (node_units display_only allow_shortcuts node) buffer.old }
-    ensures place { (node : Node) → BeginWithNode bytes.now node → node_fault bytes.now ≡ None
-        → place.new ≡ length_shown (node_units display_only allow_shortcuts node) }
-    ensures buffer { (node : Node) → BeginWithNode bytes.now node → node_fault bytes.now ≡ None → buffer.new
-        ≡ with_prefix (nul_terminated (node_units display_only allow_shortcuts node)) buffer.old }
+    ensures shows { Shows (when_read (read_node bytes.now) (λ node.
+        Text (utf16_units (node_text display_only allow_shortcuts node))))
+        place.old buffer.old result place.new buffer.new }
+    ensures node { node_fault bytes.now ≡ None → BeginWithNode bytes.now (first_node bytes.now) }
 {
     let node = match DevicePathNode::split_first(bytes) {
         Ok((found, _)) => found,
-        Err(cause) => {
-            *place = fault_place(cause);
-            return node_reason(cause);
-        }
+        Err(cause) => return refuse(cause, place),
     };
     let text = node.write_text(
         buffer,

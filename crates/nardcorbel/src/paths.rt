@@ -1,22 +1,25 @@
 //! Paths in units that C holds: the verdict on one, how two compare, and where its components stand.
-ghost use Rattle.std.specs.Prelude.{◌≡◌, ◌≢◌, ◌↔◌, ◌+◌, ◌<◌, ◌≤◌, ◌∷◌, [], IsFalse, IsTrue, None, Some, drop, length, slice_index, slice_range, take};
+ghost use Rattle.std.specs.Prelude.{◌≡◌, ◌≢◌, ◌↔◌, ℕ, ◌+◌, ◌<◌, ◌≤◌, ◌∷◌, [], List, Err, Ok, IsFalse, IsTrue, None, Some, drop, length, slice_index, slice_range, take};
 ghost use Rattle.std.specs.Cmp.Lexicographic.{slice_cmp};
 ghost use Rattle.std.specs.List.{last_or};
 ghost use Rattle.std.specs.Ordering.{nat_cmp};
-ghost use Rattle.uefi_text.specs.FromSliceUntilNul.{until_nul_refusal};
 ghost use Rattle.uefi_text.specs.Units.{BeginsWithString};
 ghost use Rattle.uefi_path.specs.Components.{IsPiece, components_of, joined};
 ghost use Rattle.uefi_path.specs.Parents.{all_but_last, parent_text};
 ghost use Rattle.uefi_path.specs.Separators.{canonical, separator};
 ghost use Rattle.uefi_path.specs.Verdicts.{IsValid, verdict};
 ghost use Rattle.uefi_path.specs.Views.{path_text};
-ghost use Rattle.nardcorbel.specs.Paths.{IsPlaceOfFault};
 ghost use Rattle.uefi_path.specs.ComponentPlaces.{component_place, components_from};
-ghost use Rattle.nardcorbel.specs.Reasons.{order_number, path_reason, refused_character, until_nul_reason};
-ghost use Rattle.nardcorbel.specs.Strings.{text_until_nul, until_nul_place};
+ghost use Rattle.nardcorbel.specs.Reasons.{order_number, refused_character};
+ghost use Rattle.nardcorbel.specs.Outcomes.{ShowsNumber};
+ghost use Rattle.nardcorbel.specs.Outcomes.Outcome.{Refused};
+ghost use Rattle.nardcorbel.specs.Paths.{ShowsVerdict};
+ghost use Rattle.nardcorbel.specs.Reading.{read_string};
+ghost use Rattle.nardcorbel.specs.Strings.{text_until_nul};
+ghost use Rattle.nardcorbel.specs.declared.outcomes.Refusal.{Refusal};
 
-use crate::reasons::{NO_ORDER, OK, order_number, path_reason, until_nul_reason};
-use crate::strings::until_nul_place;
+use crate::outcomes::{Refusal, read_string, refuse};
+use crate::reasons::{NO_ORDER, OK, order_number, path_reason};
 use uefi_path::path_units::{last_component, next_component, others_end};
 use uefi_path::{Path, validate_path_at};
 use uefi_text::CStr16;
@@ -24,10 +27,8 @@ use uefi_text::CStr16;
 /// Whether a path names a file: `OK`, or why not, the character that is refused, and where the component at
 /// fault begins.
 fn judge(path: Path<'_>, place: &mut usize, character: &mut u16) -> u32
-    ensures reason { result ≡ path_reason (verdict (path_text path.entry)) }
+    ensures verdict { ShowsVerdict (path_text path.entry) result place.new character.new }
     ensures valid { (result ≡ OK) ↔ IsValid (path_text path.entry) }
-    ensures place { IsPlaceOfFault (verdict (path_text path.entry)) (path_text path.entry) place.new }
-    ensures character { character.new ≡ refused_character (verdict (path_text path.entry)) }
 {
     match validate_path_at(path) {
         Ok(()) => {
@@ -52,23 +53,17 @@ fn judge(path: Path<'_>, place: &mut usize, character: &mut u16) -> u32
 /// `ILLEGAL_CHAR`, and 0 else. Takes no memory.
 #[unsafe(no_mangle)]
 pub extern "C" fn nard_path_verdict(units: &[u16], place: &mut usize, character: &mut u16) -> u32
-    ensures no_string { ¬ BeginsWithString units.now
-        → (result ≡ until_nul_reason (until_nul_refusal units.now))
-        × (place.new ≡ until_nul_place units.now)
-        × (character.new ≡ 0) }
-    ensures reason { BeginsWithString units.now → result ≡ path_reason (verdict (text_until_nul units.now)) }
+    ensures no_string { (refusal : Refusal) → read_string units.now ≡ Err refusal
+        → ShowsNumber (Refused refusal) place.old result place.new × (character.new ≡ 0) }
+    ensures verdict { (text : List ℕ) → read_string units.now ≡ Ok text
+        → ShowsVerdict text result place.new character.new }
     ensures valid { (result ≡ OK) ↔ (BeginsWithString units.now × IsValid (text_until_nul units.now)) }
-    ensures place { BeginsWithString units.now
-        → IsPlaceOfFault (verdict (text_until_nul units.now)) (text_until_nul units.now) place.new }
-    ensures character { BeginsWithString units.now
-        → character.new ≡ refused_character (verdict (text_until_nul units.now)) }
 {
-    match CStr16::from_u16_until_nul(units) {
+    match read_string(units) {
         Ok(string) => judge(Path::new(string), place, character),
-        Err(error) => {
-            *place = until_nul_place(error, units);
+        Err(refusal) => {
             *character = 0;
-            until_nul_reason(error)
+            refuse(refusal, place)
         }
     }
 }

@@ -1,14 +1,12 @@
 //! Why a call refuses, as numbers: the header's `enum nard_reason` has the same.
-ghost use Rattle.std.specs.Prelude.{◌≡◌, ℕ, ◌<◌, ◌^◌, List, Some, length, negsuc};
-ghost use Rattle.uefi_text.specs.UnitTexts.{written_len};
-ghost use Rattle.nardcorbel.specs.Buffers.{length_shown, room_reason};
-ghost use Rattle.nardcorbel.specs.Reasons.{fat_name_reason, name_reason, node_reason, option_reason, order_number, path_reason, refused_character, refused_fat_character, until_nul_reason, with_nul_reason};
+ghost use Rattle.std.specs.Prelude.{◌≡◌, Some, negsuc};
+ghost use Rattle.nardcorbel.specs.Reasons.{fat_name_reason, name_reason, node_reason, option_reason, order_number, path_reason, refused_character, refused_fat_character, with_nul_reason};
 
 use std::cmp::Ordering;
 use uefi_device_path::{FilePathCause, LoadOptionCause, NodeError};
 use uefi_fat::FatNameError;
 use uefi_path::PathError;
-use uefi_text::{BufferTooSmall, FromSliceUntilNulError, FromSliceWithNulError};
+use uefi_text::FromSliceWithNulError;
 
 /// Nothing is refused.
 pub const OK: u32 = 0;
@@ -164,19 +162,9 @@ pub fn numbers()
     ensures no_order { NO_ORDER ≡ negsuc 2147483647 }
 {}
 
-/// The reason why units begin with no string.
-pub(crate) fn until_nul_reason(error: FromSliceUntilNulError) -> u32
-    ensures { result ≡ until_nul_reason (Some error) }
-{
-    match error {
-        FromSliceUntilNulError::InvalidChar(_) => INVALID_CHAR,
-        FromSliceUntilNulError::NoNul | FromSliceUntilNulError::OutOfMemory => NO_NUL,
-    }
-}
-
 /// The reason why units are no string.
 pub(crate) fn with_nul_reason(error: FromSliceWithNulError) -> u32
-    ensures { result ≡ with_nul_reason (Some error) }
+    ensures { result ≡ with_nul_reason error }
 {
     match error {
         FromSliceWithNulError::InvalidChar(_) => INVALID_CHAR,
@@ -189,7 +177,7 @@ pub(crate) fn with_nul_reason(error: FromSliceWithNulError) -> u32
 
 /// The reason why a path is refused, and the character for which it is, or 0.
 pub(crate) fn path_reason(error: PathError) -> (u32, u16)
-    ensures reason { result.0 ≡ path_reason (Some error) }
+    ensures reason { result.0 ≡ path_reason error }
     ensures character { result.1 ≡ refused_character (Some error) }
 {
     match error {
@@ -202,7 +190,7 @@ pub(crate) fn path_reason(error: PathError) -> (u32, u16)
 
 /// The reason why a name is refused, and the character for which it is, or 0.
 pub(crate) fn fat_name_reason(error: FatNameError) -> (u32, u16)
-    ensures reason { result.0 ≡ fat_name_reason (Some error) }
+    ensures reason { result.0 ≡ fat_name_reason error }
     ensures character { result.1 ≡ refused_fat_character (Some error) }
 {
     match error {
@@ -257,25 +245,5 @@ pub(crate) fn order_number(order: Ordering) -> i32
         Ordering::Less => -1,
         Ordering::Equal => 0,
         Ordering::Greater => 1,
-    }
-}
-
-/// What a call returns that writes a text into a buffer, and how many units the text has, or at most
-/// `usize::MAX - 1`.
-pub(crate) fn report(written: Result<usize, BufferTooSmall>, place: &mut usize) -> u32
-    ensures reason { (text buffer : List ℕ) → written ≡ written_len text buffer
-        → result ≡ room_reason text buffer }
-    ensures place { (text buffer : List ℕ) → length buffer < 2 ^ 64 → written ≡ written_len text buffer
-        → place.new ≡ length_shown text }
-{
-    match written {
-        Ok(len) => {
-            *place = len;
-            OK
-        }
-        Err(BufferTooSmall(needed)) => {
-            *place = needed.saturating_sub(1);
-            BUFFER_TOO_SMALL
-        }
     }
 }

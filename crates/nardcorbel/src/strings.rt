@@ -1,39 +1,34 @@
 //! Strings in units that C holds: which units are one, and how two compare.
-ghost use Rattle.std.specs.Prelude.{◌≡◌, ◌↔◌, IsTrue, Some};
+ghost use Rattle.std.specs.Prelude.{◌≡◌, ◌↔◌, IsTrue, length};
 ghost use Rattle.std.specs.Cmp.Lexicographic.{slice_cmp};
 ghost use Rattle.std.specs.Ordering.{nat_cmp};
 ghost use Rattle.std.specs.Str.{IsAscii};
-ghost use Rattle.uefi_text.specs.Units.{BeginsWithString, IsString};
-ghost use Rattle.uefi_text.specs.FromSliceUntilNul.{until_nul_refusal};
 ghost use Rattle.uefi_text.specs.FromSliceWithNul.{with_nul_refusal};
-ghost use Rattle.nardcorbel.specs.Reasons.{order_number, until_nul_reason, with_nul_reason};
-ghost use Rattle.nardcorbel.specs.Strings.{text_until_nul, until_nul_place, until_nul_place_at, with_nul_place, with_nul_place_at};
+ghost use Rattle.uefi_text.specs.Units.{BeginsWithString, IsString, without_nul};
+ghost use Rattle.nardcorbel.specs.Outcomes.{ShowsNumber, when_read, refusal_at, unless};
+ghost use Rattle.nardcorbel.specs.Outcomes.Outcome.{Number};
+ghost use Rattle.nardcorbel.specs.Reading.{read_string};
+ghost use Rattle.nardcorbel.specs.Reasons.{order_number};
+ghost use Rattle.nardcorbel.specs.Refusals.{with_nul_refused};
+ghost use Rattle.nardcorbel.specs.Strings.{text_until_nul};
 
-use crate::reasons::{NO_ORDER, OK, order_number, until_nul_reason, with_nul_reason};
+use crate::outcomes::{Refusal, read_string, refuse};
+use crate::reasons::{NO_ORDER, OK, order_number, with_nul_reason};
 use uefi_text::scan::find_nul;
-use uefi_text::{CStr16, FromSliceUntilNulError, FromSliceWithNulError};
+use uefi_text::{CStr16, FromSliceWithNulError};
 
-/// The place at which units are refused.
-pub(crate) fn until_nul_place(error: FromSliceUntilNulError, units: &[u16]) -> usize
-    ensures { result ≡ until_nul_place_at units.now (Some error) }
+/// Why units are not one string.
+fn with_nul_refused(error: FromSliceWithNulError, units: &[u16]) -> Refusal
+    ensures { result ≡ with_nul_refused units.now error }
 {
-    match error {
-        FromSliceUntilNulError::InvalidChar(index) => index,
-        FromSliceUntilNulError::NoNul | FromSliceUntilNulError::OutOfMemory => units.len(),
-    }
-}
-
-/// The same of units that all have to be one string.
-fn with_nul_place(error: FromSliceWithNulError, units: &[u16]) -> usize
-    ensures { result ≡ with_nul_place_at units.now (Some error) }
-{
-    match error {
+    let place = match error {
         FromSliceWithNulError::InvalidChar(index) => index,
         FromSliceWithNulError::InteriorNul(index) => index,
         FromSliceWithNulError::NotNulTerminated
         | FromSliceWithNulError::NotAligned
         | FromSliceWithNulError::OutOfMemory => units.len(),
-    }
+    };
+    Refusal::at(with_nul_reason(error), place)
 }
 
 /// The units before the first NUL, or all of them if there is none.
@@ -52,19 +47,16 @@ pub(crate) fn until_nul(units: &[u16]) -> &[u16]
 /// of the unit that is refused, or the number of units where none is a NUL. Takes no memory.
 #[unsafe(no_mangle)]
 pub extern "C" fn nard_string_with_nul(units: &[u16], place: &mut usize) -> u32
-    ensures reason { result ≡ with_nul_reason (with_nul_refusal units.now) }
+    ensures shows { ShowsNumber (unless (with_nul_refusal units.now) (with_nul_refused units.now)
+        (Number (length (without_nul units.now)))) place.old result place.new }
     ensures accepts { (result ≡ OK) ↔ IsString units.now }
-    ensures place { place.new ≡ with_nul_place units.now }
 {
     match CStr16::from_u16_with_nul(units) {
         Ok(string) => {
             *place = string.num_chars();
             OK
         }
-        Err(error) => {
-            *place = with_nul_place(error, units);
-            with_nul_reason(error)
-        }
+        Err(error) => refuse(with_nul_refused(error, units), place),
     }
 }
 
@@ -74,19 +66,16 @@ pub extern "C" fn nard_string_with_nul(units: &[u16], place: &mut usize) -> u32
 /// `place` becomes what [`nard_string_with_nul`] says. Takes no memory.
 #[unsafe(no_mangle)]
 pub extern "C" fn nard_string_until_nul(units: &[u16], place: &mut usize) -> u32
-    ensures reason { result ≡ until_nul_reason (until_nul_refusal units.now) }
+    ensures shows { ShowsNumber (when_read (read_string units.now) (λ text. Number (length text)))
+        place.old result place.new }
     ensures accepts { (result ≡ OK) ↔ BeginsWithString units.now }
-    ensures place { place.new ≡ until_nul_place units.now }
 {
-    match CStr16::from_u16_until_nul(units) {
+    match read_string(units) {
         Ok(string) => {
             *place = string.num_chars();
             OK
         }
-        Err(error) => {
-            *place = until_nul_place(error, units);
-            until_nul_reason(error)
-        }
+        Err(refusal) => refuse(refusal, place),
     }
 }
 

@@ -1,18 +1,17 @@
 //! Why a text as people write it, or as libefivar prints it, is not read, in words.
-ghost use Rattle.std.specs.Prelude.{◌≡◌, ◌+◌, ◌<◌, ◌≤◌, IsTrue, Option, length};
-ghost use Rattle.std.specs.Str.{IsUtf8};
-ghost use Rattle.std.specs.Str.Lossy.{utf8_valid_len};
-ghost use Rattle.uefi_text.specs.UnalignedCStr16.{with_prefix};
-ghost use Rattle.uefi_text.specs.Units.{nul_terminated};
+ghost use Rattle.std.specs.Prelude.{◌≡◌, ◌<◌, IsTrue, Option, length};
+ghost use Rattle.std.specs.Result.{result_err};
+ghost use Rattle.uefi_device_path.specs.StyledReading.{path_read};
+ghost use Rattle.uefi_device_path.specs.Styles.{is_copied};
 ghost use Rattle.uefi_device_path.specs.declared.lenient_errors.TextFault.{TextFault};
-ghost use Rattle.uefi_node_reader.specs.Styles.{is_copied};
-ghost use Rattle.uefi_node_reader.specs.declared.styles.TextStyle.TheVariants.{Lenient, Libefivar};
-ghost use Rattle.nardcorbel.specs.Buffers.{length_shown, room_reason};
-ghost use Rattle.nardcorbel.specs.TextFaults.{IsFaultOf, fault_in, fault_units, fault_text};
+ghost use Rattle.uefi_device_path.specs.TextStyle.TheVariants.{Lenient, Libefivar};
+ghost use Rattle.nardcorbel.specs.Outcomes.{Shows, when_read};
+ghost use Rattle.nardcorbel.specs.Reading.{read_utf8};
+ghost use Rattle.nardcorbel.specs.TextFaults.{fault_in, fault_outcome, fault_text};
 
-use crate::reasons::{NOT_UTF8, SCRATCH_TOO_SMALL, report};
-use uefi_device_path::{PushLenientTextError, TextFault, laws, push_styled_text_in_buf};
-use uefi_node_reader::styles::TextStyle;
+use crate::outcomes::{Refusal, read_utf8, refuse, report};
+use crate::reasons::SCRATCH_TOO_SMALL;
+use uefi_device_path::{PushLenientTextError, TextFault, TextStyle, laws, push_styled_text_in_buf};
 use uefi_text::text_sink::{Printed, TextSink};
 use uefi_text::write_units;
 
@@ -48,7 +47,7 @@ fn fault_in(error: PushLenientTextError) -> Option<TextFault>
 fn find_fault(style: TextStyle, text: &str, scratch: &mut [u8]) -> Option<TextFault>
     requires copied { IsTrue (is_copied style) }
     requires room { length text.now < length scratch.old }
-    ensures { (fault : Option TextFault) → IsFaultOf style text.now fault → result ≡ fault }
+    ensures { result ≡ result_err (path_read style text.now) }
 {
     // The law does nothing: it says that the empty path is not refused.
     laws::accepted_paths();
@@ -67,30 +66,15 @@ fn write_fault(
     place: &mut usize,
 ) -> u32
     requires { IsTrue (is_copied style) }
-    ensures not_utf8 { ¬ IsUtf8 bytes.now → (result ≡ NOT_UTF8)
-        × (place.new ≡ utf8_valid_len bytes.now) × (buffer.new ≡ buffer.old) }
-    ensures no_scratch { IsUtf8 bytes.now → length scratch.old ≤ length bytes.now
-        → (result ≡ SCRATCH_TOO_SMALL) × (place.new ≡ length bytes.now + 1) × (buffer.new ≡ buffer.old) }
-    ensures reason { IsUtf8 bytes.now → length bytes.now < length scratch.old
-        → (fault : Option TextFault) → IsFaultOf style bytes.now fault
-        → result ≡ room_reason (fault_units fault) buffer.old }
-    ensures place { IsUtf8 bytes.now → length bytes.now < length scratch.old
-        → (fault : Option TextFault) → IsFaultOf style bytes.now fault
-        → place.new ≡ length_shown (fault_units fault) }
-    ensures buffer { IsUtf8 bytes.now → length bytes.now < length scratch.old
-        → (fault : Option TextFault) → IsFaultOf style bytes.now fault
-        → buffer.new ≡ with_prefix (nul_terminated (fault_units fault)) buffer.old }
+    ensures { Shows (when_read (read_utf8 bytes.now) (fault_outcome style scratch.old))
+        place.old buffer.old result place.new buffer.new }
 {
-    let text = match str::from_utf8(bytes) {
+    let text = match read_utf8(bytes) {
         Ok(text) => text,
-        Err(error) => {
-            *place = error.valid_up_to();
-            return NOT_UTF8;
-        }
+        Err(refusal) => return refuse(refusal, place),
     };
     if scratch.len() <= text.len() {
-        *place = text.len() + 1;
-        return SCRATCH_TOO_SMALL;
+        return refuse(Refusal::at(SCRATCH_TOO_SMALL, text.len() + 1), place);
     }
     let fault = find_fault(style, text, scratch);
     report(write_units(buffer, &FaultText { fault }), place)
@@ -112,19 +96,8 @@ pub extern "C" fn nard_lenient_text_fault(
     buffer: &mut [u16],
     place: &mut usize,
 ) -> u32
-    ensures not_utf8 { ¬ IsUtf8 bytes.now → (result ≡ NOT_UTF8)
-        × (place.new ≡ utf8_valid_len bytes.now) × (buffer.new ≡ buffer.old) }
-    ensures no_scratch { IsUtf8 bytes.now → length scratch.old ≤ length bytes.now
-        → (result ≡ SCRATCH_TOO_SMALL) × (place.new ≡ length bytes.now + 1) × (buffer.new ≡ buffer.old) }
-    ensures reason { IsUtf8 bytes.now → length bytes.now < length scratch.old
-        → (fault : Option TextFault) → IsFaultOf Lenient bytes.now fault
-        → result ≡ room_reason (fault_units fault) buffer.old }
-    ensures place { IsUtf8 bytes.now → length bytes.now < length scratch.old
-        → (fault : Option TextFault) → IsFaultOf Lenient bytes.now fault
-        → place.new ≡ length_shown (fault_units fault) }
-    ensures buffer { IsUtf8 bytes.now → length bytes.now < length scratch.old
-        → (fault : Option TextFault) → IsFaultOf Lenient bytes.now fault
-        → buffer.new ≡ with_prefix (nul_terminated (fault_units fault)) buffer.old }
+    ensures { Shows (when_read (read_utf8 bytes.now) (fault_outcome Lenient scratch.old))
+        place.old buffer.old result place.new buffer.new }
 {
     write_fault(TextStyle::Lenient, bytes, scratch, buffer, place)
 }
@@ -138,19 +111,8 @@ pub extern "C" fn nard_libefivar_text_fault(
     buffer: &mut [u16],
     place: &mut usize,
 ) -> u32
-    ensures not_utf8 { ¬ IsUtf8 bytes.now → (result ≡ NOT_UTF8)
-        × (place.new ≡ utf8_valid_len bytes.now) × (buffer.new ≡ buffer.old) }
-    ensures no_scratch { IsUtf8 bytes.now → length scratch.old ≤ length bytes.now
-        → (result ≡ SCRATCH_TOO_SMALL) × (place.new ≡ length bytes.now + 1) × (buffer.new ≡ buffer.old) }
-    ensures reason { IsUtf8 bytes.now → length bytes.now < length scratch.old
-        → (fault : Option TextFault) → IsFaultOf Libefivar bytes.now fault
-        → result ≡ room_reason (fault_units fault) buffer.old }
-    ensures place { IsUtf8 bytes.now → length bytes.now < length scratch.old
-        → (fault : Option TextFault) → IsFaultOf Libefivar bytes.now fault
-        → place.new ≡ length_shown (fault_units fault) }
-    ensures buffer { IsUtf8 bytes.now → length bytes.now < length scratch.old
-        → (fault : Option TextFault) → IsFaultOf Libefivar bytes.now fault
-        → buffer.new ≡ with_prefix (nul_terminated (fault_units fault)) buffer.old }
+    ensures { Shows (when_read (read_utf8 bytes.now) (fault_outcome Libefivar scratch.old))
+        place.old buffer.old result place.new buffer.new }
 {
     write_fault(TextStyle::Libefivar, bytes, scratch, buffer, place)
 }

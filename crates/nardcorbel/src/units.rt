@@ -3,17 +3,15 @@
 //!
 //! The text of units is what is before their first NUL, or all of them if there is none. No call
 //! refuses a unit.
-ghost use Rattle.std.specs.Prelude.{◌≡◌, ◌↔◌, ◌++◌, drop, if◌then◌else◌, length, min, take, IsTrue};
-ghost use Rattle.std.specs.List.{list_any};
+ghost use Rattle.std.specs.Prelude.{◌≡◌, ◌↔◌, ◌++◌, drop, length, IsTrue};
 ghost use Rattle.uefi_text.specs.Case.{caseless_order, lowers, uppers};
-ghost use Rattle.uefi_text.specs.FromStrWithBuf.{with_units};
 ghost use Rattle.uefi_text.specs.Patterns.{Matches};
-ghost use Rattle.uefi_fat.specs.Oem.{fat_bytes, is_unfit, kept_units};
+ghost use Rattle.nardcorbel.specs.FatNames.{ShowsFat};
 ghost use Rattle.nardcorbel.specs.Reasons.{order_number};
 ghost use Rattle.nardcorbel.specs.Strings.{text_until_nul};
 
 use crate::fat_names::report_fat;
-use crate::reasons::{CHAR_REPLACED, OK, order_number};
+use crate::reasons::order_number;
 use crate::strings::until_nul;
 use uefi_fat::units_to_fat;
 use uefi_text::case::{cmp_ignore_case, eq_ignore_case, make_lowercase, make_uppercase};
@@ -79,11 +77,7 @@ pub extern "C" fn nard_units_make_lowercase(buffer: &mut [u16]) -> usize
 /// Takes no memory.
 #[unsafe(no_mangle)]
 pub extern "C" fn nard_fat_from_units(units: &[u16], bytes: &mut [u8], place: &mut usize) -> u32
-    ensures reason { result
-        ≡ (if list_any is_unfit (take (length bytes.old) (kept_units (text_until_nul units.now)))
-        then CHAR_REPLACED else OK) }
-    ensures bytes { bytes.new ≡ with_units (fat_bytes (text_until_nul units.now)) bytes.old }
-    ensures place { place.new ≡ min (length (fat_bytes (text_until_nul units.now))) (length bytes.old) }
+    ensures { ShowsFat (text_until_nul units.now) bytes.old result place.new bytes.new }
 {
     report_fat(units_to_fat(until_nul(units), bytes), place)
 }

@@ -2,21 +2,18 @@
 ghost use Rattle.std.specs.Prelude.{◌≡◌, ◌↔◌, ◌+◌, ◌<◌, ◌++◌, drop, length, IsTrue, None};
 ghost use Rattle.std.specs.List.{find, position_or_len};
 ghost use Rattle.std.specs.Str.{IsUtf8, chars, encode_utf8_all};
-ghost use Rattle.std.specs.Str.Lossy.{utf8_valid_len};
 ghost use Rattle.uefi_text.specs.EqStrUntilNul.{IsEqualUntilNul};
-ghost use Rattle.uefi_text.specs.FromSliceUntilNul.{until_nul_refusal};
 ghost use Rattle.uefi_text.specs.FromStr.{is_deciding_char};
 ghost use Rattle.uefi_text.specs.Latin1.{IsLatin1};
-ghost use Rattle.uefi_text.specs.UnalignedCStr16.{with_prefix};
 ghost use Rattle.uefi_text.specs.Units.{BeginsWithString, IsText, nul_terminated};
-ghost use Rattle.nardcorbel.specs.Buffers.{length_shown, room_reason};
-ghost use Rattle.nardcorbel.specs.Reasons.{character_reason, until_nul_reason};
-ghost use Rattle.nardcorbel.specs.Strings.{text_until_nul, until_nul_place};
+ghost use Rattle.nardcorbel.specs.Outcomes.{Shows, when_read};
+ghost use Rattle.nardcorbel.specs.Outcomes.Outcome.{Text};
+ghost use Rattle.nardcorbel.specs.Reading.{read_string, string_of_utf8};
+ghost use Rattle.nardcorbel.specs.Reasons.{character_reason};
+ghost use Rattle.nardcorbel.specs.Strings.{text_until_nul};
 
-use crate::reasons::{
-    BUFFER_TOO_SMALL, INTERIOR_NUL, INVALID_CHAR, NOT_UTF8, OK, report, until_nul_reason,
-};
-use crate::strings::until_nul_place;
+use crate::outcomes::{read_string, read_utf8, refuse, report};
+use crate::reasons::{BUFFER_TOO_SMALL, INTERIOR_NUL, INVALID_CHAR, OK};
 use uefi_text::decode::write_lossy;
 use uefi_text::{CStr16, EqStrUntilNul, is_latin1};
 
@@ -46,24 +43,11 @@ fn judge_text(text: &str) -> (u32, usize)
 /// unchanged; what is after the NUL stays. Takes no memory.
 #[unsafe(no_mangle)]
 pub extern "C" fn nard_string_from_utf8(bytes: &[u8], buffer: &mut [u16], place: &mut usize) -> u32
-    ensures not_utf8 { (result ≡ NOT_UTF8) ↔ ¬ IsUtf8 bytes.now }
-    ensures valid { ¬ IsUtf8 bytes.now → place.new ≡ utf8_valid_len bytes.now }
-    ensures place { IsUtf8 bytes.now
-        → place.new ≡ position_or_len is_deciding_char (chars bytes.now) }
-    ensures refused { IsUtf8 bytes.now → ¬ IsText (chars bytes.now)
-        → result ≡ character_reason (find is_deciding_char (chars bytes.now)) }
-    ensures reason { IsUtf8 bytes.now → IsText (chars bytes.now)
-        → result ≡ room_reason (chars bytes.now) buffer.old }
-    ensures buffer { IsUtf8 bytes.now → IsText (chars bytes.now)
-        → buffer.new ≡ with_prefix (nul_terminated (chars bytes.now)) buffer.old }
-    ensures unchanged { ¬ (IsUtf8 bytes.now × IsText (chars bytes.now)) → buffer.new ≡ buffer.old }
+    ensures { Shows (string_of_utf8 bytes.now) place.old buffer.old result place.new buffer.new }
 {
-    let text = match str::from_utf8(bytes) {
+    let text = match read_utf8(bytes) {
         Ok(text) => text,
-        Err(error) => {
-            *place = error.valid_up_to();
-            return NOT_UTF8;
-        }
+        Err(refusal) => return refuse(refusal, place),
     };
     let (reason, len) = judge_text(text);
     *place = len;
@@ -128,22 +112,11 @@ pub extern "C" fn nard_utf8_is_latin1(bytes: &[u8]) -> bool
 /// stays. Takes no memory.
 #[unsafe(no_mangle)]
 pub extern "C" fn nard_utf8_from_string(units: &[u16], bytes: &mut [u8], place: &mut usize) -> u32
-    ensures no_string { ¬ BeginsWithString units.now
-        → result ≡ until_nul_reason (until_nul_refusal units.now) }
-    ensures unchanged { ¬ BeginsWithString units.now → bytes.new ≡ bytes.old }
-    ensures refused_place { ¬ BeginsWithString units.now → place.new ≡ until_nul_place units.now }
-    ensures reason { BeginsWithString units.now
-        → result ≡ room_reason (encode_utf8_all (text_until_nul units.now)) bytes.old }
-    ensures bytes { BeginsWithString units.now
-        → bytes.new ≡ with_prefix (nul_terminated (encode_utf8_all (text_until_nul units.now))) bytes.old }
-    ensures place { BeginsWithString units.now
-        → place.new ≡ length_shown (encode_utf8_all (text_until_nul units.now)) }
+    ensures { Shows (when_read (read_string units.now) (λ text. Text (encode_utf8_all text)))
+        place.old bytes.old result place.new bytes.new }
 {
-    match CStr16::from_u16_until_nul(units) {
+    match read_string(units) {
         Ok(string) => report(write_lossy(string.as_slice().units(), bytes), place),
-        Err(error) => {
-            *place = until_nul_place(error, units);
-            until_nul_reason(error)
-        }
+        Err(refusal) => refuse(refusal, place),
     }
 }

@@ -1,80 +1,55 @@
 //! Strings and paths in units that C holds, compared without case and matched against patterns, as the
 //! firmware's Unicode collation does (UEFI Specification 2.10, section 21.1).
-ghost use Rattle.std.specs.Prelude.{◌≡◌, ◌↔◌, ◌≤◌, ◌++◌, drop, length, take, IfErr, IfOk, IsOk, IsTrue};
+ghost use Rattle.std.specs.Prelude.{◌≡◌, ◌↔◌, length, IsTrue};
 ghost use Rattle.uefi_text.specs.Case.{caseless_order, lowers, uppers};
-ghost use Rattle.uefi_text.specs.FromSliceUntilNul.{until_nul_refusal};
 ghost use Rattle.uefi_text.specs.Patterns.{Matches};
 ghost use Rattle.uefi_text.specs.Units.{BeginsWithString};
 ghost use Rattle.uefi_path.specs.Separators.{canonical};
 ghost use Rattle.uefi_path.specs.WithoutCase.{MatchesPath};
-ghost use Rattle.nardcorbel.specs.Reasons.{order_number, until_nul_reason};
-ghost use Rattle.nardcorbel.specs.Strings.{text_until_nul, until_nul_place};
+ghost use Rattle.nardcorbel.specs.Outcomes.{ShowsNumber, when_read};
+ghost use Rattle.nardcorbel.specs.Outcomes.Outcome.{Number};
+ghost use Rattle.nardcorbel.specs.Reading.{read_string};
+ghost use Rattle.nardcorbel.specs.Reasons.{order_number};
+ghost use Rattle.nardcorbel.specs.Strings.{text_until_nul, with_case};
 
-use crate::reasons::{NO_ORDER, OK, order_number, until_nul_reason};
-use crate::strings::until_nul_place;
+use crate::outcomes::{read_string, refuse};
+use crate::reasons::{NO_ORDER, OK, order_number};
 use uefi_path::Path;
 use uefi_text::CStr16;
 use uefi_text::case::{make_lowercase, make_uppercase};
-
-/// How long the text is of the string that units begin with, or why they begin with none. `place` becomes the
-/// length, or where the units are refused.
-fn text_len(units: &[u16], place: &mut usize) -> Result<usize, u32>
-    ensures len { IfOk result (λ len. len ≡ length (text_until_nul units.now)) }
-    ensures text { IfOk result (λ len. take len units.now ≡ text_until_nul units.now) }
-    ensures within { IfOk result (λ len. len ≤ length units.now) }
-    ensures string { IsOk result ↔ BeginsWithString units.now }
-    ensures ok { IfOk result (λ _. until_nul_reason (until_nul_refusal units.now) ≡ OK) }
-    ensures err { IfErr result (λ reason. reason ≡ until_nul_reason (until_nul_refusal units.now)) }
-    ensures place { place.new ≡ until_nul_place units.now }
-{
-    match CStr16::from_u16_until_nul(units) {
-        Ok(string) => {
-            *place = string.num_chars();
-            Ok(*place)
-        }
-        Err(error) => {
-            *place = until_nul_place(error, units);
-            Err(until_nul_reason(error))
-        }
-    }
-}
 
 /// Puts the text of the string that units begin with in upper case, as `StrUpr` does. Units that begin
 /// with no string are refused as by `nard_string_until_nul`, whose `place` is reported, and stay
 /// unchanged; what follows the text stays. Takes no memory.
 #[unsafe(no_mangle)]
 pub extern "C" fn nard_string_make_uppercase(buffer: &mut [u16], place: &mut usize) -> u32
-    ensures reason { result ≡ until_nul_reason (until_nul_refusal buffer.old) }
-    ensures buffer { BeginsWithString buffer.old → buffer.new
-        ≡ uppers (text_until_nul buffer.old) ++ drop (length (text_until_nul buffer.old)) buffer.old }
-    ensures unchanged { ¬ BeginsWithString buffer.old → buffer.new ≡ buffer.old }
-    ensures place { place.new ≡ until_nul_place buffer.old }
+    ensures shows { ShowsNumber (when_read (read_string buffer.old) (λ text. Number (length text)))
+        place.old result place.new }
+    ensures buffer { buffer.new ≡ with_case uppers (read_string buffer.old) buffer.old }
 {
-    match text_len(buffer, place) {
-        Ok(len) => {
-            make_uppercase(&mut buffer[..len]);
-            OK
-        }
-        Err(reason) => reason,
-    }
+    let len = match read_string(buffer) {
+        Ok(string) => string.num_chars(),
+        Err(refusal) => return refuse(refusal, place),
+    };
+    *place = len;
+    make_uppercase(&mut buffer[..len]);
+    OK
 }
 
 /// The same in lower case, as `StrLwr` does.
 #[unsafe(no_mangle)]
 pub extern "C" fn nard_string_make_lowercase(buffer: &mut [u16], place: &mut usize) -> u32
-    ensures reason { result ≡ until_nul_reason (until_nul_refusal buffer.old) }
-    ensures buffer { BeginsWithString buffer.old → buffer.new
-        ≡ lowers (text_until_nul buffer.old) ++ drop (length (text_until_nul buffer.old)) buffer.old }
-    ensures unchanged { ¬ BeginsWithString buffer.old → buffer.new ≡ buffer.old }
-    ensures place { place.new ≡ until_nul_place buffer.old }
+    ensures shows { ShowsNumber (when_read (read_string buffer.old) (λ text. Number (length text)))
+        place.old result place.new }
+    ensures buffer { buffer.new ≡ with_case lowers (read_string buffer.old) buffer.old }
 {
-    match text_len(buffer, place) {
-        Ok(len) => {
-            make_lowercase(&mut buffer[..len]);
-            OK
-        }
-        Err(reason) => reason,
-    }
+    let len = match read_string(buffer) {
+        Ok(string) => string.num_chars(),
+        Err(refusal) => return refuse(refusal, place),
+    };
+    *place = len;
+    make_lowercase(&mut buffer[..len]);
+    OK
 }
 
 /// Whether both begin with a string, and have the same text without case. Takes no memory.

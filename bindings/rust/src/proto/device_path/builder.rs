@@ -273,6 +273,32 @@ impl<'a> DevicePathBuilder<'a> {
         })
     }
 
+    /// Returns how many bytes of a text are the path that it begins with, as [`push_lenient_text`](Self::push_lenient_text) reads
+    /// it, if something else may follow: efibootmgr prints optional data directly after a path.
+    ///
+    /// ```
+    /// use nardcorbel::proto::device_path::build::DevicePathBuilder;
+    ///
+    /// let text = r"PciRoot(0x0)/File(\a.efi)RC";
+    /// let end = DevicePathBuilder::lenient_text_extent(text, &mut [0; 32])?;
+    /// assert_eq!(&text[end..], "RC");
+    /// # Ok::<(), nardcorbel::Error>(())
+    /// ```
+    pub fn lenient_text_extent(text: &str, scratch: &mut [u8]) -> Result<usize, Error> {
+        let mut length = 0;
+        let reason = sys::nard_lenient_text_extent(text.as_bytes(), scratch, &mut length);
+        crate::error::check(reason, length)?;
+        Ok(length)
+    }
+
+    /// Returns the same of a text that libefivar prints, as [`push_libefivar_text`](Self::push_libefivar_text) reads it.
+    pub fn libefivar_text_extent(text: &str, scratch: &mut [u8]) -> Result<usize, Error> {
+        let mut length = 0;
+        let reason = sys::nard_libefivar_text_extent(text.as_bytes(), scratch, &mut length);
+        crate::error::check(reason, length)?;
+        Ok(length)
+    }
+
     /// Writes in words why [`push_lenient_text`](Self::push_lenient_text) fails with [`Reason::NoNode`] for a text, into a buffer,
     /// and returns their UTF-16 without the NUL: none if it reads the text.
     ///

@@ -170,6 +170,21 @@ impl DevicePath {
         Ok(&buffer[..length])
     }
 
+    /// Formats the path as libefivar does, and efibootmgr with it, into a buffer, and returns its UTF-16 without the NUL.
+    ///
+    /// ```
+    /// # use nardcorbel::proto::device_path::DevicePath;
+    /// let path: &DevicePath = (&[4, 4, 8, 0, b'a', 0, 0, 0, 0x7f, 0xff, 4, 0][..]).try_into()?;
+    /// let mut buffer = [0; 8];
+    /// assert!(path.libefivar_text_in_buf(&mut buffer)?.iter().copied().eq("File(a)".encode_utf16()));
+    /// # Ok::<(), Box<dyn std::error::Error>>(())
+    /// ```
+    pub fn libefivar_text_in_buf<'b>(&self, buffer: &'b mut [u16]) -> Result<&'b [u16], Error> {
+        let mut length = 0;
+        check(sys::nard_device_path_libefivar_text(&self.0, buffer, &mut length), length)?;
+        Ok(&buffer[..length])
+    }
+
     /// Returns the path without the nodes of another one at its start, or `None` if it does not begin with them.
     #[must_use]
     pub fn strip_prefix(&self, prefix: &DevicePath) -> Option<&DevicePath> {

@@ -1,6 +1,6 @@
 -- Each begins with one path at most.
 use Rattle.std.proofs.Common.{subst, List}
-use Rattle.uefi_device_nodes.specs.Nodes.{Node}
+use Rattle.uefi_device_path.specs.Nodes.{Node}
 use Rattle.uefi_device_path.specs.Matching.{IsExpansion}
 use Rattle.uefi_device_path.specs.Views.{nodes_of}
 use Rattle.nardcorbel.proofs.building.nard_device_path_is_expansion.Goals as goal

@@ -1,20 +1,18 @@
--- What is reported is what the call says of the path that the buffer begins with.
-use Rattle.nardcorbel.proofs.Written.{at_err, at_ok}
+-- The path in the buffer is read, or refused, and grows by the node.
+use Rattle.std.proofs.Common.{◌∙◌, ◌++◌, ◌∷◌, [], ap, sym, length}
+use Rattle.uefi_device_path.specs.Building.{build_refusal, grow_refusal, room_refusal}
+use Rattle.uefi_device_path.specs.Nodes.{node_with}
+use Rattle.uefi_device_path.specs.Paths.{path_bytes}
+use Rattle.uefi_device_path.proofs.TextLengths.{bytes_more}
+use Rattle.nardcorbel.proofs.Written.{grown}
 use Rattle.nardcorbel.proofs.building.nard_device_path_push.Goals as goal
 
-pub returns-clause-no_path : goal.returns-clause-no_path
-returns-clause-no_path c = λ error refused. c.report_grown.ensures.no_path error (c.push_in_buf.ensures.no_path error refused)
-
-pub returns-clause-reason : goal.returns-clause-reason
-returns-clause-reason c = λ nodes begins. c.report_grown.ensures.reason _ (c.push_in_buf.ensures.refusal nodes begins)
-
-pub returns-clause-place : goal.returns-clause-place
-returns-clause-place c = λ nodes begins.
-    c.report_grown.ensures.place _ _ (c.push_in_buf.ensures.refusal nodes begins) (c.push_in_buf.ensures.len nodes begins)
-
-pub returns-clause-buffer : goal.returns-clause-buffer
-returns-clause-buffer c = λ nodes begins ok.
-    at_ok c.push_in_buf.result (c.report_grown.ensures.ok.0 ok) (c.push_in_buf.ensures.buffer nodes begins)
-
-pub returns-clause-unchanged : goal.returns-clause-unchanged
-returns-clause-unchanged c = λ other. at_err c.push_in_buf.result (λ ok. other (c.report_grown.ensures.ok.1 ok)) c.push_in_buf.ensures.err
+pub returns : goal.returns
+returns c =
+    let node = node_with c.args.device_type c.args.sub_type c.args.content.now in
+    let buffer = c.args.buffer.now in
+    grown buffer c.push_in_buf.new.buffer (build_refusal node) (λ nodes. path_bytes (nodes ++ node ∷ [])) c.push_in_buf.result c.args.place.now c.report.result
+    c.report.new.place c.are_bytes.ensures c.report.ensures.fits c.push_in_buf.ensures.no_path
+    (λ nodes begins. c.push_in_buf.ensures.refusal nodes begins
+    ∙ ap (λ n. grow_refusal (room_refusal n (length buffer) (build_refusal node))) (sym (bytes_more nodes node)))
+    c.push_in_buf.ensures.len c.push_in_buf.ensures.buffer c.push_in_buf.ensures.err c.report.ensures.shows

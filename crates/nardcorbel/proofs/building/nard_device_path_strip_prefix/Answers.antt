@@ -1,7 +1,7 @@
 -- Each begins with one path at most.
 use Rattle.std.proofs.Common.{◌≡◌, ◌+◌, ◌++◌, ◌∙◌, ap, sym, length, length-append, arith}
 use Rattle.std.proofs.lemmas.Grind.{common_steps}
-use Rattle.uefi_device_nodes.specs.Nodes.{end_entire, node_bytes}
+use Rattle.uefi_device_path.specs.Nodes.{end_entire, node_bytes}
 use Rattle.uefi_device_path.specs.Paths.{nodes_bytes, path_bytes}
 use Rattle.nardcorbel.proofs.building.nard_device_path_strip_prefix.Goals as goal
 

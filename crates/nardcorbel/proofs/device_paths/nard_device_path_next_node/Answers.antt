@@ -2,10 +2,10 @@
 use Rattle.std.proofs.Common.{◌≡◌, ◌+◌, ◌<◌, ◌++◌, ◌∙◌, Some, ap, arith, drop, length, length-drop, rules, sym}
 use Rattle.std.proofs.lemmas.Grind.{common_steps}
 use Rattle.std.proofs.lemmas.List.{nil_from_length}
-use Rattle.uefi_device_nodes.specs.NodeFaults.{node_fault}
-use Rattle.uefi_device_nodes.specs.NodeViews.{node_of}
-use Rattle.uefi_device_nodes.specs.Nodes.{IsInner, end_entire, node_bytes}
-use Rattle.uefi_device_nodes.specs.declared.errors.NodeError.TheVariants.{Missing}
+use Rattle.uefi_device_path.specs.NodeFaults.{node_fault}
+use Rattle.uefi_device_path.specs.NodeViews.{node_of}
+use Rattle.uefi_device_path.specs.Nodes.{IsInner, end_entire, node_bytes}
+use Rattle.uefi_device_path.specs.NodeError.TheVariants.{Missing}
 use Rattle.nardcorbel.specs.DevicePaths.{node_in}
 use Rattle.uefi_device_path.proofs.Splits.{path_step}
 use Rattle.nardcorbel.proofs.Nodes.{left_from, never_faulty, node_stands, none_before_end}

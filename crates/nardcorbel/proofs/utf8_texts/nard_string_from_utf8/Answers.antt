@@ -1,50 +1,58 @@
 -- What was judged is what the bytes encode.
-use Rattle.std.proofs.Common.{◌∙◌, ap, sym, length, arith}
-use Rattle.std.proofs.lemmas.Str.{scalars-chars}
-use Rattle.std.specs.List.{find}
+use Rattle.std.proofs.Common.{◌≡◌, ◌≢◌, ◌∙◌, ◌<◌, ap, sym, refl, ℕ, List, Option, None, Some, length, arith}
+use Rattle.std.proofs.lemmas.Grind.{common_steps}
 use Rattle.std.specs.Str.{chars}
-use Rattle.uefi_text.specs.FromStr.{is_deciding_char}
-use Rattle.uefi_text.proofs.Texts.{IsText-chars, undecided-IsText}
+use Rattle.uefi_text.proofs.TextsInBuffers.{text_fits}
+use Rattle.uefi_text.proofs.Texts.{length-chars}
+use Rattle.nardcorbel.specs.Outcomes.{Shows, refusal_at, unless}
+use Rattle.nardcorbel.specs.Outcomes.Outcome.{Text}
 use Rattle.nardcorbel.specs.Reasons.{character_reason}
-use Rattle.nardcorbel.proofs.Judged.{all_before, no_room, none_found}
+use Rattle.nardcorbel.proofs.Judged.{all_before, has_room, no_room, none_found}
 use Rattle.nardcorbel.proofs.utf8_texts.nard_string_from_utf8.Goals as goal
 
-pub returns-then-reason-ne-OK-clause-reason : goal.returns-then-reason-ne-OK-clause-reason
-returns-then-reason-ne-OK-clause-reason c = λ _. λ is_text.
-    let same = ap chars c.in-Ok.ensures.cases.0 in
-    let none = ap (find is_deciding_char) same ∙ undecided-IsText (chars c.args.bytes.now) is_text in
-    absurd (omega (arith, c.if-reason-ne-OK.true, c.judge_text-reason.ensures.reason ∙ ap character_reason none))
+-- a text is refused for a character, or is written
+judged : (r : Option ℕ) (place before : ℕ) (text old : List ℕ) → character_reason r ≢ 0
+    → Shows (unless r (λ character. refusal_at (character_reason (Some character)) place) (Text text)) before old (character_reason r) place old
+judged None place before text old other = absurd (other refl)
+judged (Some character) place before text old other = record { reason = refl; place = refl; buffer = refl }
 
-pub returns-then-reason-ne-OK-clause-buffer : goal.returns-then-reason-ne-OK-clause-buffer
-returns-then-reason-ne-OK-clause-buffer c = λ _. λ is_text.
-    let same = ap chars c.in-Ok.ensures.cases.0 in
-    let none = ap (find is_deciding_char) same ∙ undecided-IsText (chars c.args.bytes.now) is_text in
-    absurd (omega (arith, c.if-reason-ne-OK.true, c.judge_text-reason.ensures.reason ∙ ap character_reason none))
+pub returns-then-reason-ne-OK : goal.returns-then-reason-ne-OK
+returns-then-reason-ne-OK c = rw (c.in-Ok.ensures.ok, c.judge_text-reason.ensures.reason, c.judge_text-reason.ensures.place)
+    (judged _ _ c.args.place.now (chars c.in-Ok.text.now) c.args.buffer.now (rw c.judge_text-reason.ensures.reason at c.if-reason-ne-OK.true))
 
-pub returns-then-buffer-len-clause-refused : goal.returns-then-buffer-len-clause-refused
-returns-then-buffer-len-clause-refused c = λ utf8. λ not_text.
-    let same = ap chars c.in-Ok.ensures.cases.0 in
+-- a text that is not refused is written, or has no room
+written : (r : Option ℕ) (place before number : ℕ) (text old : List ℕ) (returned : ℕ) (new : List ℕ) → 0 ≡ character_reason r
+    → Shows (Text text) before old returned number new
+    → Shows (unless r (λ character. refusal_at (character_reason (Some character)) place) (Text text)) before old returned number new
+written r place before number text old returned new none shown = rw (none_found r none) shown
+
+pub returns-then-buffer-len : goal.returns-then-buffer-len
+returns-then-buffer-len c =
+    let text = chars c.in-Ok.text.now in
     let none = none_found _ (sym c.if-reason-ne-OK.false ∙ c.judge_text-reason.ensures.reason) in
-    absurd (not_text (IsText-chars (chars c.args.bytes.now) (scalars-chars c.args.bytes.now utf8) (sym (ap (find is_deciding_char) same) ∙ none)))
-
-pub returns-then-buffer-len-clause-reason : goal.returns-then-buffer-len-clause-reason
-returns-then-buffer-len-clause-reason c = λ _. λ _.
-    let same = ap chars c.in-Ok.ensures.cases.0 in
-    let none = none_found _ (sym c.if-reason-ne-OK.false ∙ c.judge_text-reason.ensures.reason) in
-    let before = all_before (chars c.in-Ok.text.now) none in
-    (no_room (chars c.args.bytes.now) c.args.buffer.now
-    (omega (arith, ap length same, before, c.judge_text-reason.ensures.place, c.if-buffer-len.true))).0
-
-pub returns-then-buffer-len-clause-buffer : goal.returns-then-buffer-len-clause-buffer
-returns-then-buffer-len-clause-buffer c = λ _. λ _.
-    let same = ap chars c.in-Ok.ensures.cases.0 in
-    let none = none_found _ (sym c.if-reason-ne-OK.false ∙ c.judge_text-reason.ensures.reason) in
-    let before = all_before (chars c.in-Ok.text.now) none in
-    (no_room (chars c.args.bytes.now) c.args.buffer.now
-    (omega (arith, ap length same, before, c.judge_text-reason.ensures.place, c.if-buffer-len.true))).1
+    let len = c.judge_text-reason.ensures.place ∙ all_before text none in
+    let full = no_room text c.args.buffer.now (omega (arith, len, c.if-buffer-len.true)) in
+    let short = length-chars c.args.bytes.now c.in-Ok.ensures.utf8 in
+    rw c.in-Ok.ensures.ok
+    (written _ _ c.args.place.now _ text c.args.buffer.now _ _ (sym c.if-reason-ne-OK.false ∙ c.judge_text-reason.ensures.reason)
+    (record { reason = full.0; place = omega (arith, len, short, ap (λ x. length (chars x)) c.in-Ok.ensures.text); buffer = full.1 }))
 
 pub write_judged-requires-clause-room : goal.write_judged-requires-clause-room
 write_judged-requires-clause-room c =
     let none = none_found _ (sym c.if-reason-ne-OK.false ∙ c.judge_text-reason.ensures.reason) in
     let before = all_before (chars c.in-Ok.text.now) none in
     omega (arith, before, c.judge_text-reason.ensures.place, c.if-buffer-len.false)
+
+pub returns : goal.returns
+returns c =
+    let text = chars c.in-Ok.text.now in
+    let none = none_found _ (sym c.if-reason-ne-OK.false ∙ c.judge_text-reason.ensures.reason) in
+    let len = c.judge_text-reason.ensures.place ∙ all_before text none in
+    let room : length text < length c.args.buffer.now = omega (arith, len, c.if-buffer-len.false) in
+    rw c.in-Ok.ensures.ok
+    (written _ _ c.args.place.now _ text c.args.buffer.now _ _ (sym c.if-reason-ne-OK.false ∙ c.judge_text-reason.ensures.reason)
+    (record {
+      reason = c.write_judged.ensures.reason ∙ sym (has_room text c.args.buffer.now room);
+      place = grind (arith, common_steps, len);
+      buffer = c.write_judged.ensures.buffer ∙ text_fits text c.args.buffer.now room;
+    }))

@@ -1,0 +1,54 @@
+//! Where the path ends that a text in bytes begins with.
+ghost use Rattle.std.specs.Prelude.{◌≡◌, IsTrue};
+ghost use Rattle.uefi_device_path.specs.Styles.{is_copied};
+ghost use Rattle.uefi_device_path.specs.TextStyle.TheVariants.{Lenient, Libefivar};
+ghost use Rattle.nardcorbel.specs.Outcomes.{ShowsNumber};
+ghost use Rattle.nardcorbel.specs.TextFaults.{extent_outcome};
+
+use crate::outcomes::{Refusal, refuse, report};
+use crate::reasons::{NO_NODE, SCRATCH_TOO_SMALL};
+use uefi_device_path::{TextStyle, styled_text_extent};
+
+/// Reports how many bytes of a text are the path that it begins with in a style.
+fn find_extent(style: TextStyle, bytes: &[u8], scratch: &mut [u8], place: &mut usize) -> u32
+    requires { IsTrue (is_copied style) }
+    ensures { ShowsNumber (extent_outcome style bytes.now scratch.old) place.old result place.new }
+{
+    if scratch.len() <= bytes.len() {
+        return refuse(Refusal::at(SCRATCH_TOO_SMALL, bytes.len() + 1), place);
+    }
+    match styled_text_extent(style, bytes, scratch) {
+        Ok(end) => report::<Refusal>(Ok(end), place),
+        Err(fault) => refuse(Refusal::at(NO_NODE, fault.byte), place),
+    }
+}
+
+/// Reports how many bytes of a text, as people write it, are the path that it begins with, as
+/// [`lenient_text_extent`](uefi_device_path) does: programs print other data directly after a path.
+///
+/// A `scratch` that is not longer than these bytes is refused as `SCRATCH_TOO_SMALL`, and `place` becomes how
+/// many bytes it needs; then a text that begins with no path as `NO_NODE`, and `place` becomes the byte of it
+/// that is wrong, or its length. Else `place` becomes how many bytes the path has. What follows these need
+/// not be UTF-8. `scratch` then holds anything. Takes no memory.
+#[unsafe(no_mangle)]
+pub extern "C" fn nard_lenient_text_extent(
+    bytes: &[u8],
+    scratch: &mut [u8],
+    place: &mut usize,
+) -> u32
+    ensures { ShowsNumber (extent_outcome Lenient bytes.now scratch.old) place.old result place.new }
+{
+    find_extent(TextStyle::Lenient, bytes, scratch, place)
+}
+
+/// The same of a text that libefivar prints, as `nard_device_path_push_libefivar_text` reads it.
+#[unsafe(no_mangle)]
+pub extern "C" fn nard_libefivar_text_extent(
+    bytes: &[u8],
+    scratch: &mut [u8],
+    place: &mut usize,
+) -> u32
+    ensures { ShowsNumber (extent_outcome Libefivar bytes.now scratch.old) place.old result place.new }
+{
+    find_extent(TextStyle::Libefivar, bytes, scratch, place)
+}
