@@ -1,6 +1,7 @@
 //! What an entry says.
 use crate::growing_texts::text_of;
-use crate::optional_data::OptionalData;
+use crate::optional_data::{OptionalData, hexadecimal};
+use crate::variables::{Content, MOST_BYTES};
 use serde::Serialize;
 use std::alloc::{AllocError, Global};
 use std::fmt::{self, Write};
@@ -9,25 +10,20 @@ use uefi_device_path::{
     AllowShortcuts, DevicePathNode, DevicePathNodeIterator, DevicePaths, DisplayOnly,
     FilePathCause, LoadOption, LoadOptionParts, NodeConversionError, is_escaped,
 };
-use uefi_path::{Path, validate_path};
+use uefi_path::{Path, PathError, validate_path};
 use uefi_text::strs::Char16Slice;
 use uefi_text::{CStr16, FromSliceWithNulError, UnalignedSlice};
-
-/// More than firmware keeps of one variable, without its attributes.
-pub(crate) const MOST_BYTES: usize = 65536;
-
-/// The attributes of a variable that is kept, and seen at boot and at run time: the four bytes that
-/// Linux puts before it. No load option begins with these, since the third bit of its attributes is
-/// reserved.
-pub(crate) const VARIABLE_ATTRIBUTES: [u8; 4] = [7, 0, 0, 0];
 
 /// A file that an entry names.
 #[derive(Drop, Serialize)]
 pub(crate) struct File {
-    path: String,
+    pub(crate) path: String,
+
+    /// Where the path begins in the entry, or what is wrong with it.
+    pub(crate) offset: usize,
 
     /// Why the path is refused, if it is.
-    refused: Option<String>,
+    pub(crate) refused: Option<String>,
 
     /// The last component of a path that is accepted.
     file: Option<String>,
@@ -36,8 +32,8 @@ pub(crate) struct File {
 /// What is malformed in an entry, and at which offset.
 #[derive(Drop, Serialize)]
 pub(crate) struct Fault {
-    offset: usize,
-    reason: String,
+    pub(crate) offset: usize,
+    pub(crate) reason: String,
 }
 
 /// What is well in an entry, and what is malformed after that, or why its variable can't be read.
@@ -47,10 +43,45 @@ pub(crate) struct Shown {
     attributes: Option<u32>,
     description: Option<String>,
     device_paths: Vec<String>,
-    files: Vec<File>,
+    pub(crate) files: Vec<File>,
     optional_data: Option<OptionalData>,
-    malformed: Option<Fault>,
+    pub(crate) malformed: Option<Fault>,
     unreadable: Option<String>,
+}
+
+/// An entry as its bytes have it: they, in hexadecimal, and the units of the description, without its
+/// NUL.
+#[derive(Drop, Serialize)]
+pub(crate) struct Exact {
+    bytes: Option<String>,
+    description_units: Option<Vec<u16>>,
+}
+
+impl Exact {
+    pub(crate) fn of(alloc: Global, content: &Content<'_>) -> Result<Exact, fmt::Error> {
+        let Content::Bytes(bytes) = content else {
+            return Ok(Exact {
+                bytes: None,
+                description_units: None,
+            });
+        };
+        let described = match LoadOption::read_parts(bytes) {
+            Ok(option) => Some(option.description_units()),
+            Err(parts) => parts.description_units(),
+        };
+        let description_units = match described {
+            Some(units) => {
+                let mut units = units.to_vec(alloc)?;
+                units.pop();
+                Some(units)
+            }
+            None => None,
+        };
+        Ok(Exact {
+            bytes: Some(hexadecimal(alloc, bytes)?),
+            description_units,
+        })
+    }
 }
 
 pub(crate) fn push<T: Drop>(items: &mut Vec<T>, item: T) -> Result<(), AllocError> {
@@ -67,8 +98,8 @@ pub(crate) fn write_shown<W: Write>(out: &mut W, character: char) -> fmt::Result
     })
 }
 
-/// Whether a text holds a character that texts of device paths escape. Few hold more than printable ASCII,
-/// which holds none.
+/// Whether a text holds a character that texts of device paths escape. Few hold more than printable
+/// ASCII, which holds none.
 fn has_escaped(text: &str) -> bool {
     let is_ascii = text.bytes().all(|byte| 0x20 <= byte && byte < 0x7f);
     !is_ascii && text.chars().any(is_escaped)
@@ -112,19 +143,71 @@ fn shown_file_name(alloc: Global, path: Path<'_>) -> Result<Option<String>, fmt:
     }
 }
 
-/// A path with its verdict.
-fn shown_file(alloc: Global, string: CStr16<'_>) -> Result<File, fmt::Error> {
+const SEPARATOR: u16 = 0x5c;
+
+/// The first place of a unit, or else the end.
+fn place_of_unit(units: &[u16], wanted: u16) -> usize {
+    units
+        .iter()
+        .position(|unit| *unit == wanted)
+        .unwrap_or(units.len())
+}
+
+/// The place after a separator that another one follows, or else the end.
+fn place_of_empty_component(units: &[u16]) -> usize {
+    for place in 1..units.len() {
+        if units[place] == SEPARATOR && units[place - 1] == SEPARATOR {
+            return place;
+        }
+    }
+    units.len()
+}
+
+/// Where the component `..` begins that climbs above the start of a path, or else the end.
+fn place_of_climb(units: &[u16]) -> usize {
+    let (mut start, mut depth) = (0usize, 0usize);
+    for component in units.split(|unit| *unit == SEPARATOR) {
+        match component {
+            [0x2e, 0x2e] => {
+                if depth == 0 {
+                    return start;
+                }
+                depth = depth.saturating_sub(1);
+            }
+            [] | [0x2e] => {}
+            _ => depth = depth.saturating_add(1),
+        }
+        start = start.saturating_add(component.len()).saturating_add(1);
+    }
+    units.len()
+}
+
+/// At which unit of a path it is refused.
+fn place_of(units: &[u16], error: PathError) -> usize {
+    match error {
+        PathError::Empty => 0,
+        PathError::IllegalChar(character) => place_of_unit(units, u16::from(character)),
+        PathError::EmptyComponent => place_of_empty_component(units),
+        PathError::ClimbsAboveRoot => place_of_climb(units),
+    }
+}
+
+/// A path with its verdict, whose first unit is at an offset.
+fn shown_file(alloc: Global, offset: usize, string: CStr16<'_>) -> Result<File, fmt::Error> {
     let path = Path::new(string);
     let shown = shown_text(alloc, string.as_slice())?;
     let Err(error) = validate_path(path) else {
         return Ok(File {
             path: shown,
+            offset,
             refused: None,
             file: shown_file_name(alloc, path)?,
         });
     };
+    let place = place_of(string.as_slice().units(), error);
     Ok(File {
         path: shown,
+        offset: offset.saturating_add(place.saturating_mul(2)),
         refused: Some(format!(in alloc; "{error}")?),
         file: None,
     })
@@ -208,7 +291,10 @@ impl Shown {
     ) -> Result<bool, fmt::Error> {
         let error = match name.to_cstring16(alloc) {
             Ok(string) => {
-                push(&mut self.files, shown_file(alloc, string.as_cstr16())?)?;
+                push(
+                    &mut self.files,
+                    shown_file(alloc, offset, string.as_cstr16())?,
+                )?;
                 return Ok(true);
             }
             Err(error) => error,
@@ -335,13 +421,6 @@ impl Shown {
             Err(parts) => shown.add_parts(alloc, parts)?,
         }
         Ok(shown)
-    }
-
-    /// What the entry in a variable says, with or without the four bytes that Linux puts before it, as
-    /// [`Shown::of_entry`].
-    pub(crate) fn of_variable(alloc: Global, bytes: &[u8]) -> Result<Shown, fmt::Error> {
-        let entry = bytes.strip_prefix(&VARIABLE_ATTRIBUTES).unwrap_or(bytes);
-        Shown::of_entry(alloc, entry)
     }
 
     /// Writes it line by line.

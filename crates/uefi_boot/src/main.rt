@@ -1,62 +1,57 @@
-//! Prints what a machine boots: one boot entry from standard input, or all that a folder or files of
-//! variables hold.
+//! Prints, checks and changes what a machine boots: one boot entry from standard input, or all that
+//! a folder or files of variables hold.
 //!
 //! Without an argument, it prints the variables of the machine if standard input is a terminal.
 //! Otherwise, and for the argument `-`, it reads a variable `Boot####` from standard input: a load
-//! option (UEFI Specification 2.10, section 3.1.3), with or without the four bytes of the variable's
-//! attributes that Linux puts before it. It prints its attributes, its description, each file that it
-//! names, judged, and its optional data, as text if they are text.
+//! option (UEFI Specification 2.10, section 3.1.3), with or without the four bytes of the
+//! variable's attributes that Linux puts before it. It prints its attributes, its description, each
+//! file that it names, judged, and its optional data, as text if they are text.
 //!
-//! The arguments are files of variables, or folders of them: Linux's `efivars`, whose files are named
-//! by the variable and its GUID, or files that are named by the variable alone. It prints `BootOrder`,
-//! `BootCurrent`, `BootNext` and `Timeout`, and then each entry: those of the order first, in its
-//! order, and then the others by number. A file of a folder is opened only if its name is that of one
-//! of these variables. A variable that can't be read is printed with the cause.
+//! The arguments are files of variables, or folders of them: Linux's `efivars`, whose files are
+//! named by the variable and its GUID, or files that are named by the variable alone. It prints the
+//! orders, `BootCurrent`, `BootNext` and the other settings, and then each entry: those of the
+//! order first, in its order, and then the others by number. A file of a folder is opened only if
+//! its name is that of one of these variables, and an entry is printed as soon as its place is
+//! known. A variable that can't be read is printed with the cause.
 //!
-//! With `--json` it prints the same as JSON.
+//! With `--json` it prints the same as JSON. A first word that is a verb checks or changes variables.
 //!
-//! Ends with 0 if all is well; with 1 if a variable is malformed, which is printed with the reason and the
-//! offset in the entry; with 2 if a read of standard input or a write failed; with 3, and `out of memory` on
-//! standard error, if memory ran out; with 4 if a variable or a folder can't be read; with 5, and a message
-//! on standard error, if the arguments are wrong.
+//! Ends with 0 if all is well; with 1 if a variable is malformed, which is printed with the reason
+//! and the offset in the entry, or if a change is refused; with 2 if a read of standard input or a
+//! write of standard output failed; with 3, and `out of memory` on standard error, if memory ran
+//! out; with 4 if a variable or a folder can't be read; with 5, and a message on standard error, if
+//! the arguments are wrong; with 6 if a variable can't be written.
 #![tactic(auto)]
 
 ghost use Rattle.std.specs.Prelude.{◌≤◌, IfOk, length};
 
+mod arguments;
+mod changes;
+mod check;
+mod create;
+mod ends;
 mod entry;
 mod growing_texts;
+mod head;
+mod help;
 mod listing;
 mod optional_data;
 mod variables;
+mod verbs;
 
-use entry::Shown;
-use listing::Listing;
+use arguments::{Verb, meant_verb, refuse_option};
+use ends::{End, MALFORMED, Output, WRONG_ARGUMENTS, refuse, status_of};
+use entry::{Exact, Shown};
 use serde::Serialize;
-use std::io::{self, IsTerminal, Read, Write};
+use std::alloc::Global;
+use std::io::{self, IsTerminal, Read};
 use std::process::ExitCode;
 use std::{env, fmt, fs};
-use variables::{Failure, MOST_READ, Variables, read_all};
-
-const HELP: &str =
-    "usage: uefi_boot            prints the boot variables of this machine, or the entry on standard input
-       uefi_boot FOLDER     prints the boot variables of a folder, such as /sys/firmware/efi/efivars
-       uefi_boot FILE ..    prints those of files, named as Boot0000 or Boot0000-GUID
-       uefi_boot -          prints the boot entry on standard input
-       --json               prints it as JSON
-       -h, --help           prints this
-       --version            prints the version
-status: 0 well, 1 malformed, 2 a read or a write failed, 3 out of memory, 4 a variable can't be read,
-        5 wrong arguments
-";
+use variables::{Content, MOST_READ, OWN, find_all};
 
 const VERSION: &str = "uefi_boot 0.7.0\n";
 
-/// Where Linux has the variables of the machine.
-const OWN: &str = "/sys/firmware/efi/efivars";
-
-const NO_VARIABLE: &str = "no file is named as a boot variable, such as Boot0000 or BootOrder
-for one entry, write: uefi_boot < FILE
-";
+const OPTIONS: [&str; 4] = ["--json", "--help", "-h", "--version"];
 
 /// The bytes that a reader gives until its end, or until the buffer is full.
 fn fill<R: Read>(reader: &mut R, buffer: &mut [u8]) -> io::Result<usize>
@@ -73,171 +68,133 @@ fn fill<R: Read>(reader: &mut R, buffer: &mut [u8]) -> io::Result<usize>
     Ok(filled)
 }
 
-fn is_out_of_memory(rt: &HostRuntime) -> ExitCode {
-    // Nothing is left to do where standard error can't be written.
-    let _ = eprint!(rt; "out of memory\n");
-    ExitCode::from(3)
-}
-
-/// Writes an output. Ends with a status, or with 2 if the output can't be written.
-fn end(rt: &HostRuntime, output: &str, status: u8) -> ExitCode {
-    if io::writer(rt).write_all(output.as_bytes()).is_err() {
-        return ExitCode::from(2);
-    }
-    ExitCode::from(status)
-}
-
-/// Says what is wrong with the arguments.
-fn refuse_arguments(rt: &HostRuntime, message: &str) -> ExitCode {
-    // Nothing is left to do where standard error can't be written.
-    let _ = eprint!(rt; "{message}");
-    ExitCode::from(5)
-}
-
 /// How what is read is printed.
-#[derive(Clone, Copy)]
-enum Form {
+#[derive(Clone, Copy, PartialEq, Eq)]
+pub(crate) enum Form {
     Lines,
     Json,
 }
 
-/// The text of what is read, as JSON. No value here is one that JSON lacks, so it fails for memory alone.
-fn to_json<T: Serialize>(rt: &HostRuntime, value: &T) -> Result<String, fmt::Error> {
-    let Ok(mut text) = serde_json::to_string_pretty(rt.alloc(), value) else {
-        return Err(fmt::Error);
-    };
-    text.push('\n')?;
-    Ok(text)
-}
-
-/// What is printed of an entry.
-fn text_of_entry(rt: &HostRuntime, entry: &Shown, form: Form) -> Result<String, fmt::Error> {
-    match form {
-        Form::Json => to_json(rt, entry),
-        Form::Lines => {
-            let mut output = String::new(rt.alloc());
-            entry.write(&mut output)?;
-            Ok(output)
-        }
+/// A value as JSON, on one line. No value here is one that JSON lacks, so it fails for memory alone.
+pub(crate) fn to_json<T: Serialize>(alloc: Global, value: &T) -> Result<String, fmt::Error> {
+    match serde_json::to_string(alloc, value) {
+        Ok(text) => Ok(text),
+        Err(_) => Err(fmt::Error),
     }
 }
 
-/// What is printed of all variables.
-fn text_of_listing(rt: &HostRuntime, listing: &Listing, form: Form) -> Result<String, fmt::Error> {
-    match form {
-        Form::Json => to_json(rt, listing),
-        Form::Lines => {
-            let mut output = String::new(rt.alloc());
-            listing.write(&mut output)?;
-            Ok(output)
-        }
-    }
+/// An entry from standard input, in JSON.
+#[derive(Drop, Serialize)]
+struct Alone {
+    #[serde(flatten)]
+    entry: Shown,
+    #[serde(flatten)]
+    exact: Exact,
+}
+
+/// Prints a text.
+fn print_text(rt: &HostRuntime, text: &str) -> Result<u8, End> {
+    let mut out = Output::new(rt);
+    out.text.push_str(text)?;
+    out.flush()?;
+    Ok(0)
 }
 
 /// Prints the entry that standard input is.
-fn print_entry(rt: &HostRuntime, form: Form) -> ExitCode {
+fn print_entry(rt: &HostRuntime, form: Form) -> Result<u8, End> {
+    let alloc = rt.alloc();
     let mut buffer = [0; MOST_READ];
     let Ok(count) = fill(&mut rt.reader(), &mut buffer) else {
-        return ExitCode::from(2);
+        return Err(End::NoStream);
     };
-    let Ok(entry) = Shown::of_variable(rt.alloc(), &buffer[..count]) else {
-        return is_out_of_memory(rt);
-    };
-    match text_of_entry(rt, &entry, form) {
-        Ok(output) => end(rt, output.as_str(), if entry.is_well() { 0 } else { 1 }),
-        Err(_) => is_out_of_memory(rt),
+    let bytes = variables::without_attributes(&buffer[..count]);
+    let entry = Shown::of_entry(alloc, bytes)?;
+    let status = if entry.is_well() { 0 } else { MALFORMED };
+    let mut out = Output::new(rt);
+    match form {
+        Form::Lines => entry.write(&mut out.text)?,
+        Form::Json => {
+            let exact = Exact::of(alloc, &Content::Bytes(bytes))?;
+            let json = to_json(alloc, &Alone { entry, exact })?;
+            out.text.push_str(json.as_str())?;
+            out.text.push('\n')?;
+        }
     }
-}
-
-/// Prints what variables say.
-fn print_listing(rt: &HostRuntime, variables: &Variables, form: Form) -> ExitCode {
-    let Ok(listing) = Listing::of(rt.alloc(), variables) else {
-        return is_out_of_memory(rt);
-    };
-    let status = if !listing.is_read() {
-        4
-    } else if listing.is_well() {
-        0
-    } else {
-        1
-    };
-    match text_of_listing(rt, &listing, form) {
-        Ok(output) => end(rt, output.as_str(), status),
-        Err(_) => is_out_of_memory(rt),
-    }
-}
-
-/// Prints the variables of files and folders.
-fn print_files(rt: &HostRuntime, names: &[String], form: Form) -> ExitCode {
-    match read_all(rt, names) {
-        Ok(variables) => print_listing(rt, &variables, form),
-        Err(Failure::OutOfMemory) => is_out_of_memory(rt),
-        Err(Failure::Unreadable) => ExitCode::from(4),
-        Err(Failure::NoVariable) => refuse_arguments(rt, NO_VARIABLE),
-    }
+    out.flush()?;
+    Ok(status)
 }
 
 /// Prints what there is without an argument: standard input, unless that is a terminal, or else the
 /// variables of the machine.
-fn print_own(rt: &HostRuntime, mut names: Vec<String>, form: Form) -> ExitCode {
+fn print_own(rt: &HostRuntime, form: Form) -> Result<u8, End> {
     if !rt.stdin().is_terminal() {
         return print_entry(rt, form);
     }
     if !fs::metadata(rt, OWN).is_ok_and(|found| found.is_dir()) {
-        return refuse_arguments(rt, HELP);
+        let help = help::PROGRAM;
+        return Err(refuse(rt, WRONG_ARGUMENTS, format_args!("{help}")));
     }
-    let Ok(own) = String::from_str(rt.alloc(), OWN) else {
-        return is_out_of_memory(rt);
-    };
-    if names.push(own).is_err() {
-        return is_out_of_memory(rt);
-    }
-    print_files(rt, &names, form)
+    let own = [String::from_str(rt.alloc(), OWN)?];
+    listing::print(rt, &find_all(rt, &own)?, form)
 }
 
-/// The option that begins like a text, or else that for help.
-fn nearest(option: &str) -> &'static str {
-    if option.starts_with("--j") {
-        "--json"
-    } else if option.starts_with("--v") {
-        "--version"
-    } else {
-        "--help"
-    }
-}
-
-/// Says that there is no option of a name, and which one begins like it.
-fn refuse_option(rt: &HostRuntime, option: &str) -> ExitCode {
-    let nearest = nearest(option);
-    // Nothing is left to do where standard error can't be written.
-    let _ = eprint!(rt; "there is no option {option}: did you mean {nearest}?\n");
-    ExitCode::from(5)
-}
-
-fn main(rt: HostRuntime) -> ExitCode {
-    let Ok(arguments) = env::args(&rt) else {
-        return is_out_of_memory(&rt);
-    };
-    let mut names = Vec::new(rt.alloc());
-    let mut form = Form::Lines;
-    for argument in arguments.skip(1) {
-        match argument.as_str() {
-            "-h" | "--help" => return end(&rt, HELP, 0),
-            "--version" => return end(&rt, VERSION, 0),
-            "--json" => form = Form::Json,
-            option if option.starts_with("-") && option != "-" => {
-                return refuse_option(&rt, option);
-            }
-            _ => {
-                if names.push(argument).is_err() {
-                    return is_out_of_memory(&rt);
-                }
+/// Prints the variables of files and folders.
+fn print_files(rt: &HostRuntime, names: &[String], form: Form) -> Result<u8, End> {
+    if let [name, ..] = names {
+        let name = name.as_str();
+        if !name.contains("/") && fs::metadata(rt, name).is_err() {
+            if let Some(verb) = meant_verb(rt.alloc(), name)? {
+                let message = format_args!(
+                    "there is no verb and no file {name}: did you mean {verb}?"
+                );
+                return Err(refuse(rt, WRONG_ARGUMENTS, message));
             }
         }
     }
-    match names.as_slice() {
-        [] => print_own(&rt, names, form),
-        [name] if name.as_str() == "-" => print_entry(&rt, form),
-        _ => print_files(&rt, &names, form),
+    listing::print(rt, &find_all(rt, names)?, form)
+}
+
+/// Does what the words say that are no verb's.
+fn show(rt: &HostRuntime, words: Vec<String>) -> Result<u8, End> {
+    let mut names = Vec::new(rt.alloc());
+    let mut form = Form::Lines;
+    for word in words {
+        match word.as_str() {
+            "-h" | "--help" => return print_text(rt, help::PROGRAM),
+            "--version" => return print_text(rt, VERSION),
+            "--json" => form = Form::Json,
+            option if option.starts_with("-") && option != "-" => {
+                return Err(refuse_option(rt, option, &OPTIONS));
+            }
+            _ => names.push(word)?,
+        }
     }
+    match names.as_slice() {
+        [] => print_own(rt, form),
+        [name] if name.as_str() == "-" => print_entry(rt, form),
+        _ => print_files(rt, &names, form),
+    }
+}
+
+fn run(rt: &HostRuntime) -> Result<u8, End> {
+    let Ok(arguments) = env::args(rt) else {
+        return Err(End::OutOfMemory);
+    };
+    let mut words = Vec::new(rt.alloc());
+    for word in arguments.skip(1) {
+        words.push(word)?;
+    }
+    let verb = match words.first() {
+        Some(word) => Verb::of_word(word.as_str()),
+        None => None,
+    };
+    match (verb, words.get(1..)) {
+        (Some(verb), Some(rest)) => verbs::run(rt, verb, rest),
+        _ => show(rt, words),
+    }
+}
+
+fn main(rt: HostRuntime) -> ExitCode {
+    let result = run(&rt);
+    status_of(&rt, result)
 }

@@ -13,6 +13,15 @@ pub(crate) struct OptionalData {
     hexadecimal: String,
 }
 
+/// Bytes in hexadecimal.
+pub(crate) fn hexadecimal(alloc: Global, bytes: &[u8]) -> Result<String, fmt::Error> {
+    let mut text = String::new(alloc);
+    for byte in bytes {
+        write!(text, "{byte:02x}")?;
+    }
+    Ok(text)
+}
+
 /// Bytes without one NUL at their end.
 fn without_nul(bytes: &[u8]) -> &[u8] {
     bytes.strip_suffix(&[0]).unwrap_or(bytes)
@@ -70,14 +79,10 @@ impl OptionalData {
         if bytes.is_empty() {
             return Ok(None);
         }
-        let mut hexadecimal = String::new(alloc);
-        for byte in bytes {
-            write!(hexadecimal, "{byte:02x}")?;
-        }
         let mut data = OptionalData {
             encoding: None,
             text: None,
-            hexadecimal,
+            hexadecimal: hexadecimal(alloc, bytes)?,
         };
         if let Some(text) = ascii_text(alloc, bytes)? {
             data.encoding = Some("ASCII");

@@ -1,63 +1,137 @@
-//! The variables of a machine, read from files.
+//! The variables of a machine: their names, and where their files are.
 ghost use Rattle.std.specs.Prelude.{◌≤◌, IfOk, length};
 
-use crate::entry::{MOST_BYTES, VARIABLE_ATTRIBUTES};
+use crate::ends::{End, UNREADABLE, WRONG_ARGUMENTS, refuse};
 use crate::fill;
 use std::alloc::AllocError;
+use std::fmt::{self, Write};
 use std::{fs, io};
 use uefi_boot_variables::{LoadOptionKind, LoadOptionName};
 
-/// What Linux's `efivars` puts after the name of a variable that the UEFI Specification defines: its GUID
+/// What Linux's `efivars` puts after the name of a variable that the UEFI Specification defines: its
+/// GUID
 /// (section 3.3).
 const GLOBAL: &str = "-8be4df61-93ca-11d2-aa0d-00e098032b8c";
+
+/// More than firmware keeps of one variable, without its attributes.
+pub(crate) const MOST_BYTES: usize = 65536;
+
+/// The attributes of a variable that is kept, and seen at boot and at run time: the four bytes that
+/// Linux puts before it. No load option begins with these, since the third bit of its attributes is
+/// reserved.
+pub(crate) const VARIABLE_ATTRIBUTES: [u8; 4] = [7, 0, 0, 0];
+
+/// The entry in a variable, with or without the four bytes that Linux puts before it.
+pub(crate) fn without_attributes(bytes: &[u8]) -> &[u8] {
+    bytes.strip_prefix(&VARIABLE_ATTRIBUTES).unwrap_or(bytes)
+}
+
+/// Where Linux has the variables of the machine.
+pub(crate) const OWN: &str = "/sys/firmware/efi/efivars";
 
 /// One byte more than the longest variable has, with its attributes.
 pub(crate) const MOST_READ: usize = VARIABLE_ATTRIBUTES.len() + MOST_BYTES + 1;
 
-/// Why variables are not read.
-#[derive(Drop)]
-pub(crate) enum Failure {
-    /// A message says which path can't be read.
-    Unreadable,
-    /// No file has the name of a boot variable.
-    NoVariable,
-    OutOfMemory,
+/// A variable that the program reads, in the order in which it prints them.
+#[derive(Clone, Copy, PartialEq, Eq, PartialOrd, Ord)]
+pub(crate) enum Variable {
+    BootOrder,
+    BootCurrent,
+    BootNext,
+    Timeout,
+    DriverOrder,
+    SysPrepOrder,
+    OsIndications,
+    OsIndicationsSupported,
+    Boot(u16),
+    Driver(u16),
+    SysPrep(u16),
+    PlatformRecovery(u16),
 }
 
-impl From<AllocError> for Failure {
-    fn from(_error: AllocError) -> Failure {
-        Failure::OutOfMemory
+impl Variable {
+    /// The variable of a name, if it is one that the program reads.
+    fn of_name(name: &str) -> Option<Variable> {
+        match name {
+            "BootOrder" => Some(Variable::BootOrder),
+            "BootCurrent" => Some(Variable::BootCurrent),
+            "BootNext" => Some(Variable::BootNext),
+            "Timeout" => Some(Variable::Timeout),
+            "DriverOrder" => Some(Variable::DriverOrder),
+            "SysPrepOrder" => Some(Variable::SysPrepOrder),
+            "OsIndications" => Some(Variable::OsIndications),
+            "OsIndicationsSupported" => Some(Variable::OsIndicationsSupported),
+            _ => match LoadOptionName::from_text(name) {
+                Some(option) => Some(Variable::of_kind(option.kind, option.number)),
+                None => None,
+            },
+        }
+    }
+
+    /// The entry of a kind with a number.
+    pub(crate) fn of_kind(kind: LoadOptionKind, number: u16) -> Variable {
+        match kind {
+            LoadOptionKind::Boot => Variable::Boot(number),
+            LoadOptionKind::Driver => Variable::Driver(number),
+            LoadOptionKind::SysPrep => Variable::SysPrep(number),
+            LoadOptionKind::PlatformRecovery => Variable::PlatformRecovery(number),
+        }
+    }
+
+    /// The name of the load option, if the variable is one.
+    pub(crate) fn option(self) -> Option<LoadOptionName> {
+        let (kind, number) = match self {
+            Variable::Boot(number) => (LoadOptionKind::Boot, number),
+            Variable::Driver(number) => (LoadOptionKind::Driver, number),
+            Variable::SysPrep(number) => (LoadOptionKind::SysPrep, number),
+            Variable::PlatformRecovery(number) => (LoadOptionKind::PlatformRecovery, number),
+            _ => return None,
+        };
+        Some(LoadOptionName { kind, number })
+    }
+
+    /// The name of a variable that is no load option.
+    fn word(self) -> &'static str {
+        match self {
+            Variable::BootOrder => "BootOrder",
+            Variable::BootCurrent => "BootCurrent",
+            Variable::BootNext => "BootNext",
+            Variable::Timeout => "Timeout",
+            Variable::DriverOrder => "DriverOrder",
+            Variable::SysPrepOrder => "SysPrepOrder",
+            Variable::OsIndications => "OsIndications",
+            _ => "OsIndicationsSupported",
+        }
     }
 }
 
-/// A variable that the program prints.
-#[derive(Clone, Copy, PartialEq, Eq, PartialOrd, Ord)]
-pub(crate) enum Variable {
-    Order,
-    Current,
-    Next,
-    Timeout,
-    /// The entry of this number.
-    Entry(u16),
+impl fmt::Display for Variable {
+    fn fmt<W: fmt::Write>(&self, f: &mut fmt::Formatter<W>) -> fmt::Result {
+        match self.option() {
+            Some(option) => write!(f, "{option}"),
+            None => f.write_str(self.word()),
+        }
+    }
 }
 
 /// What a file holds of a variable, without its attributes, or why the file can't be read.
 #[derive(Drop)]
-pub(crate) enum Content {
-    Bytes(Vec<u8>),
+pub(crate) enum Content<'b> {
+    Bytes(&'b [u8]),
     /// The file ends within the four bytes of the variable's attributes.
     TooShort,
     Unreadable(String),
 }
 
-/// A variable, and what its file holds.
-#[derive(Drop)]
-pub(crate) struct Found {
+/// A variable, and where its file is.
+#[derive(Clone, Copy)]
+pub(crate) struct Source {
     pub(crate) variable: Variable,
-    pub(crate) content: Content,
     /// Whether the file's name has a GUID after the variable's name, as in Linux's `efivars`.
-    has_guid: bool,
-    file: String,
+    pub(crate) has_guid: bool,
+    /// The place of the file or its folder among the arguments.
+    argument: usize,
+    is_in_folder: bool,
 }
 
 /// A file that is not printed, and why.
@@ -67,32 +141,23 @@ pub(crate) struct PassedOver {
     pub(crate) reason: &'static str,
 }
 
-/// The boot variables of a machine, each once, in the order of `Variable`.
+/// The boot variables of files and folders, each once, in the order of `Variable`.
 #[derive(Drop)]
-pub(crate) struct Variables {
-    pub(crate) found: Vec<Found>,
+pub(crate) struct Variables<'a> {
+    rt: &'a HostRuntime,
+    arguments: &'a [String],
+    pub(crate) sources: Vec<Source>,
     pub(crate) passed_over: Vec<PassedOver>,
 }
+
+const NO_VARIABLE: &str = "no file is named as a boot variable, such as Boot0000 or BootOrder
+for one entry, write: uefi_boot < FILE";
 
 /// The part of a path after its last slash.
 fn file_name(path: &str) -> &str {
     match path.rsplit_once('/') {
         Some((_, name)) => name,
         None => path,
-    }
-}
-
-/// The variable of a name, if it is one that the program prints.
-fn variable_of(name: &str) -> Option<Variable> {
-    match name {
-        "BootOrder" => Some(Variable::Order),
-        "BootCurrent" => Some(Variable::Current),
-        "BootNext" => Some(Variable::Next),
-        "Timeout" => Some(Variable::Timeout),
-        _ => match LoadOptionName::from_text(name) {
-            Some(name) if name.kind == LoadOptionKind::Boot => Some(Variable::Entry(name.number)),
-            _ => None,
-        },
     }
 }
 
@@ -104,14 +169,12 @@ fn has_lowercase_digits(name: &str) -> bool {
     }
 }
 
-/// The message for a path that can't be read.
-fn unreadable(rt: &HostRuntime, path: &str, error: &io::Error) -> Failure {
+/// Says that a path can't be read.
+pub(crate) fn unreadable(rt: &HostRuntime, path: &str, error: &io::Error) -> End {
     if matches!(error.kind(), io::ErrorKind::OutOfMemory) {
-        return Failure::OutOfMemory;
+        return End::OutOfMemory;
     }
-    // Nothing is left to do where standard error can't be written.
-    let _ = eprint!(rt; "cannot read {path}: {error}\n");
-    Failure::Unreadable
+    refuse(rt, UNREADABLE, format_args!("cannot read {path}: {error}"))
 }
 
 /// Reads a file into a buffer, and returns how many bytes it has, or that the buffer is full.
@@ -125,150 +188,206 @@ fn read_file(rt: &HostRuntime, path: &str, buffer: &mut [u8]) -> io::Result<usiz
     fill(&mut fs::open(rt, path)?, buffer)
 }
 
-/// The part of a file after the variable's attributes, if they are there.
-fn without_attributes(variable: Variable, has_guid: bool, bytes: &[u8]) -> Option<&[u8]> {
+/// How many bytes of a file are the variable's attributes: four, or none if the file is a dump of
+/// the value alone. `None` if the file is too short.
+pub(crate) fn attributes_len(variable: Variable, has_guid: bool, bytes: &[u8]) -> Option<usize> {
     if has_guid {
-        return bytes.get(VARIABLE_ATTRIBUTES.len()..);
+        return if bytes.len() < VARIABLE_ATTRIBUTES.len() {
+            None
+        } else {
+            Some(VARIABLE_ATTRIBUTES.len())
+        };
     }
-    match variable {
-        Variable::Entry(_) => Some(bytes.strip_prefix(&VARIABLE_ATTRIBUTES).unwrap_or(bytes)),
-        _ => Some(bytes),
+    if variable.option().is_some() && bytes.starts_with(&VARIABLE_ATTRIBUTES) {
+        return Some(VARIABLE_ATTRIBUTES.len());
     }
+    Some(0)
 }
 
-impl Variables {
+impl<'a> Variables<'a> {
     /// Notes a file that is not printed.
-    fn pass_over(
-        &mut self,
-        rt: &HostRuntime,
-        file: &str,
-        reason: &'static str,
-    ) -> Result<(), AllocError> {
-        let file = String::from_str(rt.alloc(), file)?;
+    fn pass_over(&mut self, file: &str, reason: &'static str) -> Result<(), AllocError> {
+        let file = String::from_str(self.rt.alloc(), file)?;
         self.passed_over.push(PassedOver { file, reason })?;
         Ok(())
     }
 
-    /// Reads a file, if its name is that of a boot variable, and says whether it is.
-    fn read(
-        &mut self,
-        rt: &HostRuntime,
-        path: &str,
-        buffer: &mut [u8],
-    ) -> Result<bool, AllocError> {
+    /// Adds a file, if its name is that of a boot variable, and says whether it is.
+    fn add(&mut self, path: &str, argument: usize, is_in_folder: bool) -> Result<bool, AllocError> {
         let file = file_name(path);
         let (name, has_guid) = match file.strip_suffix(GLOBAL) {
             Some(name) => (name, true),
             None => (file, false),
         };
-        let Some(variable) = variable_of(name) else {
+        let Some(variable) = Variable::of_name(name) else {
             if has_lowercase_digits(name) {
-                self.pass_over(rt, file, "the digits of a variable's name are upper-case")?;
+                self.pass_over(file, "the digits of a variable's name are upper-case")?;
                 return Ok(true);
             }
             return Ok(false);
         };
-        let content = match read_file(rt, path, buffer) {
-            Ok(count) => match without_attributes(variable, has_guid, &buffer[..count]) {
-                Some(value) => Content::Bytes(Vec::from_slice(rt.alloc(), value)?),
-                None => Content::TooShort,
-            },
-            Err(error) => match error.kind() {
-                io::ErrorKind::OutOfMemory => return Err(AllocError),
-                io::ErrorKind::InvalidInput => {
-                    Content::Unreadable(String::from_str(rt.alloc(), "not a file")?)
-                }
-                _ => Content::Unreadable(format!(in rt.alloc(); "{error}")?),
-            },
-        };
-        let file = String::from_str(rt.alloc(), file)?;
-        self.found.push(Found {
+        self.sources.push(Source {
             variable,
-            content,
             has_guid,
-            file,
+            argument,
+            is_in_folder,
         })?;
         Ok(true)
     }
 
-    /// Reads the files of a folder.
-    fn read_folder(
-        &mut self,
-        rt: &HostRuntime,
-        path: &str,
-        buffer: &mut [u8],
-    ) -> Result<(), Failure> {
-        let files = match fs::read_dir(rt, path) {
+    /// Adds the files of a folder.
+    fn add_folder(&mut self, path: &str, argument: usize) -> Result<(), End> {
+        let files = match fs::read_dir(self.rt, path) {
             Ok(files) => files,
-            Err(error) => return Err(unreadable(rt, path, &error)),
+            Err(error) => return Err(unreadable(self.rt, path, &error)),
         };
         for file in files {
             match file {
                 Ok(file) => {
-                    self.read(rt, file.path().to_string_lossy(), buffer)?;
+                    self.add(file.file_name(), argument, true)?;
                 }
-                Err(error) => return Err(unreadable(rt, path, &error)),
+                Err(error) => return Err(unreadable(self.rt, path, &error)),
             }
         }
         Ok(())
     }
 
-    /// Sorts the variables, and keeps each once: from the file that has a GUID in its name, if there is one,
-    /// or else from the first that was read.
-    fn keep_each_once(self, rt: &HostRuntime) -> Result<Variables, AllocError> {
-        let Variables {
-            mut found,
-            passed_over,
-        } = self;
-        found.sort_by_key(|it| (it.variable, !it.has_guid))?;
-        let mut kept = Variables {
-            found: Vec::new(rt.alloc()),
-            passed_over,
-        };
-        for it in found {
-            if kept
-                .found
-                .last()
-                .is_some_and(|last| last.variable == it.variable)
-            {
-                kept.pass_over(rt, it.file.as_str(), "another file has the same variable")?;
+    /// Sorts the variables, and keeps each once: the file that has a GUID in its name, if there is
+    /// one, or else the first that was found.
+    fn keep_each_once(&mut self) -> Result<(), AllocError> {
+        self.sources.sort_by_key(|it| (it.variable, !it.has_guid))?;
+        let mut kept: Vec<Source> = Vec::with_capacity(self.rt.alloc(), self.sources.len())?;
+        let sources = std::mem::replace(&mut self.sources, Vec::new(self.rt.alloc()));
+        for it in &sources {
+            let is_known = match kept.last() {
+                Some(last) => last.variable == it.variable,
+                None => false,
+            };
+            if is_known {
+                let path = self.path_of(it)?;
+                self.pass_over(
+                    file_name(path.as_str()),
+                    "another file has the same variable",
+                )?;
             } else {
-                kept.found.push(it)?;
+                kept.push(*it)?;
             }
         }
-        Ok(kept)
+        self.sources = kept;
+        Ok(())
+    }
+
+    /// The path of a variable's file.
+    pub(crate) fn path_of(&self, source: &Source) -> Result<String, AllocError> {
+        let alloc = self.rt.alloc();
+        let argument = match self.arguments.get(source.argument) {
+            Some(argument) => argument.as_str(),
+            None => "",
+        };
+        if !source.is_in_folder {
+            return String::from_str(alloc, argument);
+        }
+        file_in(alloc, argument, source.variable, source.has_guid)
+    }
+
+    /// The variable's file, if it has one.
+    pub(crate) fn find(&self, variable: Variable) -> Option<Source> {
+        match self
+            .sources
+            .binary_search_by_key(&variable, |it| it.variable)
+        {
+            Ok(place) => self.sources.get(place).copied(),
+            Err(_) => None,
+        }
+    }
+
+    /// Reads a file whole, with the variable's attributes.
+    pub(crate) fn read_all<'b>(
+        &self,
+        source: &Source,
+        buffer: &'b mut [u8],
+    ) -> Result<Content<'b>, AllocError> {
+        let alloc = self.rt.alloc();
+        let path = self.path_of(source)?;
+        let error = match read_file(self.rt, path.as_str(), buffer) {
+            Ok(count) => return Ok(Content::Bytes(&buffer[..count])),
+            Err(error) => error,
+        };
+        match error.kind() {
+            io::ErrorKind::OutOfMemory => Err(AllocError),
+            io::ErrorKind::InvalidInput => {
+                Ok(Content::Unreadable(String::from_str(alloc, "not a file")?))
+            }
+            _ => Ok(Content::Unreadable(format!(in alloc; "{error}")?)),
+        }
+    }
+
+    /// Reads a variable's value.
+    pub(crate) fn read<'b>(
+        &self,
+        source: &Source,
+        buffer: &'b mut [u8],
+    ) -> Result<Content<'b>, AllocError> {
+        let bytes = match self.read_all(source, buffer)? {
+            Content::Bytes(bytes) => bytes,
+            other => return Ok(other),
+        };
+        match attributes_len(source.variable, source.has_guid, bytes) {
+            Some(len) => Ok(match bytes.get(len..) {
+                Some(value) => Content::Bytes(value),
+                None => Content::TooShort,
+            }),
+            None => Ok(Content::TooShort),
+        }
     }
 }
 
-/// Reads the variables of files, or of the folders among them.
-pub(crate) fn read_all(rt: &HostRuntime, paths: &[String]) -> Result<Variables, Failure> {
+/// The path of a variable's file in a folder.
+pub(crate) fn file_in(
+    alloc: std::alloc::Global,
+    folder: &str,
+    variable: Variable,
+    has_guid: bool,
+) -> Result<String, AllocError> {
+    let slash = if folder.ends_with('/') { "" } else { "/" };
+    let guid = if has_guid { GLOBAL } else { "" };
+    format!(in alloc; "{folder}{slash}{variable}{guid}")
+}
+
+/// Finds the variables of files, or of the folders among them.
+pub(crate) fn find_all<'a>(
+    rt: &'a HostRuntime,
+    arguments: &'a [String],
+) -> Result<Variables<'a>, End> {
     let mut variables = Variables {
-        found: Vec::new(rt.alloc()),
+        rt,
+        arguments,
+        sources: Vec::new(rt.alloc()),
         passed_over: Vec::new(rt.alloc()),
     };
-    let mut buffer = [0; MOST_READ];
     let mut has_variables = false;
-    for path in paths {
+    for (argument, path) in arguments.iter().enumerate() {
         let path = path.as_str();
         match fs::metadata(rt, path) {
             Ok(found) if found.is_dir() => {
-                variables.read_folder(rt, path, &mut buffer)?;
+                variables.add_folder(path, argument)?;
                 has_variables = true;
             }
             Err(error) if !matches!(error.kind(), io::ErrorKind::PermissionDenied) => {
                 return Err(unreadable(rt, path, &error));
             }
             _ => {
-                if variables.read(rt, path, &mut buffer)? {
+                if variables.add(path, argument, false)? {
                     has_variables = true;
                 } else {
-                    variables.pass_over(rt, path, "the name is not that of a boot variable")?;
+                    variables.pass_over(path, "the name is not that of a boot variable")?;
                 }
             }
         }
     }
     if !has_variables {
-        return Err(Failure::NoVariable);
+        return Err(refuse(rt, WRONG_ARGUMENTS, format_args!("{NO_VARIABLE}")));
     }
-    Ok(variables.keep_each_once(rt)?)
+    variables.keep_each_once()?;
+    Ok(variables)
 }

@@ -1,0 +1,276 @@
+//! The words after the program's name: its verbs, their options, and what is nearest to a wrong one.
+use crate::ends::{End, WRONG_ARGUMENTS, refuse};
+use crate::help;
+use std::alloc::{AllocError, Global};
+use strsim::levenshtein;
+
+/// What the program does to variables, besides printing them.
+#[derive(Clone, Copy, PartialEq, Eq)]
+pub(crate) enum Verb {
+    Check,
+    Create,
+    Delete,
+    Order,
+    First,
+    Next,
+    Activate,
+    Deactivate,
+    Rename,
+    Timeout,
+}
+
+const VERBS: [&str; 10] = [
+    "check",
+    "create",
+    "delete",
+    "order",
+    "first",
+    "next",
+    "activate",
+    "deactivate",
+    "rename",
+    "timeout",
+];
+
+impl Verb {
+    /// The verb that a word is.
+    pub(crate) fn of_word(word: &str) -> Option<Verb> {
+        match word {
+            "check" => Some(Verb::Check),
+            "create" => Some(Verb::Create),
+            "delete" => Some(Verb::Delete),
+            "order" => Some(Verb::Order),
+            "first" => Some(Verb::First),
+            "next" => Some(Verb::Next),
+            "activate" => Some(Verb::Activate),
+            "deactivate" => Some(Verb::Deactivate),
+            "rename" => Some(Verb::Rename),
+            "timeout" => Some(Verb::Timeout),
+            _ => None,
+        }
+    }
+
+    /// How the verb is used.
+    pub(crate) fn help(self) -> &'static str {
+        match self {
+            Verb::Check => help::CHECK,
+            Verb::Create => help::CREATE,
+            Verb::Delete => help::DELETE,
+            Verb::Order => help::ORDER,
+            Verb::First => help::FIRST,
+            Verb::Next => help::NEXT,
+            Verb::Activate => help::ACTIVATE,
+            Verb::Deactivate => help::DEACTIVATE,
+            Verb::Rename => help::RENAME,
+            Verb::Timeout => help::TIMEOUT,
+        }
+    }
+
+    /// The options that take a value in the next word.
+    fn values(self) -> &'static [&'static str] {
+        match self {
+            Verb::Create => &[
+                "--variables",
+                "--description",
+                "--path",
+                "--disk",
+                "--partition",
+                "--start",
+                "--size",
+                "--loader",
+                "--data",
+                "--data-ascii",
+                "--data-hex",
+                "--number",
+            ],
+            Verb::Check => &["--variables", "--esp", "--disks"],
+            _ => &["--variables"],
+        }
+    }
+
+    /// The options that take no value.
+    fn flags(self) -> &'static [&'static str] {
+        match self {
+            Verb::Check => &["--help"],
+            Verb::Create => &["--help", "--dry-run", "--inactive"],
+            Verb::Order | Verb::Next | Verb::Timeout => &["--help", "--dry-run", "--force"],
+            _ => &["--help", "--dry-run"],
+        }
+    }
+
+    /// How few and how many words the verb takes that are no options.
+    fn counts(self) -> (usize, usize) {
+        match self {
+            Verb::Check | Verb::Create => (0, 0),
+            Verb::Order => (1, usize::MAX),
+            Verb::Rename => (2, 2),
+            _ => (1, 1),
+        }
+    }
+}
+
+/// The candidate that begins with a word, or else that with the fewest edits from it, and how many
+/// these are.
+fn nearest(
+    alloc: Global,
+    word: &str,
+    candidates: &[&'static str],
+) -> Result<(&'static str, usize), AllocError> {
+    let (mut best, mut fewest) = ("--help", usize::MAX);
+    for candidate in candidates {
+        let edits = if candidate.starts_with(word) {
+            0
+        } else {
+            levenshtein(alloc, word, candidate)?
+        };
+        if edits < fewest {
+            best = candidate;
+            fewest = edits;
+        }
+    }
+    Ok((best, fewest))
+}
+
+/// Says that there is no option of a name, and which one is nearest.
+pub(crate) fn refuse_option(rt: &HostRuntime, option: &str, options: &[&'static str]) -> End {
+    match nearest(rt.alloc(), option, options) {
+        Ok((best, _)) => refuse(
+            rt,
+            WRONG_ARGUMENTS,
+            format_args!("there is no option {option}: did you mean {best}?"),
+        ),
+        Err(error) => End::from(error),
+    }
+}
+
+/// The verb that a word without a file may have meant.
+pub(crate) fn meant_verb(alloc: Global, word: &str) -> Result<Option<&'static str>, AllocError> {
+    let (best, edits) = nearest(alloc, word, &VERBS)?;
+    Ok(if edits <= 2 { Some(best) } else { None })
+}
+
+/// The words after a verb.
+#[derive(Drop)]
+pub(crate) struct Words<'a> {
+    verb: Verb,
+    words: &'a [String],
+    /// The places of the options, and of the words that are neither options nor values of these.
+    options: Vec<usize>,
+    plain: Vec<usize>,
+}
+
+/// The value that a word has after the option's name and an equals sign.
+fn attached<'a>(word: &'a str, option: &str) -> Option<&'a str> {
+    match word.strip_prefix(option) {
+        Some(rest) => rest.strip_prefix("="),
+        None => None,
+    }
+}
+
+impl<'a> Words<'a> {
+    pub(crate) fn new(
+        alloc: Global,
+        verb: Verb,
+        words: &'a [String],
+    ) -> Result<Words<'a>, AllocError> {
+        let (mut options, mut plain) = (Vec::new(alloc), Vec::new(alloc));
+        let mut is_value = false;
+        for (place, word) in words.iter().enumerate() {
+            let word = word.as_str();
+            if is_value {
+                is_value = false;
+            } else if word.starts_with("-") && word != "-" {
+                options.push(place)?;
+                is_value = verb.values().contains(&word);
+            } else {
+                plain.push(place)?;
+            }
+        }
+        Ok(Words {
+            verb,
+            words,
+            options,
+            plain,
+        })
+    }
+
+    /// The word at a place, or an empty one after the last.
+    fn word(&self, place: usize) -> &'a str {
+        match self.words.get(place) {
+            Some(word) => word.as_str(),
+            None => "",
+        }
+    }
+
+    /// The value of an option, if it is given.
+    pub(crate) fn value(&self, option: &str) -> Option<&'a str> {
+        for place in &self.options {
+            let word = self.word(*place);
+            if word == option {
+                return Some(self.word(place.saturating_add(1)));
+            }
+            if let Some(value) = attached(word, option) {
+                return Some(value);
+            }
+        }
+        None
+    }
+
+    /// Whether an option is given that takes no value.
+    pub(crate) fn has(&self, option: &str) -> bool {
+        self.options.iter().any(|place| self.word(*place) == option)
+    }
+
+    /// Whether the help is asked for.
+    pub(crate) fn asks_help(&self) -> bool {
+        self.has("-h") || self.has("--help")
+    }
+
+    /// The word at a place among those that are neither options nor values.
+    pub(crate) fn plain(&self, place: usize) -> Option<&'a str> {
+        match self.plain.get(place) {
+            Some(place) => Some(self.word(*place)),
+            None => None,
+        }
+    }
+
+    /// Whether a word is an option of the verb.
+    fn is_known(&self, word: &str) -> bool {
+        word == "-h"
+            || self.verb.flags().contains(&word)
+            || self.verb.values().contains(&word)
+            || self
+                .verb
+                .values()
+                .iter()
+                .any(|option| attached(word, option).is_some())
+    }
+
+    /// Refuses options that the verb does not have, options without a value, and too few or too many
+    /// words.
+    pub(crate) fn check(&self, rt: &HostRuntime) -> Result<(), End> {
+        for place in &self.options {
+            let word = self.word(*place);
+            if !self.is_known(word) {
+                return Err(self.refuse_word(rt, word)?);
+            }
+            if self.verb.values().contains(&word) && place.saturating_add(1) == self.words.len() {
+                let message = format_args!("the option {word} needs a value");
+                return Err(refuse(rt, WRONG_ARGUMENTS, message));
+            }
+        }
+        let (least, most) = self.verb.counts();
+        if self.plain.len() < least || most < self.plain.len() {
+            // The first line of the help says what the verb takes.
+            let usage = self.verb.help().split_once('\n').map_or("", |it| it.0);
+            return Err(refuse(rt, WRONG_ARGUMENTS, format_args!("{usage}")));
+        }
+        Ok(())
+    }
+
+    fn refuse_word(&self, rt: &HostRuntime, word: &str) -> Result<End, AllocError> {
+        let mut options = Vec::from_slice(rt.alloc(), self.verb.values())?;
+        options.extend_from_slice(self.verb.flags())?;
+        Ok(refuse_option(rt, word, &options))
+    }
+}

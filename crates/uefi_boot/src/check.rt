@@ -1,0 +1,292 @@
+//! Reports what firmware or the machine would stumble over.
+use crate::arguments::Words;
+use crate::ends::{End, MALFORMED, Output, UNREADABLE};
+use crate::entry::{File, Shown};
+use crate::head::{Head, TOO_SHORT};
+use crate::variables::{Content, MOST_READ, OWN, Source, Variable, Variables};
+use std::collections::BTreeMap;
+use std::fmt::Write;
+use std::fs;
+use uefi_boot_variables::LoadOptionKind;
+use uefi_device_path::media::HardDrive;
+use uefi_device_path::{LoadOption, ShortForm};
+
+/// The most bytes that a variable may have in firmware that keeps EDK II's default.
+const COMMON_LIMIT: usize = 1024;
+
+/// Where Linux has a link for each partition, named by its GUID.
+const DISKS: &str = "/dev/disk/by-partuuid";
+
+/// What is reported, so far.
+#[derive(Drop)]
+struct Check<'a> {
+    rt: &'a HostRuntime,
+    out: Output<'a>,
+    variables: &'a Variables<'a>,
+    /// Where the EFI system partition is mounted, if it is known.
+    esp: Option<&'a str>,
+    /// The links of partitions, if they are those of the machine.
+    disks: Option<&'a str>,
+    /// The entry of each device path with its optional data.
+    seen: BTreeMap<Vec<u8>, u16>,
+    is_well: bool,
+    is_read: bool,
+}
+
+/// Whether a unit is a control character.
+fn is_control(unit: u16) -> bool {
+    unit < 0x20 || (0x7f <= unit && unit < 0xa0)
+}
+
+impl<'a> Check<'a> {
+    /// Reports what is wrong with a variable at an offset.
+    fn report(&mut self, variable: Variable, offset: usize, sentence: &str) -> Result<(), End> {
+        self.is_well = false;
+        writeln!(self.out.text, "{variable}: offset {offset}: {sentence}")?;
+        self.out.flush()
+    }
+
+    /// Reports a variable that can't be read.
+    fn report_unreadable(&mut self, variable: Variable, cause: &String) -> Result<(), End> {
+        self.is_read = false;
+        writeln!(self.out.text, "{variable}: cannot be read: {cause}")?;
+        self.out.flush()
+    }
+
+    /// Checks the variables that are no entries.
+    fn check_head(&mut self, head: &Head) -> Result<(), End> {
+        for it in &head.silent {
+            if it.is_malformed {
+                self.report(it.variable, it.offset, it.reason.as_str())?;
+            } else {
+                self.report_unreadable(it.variable, &it.reason)?;
+            }
+        }
+        self.check_order(Variable::BootOrder, LoadOptionKind::Boot, &head.boot_order)?;
+        let (driver, sysprep) = (LoadOptionKind::Driver, LoadOptionKind::SysPrep);
+        self.check_order(Variable::DriverOrder, driver, &head.driver_order)?;
+        self.check_order(Variable::SysPrepOrder, sysprep, &head.sysprep_order)?;
+        if let Some(number) = head.boot_next {
+            let variable = Variable::Boot(number);
+            if self.variables.find(variable).is_none() {
+                let sentence = format!(in self.rt.alloc(); "{variable} is not set")?;
+                self.report(Variable::BootNext, 0, sentence.as_str())?;
+            }
+        }
+        Ok(())
+    }
+
+    /// Checks an order: that each number has a variable, and stands once.
+    fn check_order(
+        &mut self,
+        order: Variable,
+        kind: LoadOptionKind,
+        numbers: &Option<Vec<u16>>,
+    ) -> Result<(), End> {
+        let Some(numbers) = numbers else {
+            return Ok(());
+        };
+        let mut is_seen = [false; 65536];
+        for (place, number) in numbers.iter().enumerate() {
+            let variable = Variable::of_kind(kind, *number);
+            let offset = place.saturating_mul(2);
+            let what = if is_seen[usize::from(*number)] {
+                "stands twice"
+            } else if self.variables.find(variable).is_none() {
+                "is not set"
+            } else {
+                ""
+            };
+            if !what.is_empty() {
+                let sentence = format!(in self.rt.alloc(); "{variable} {what}")?;
+                self.report(order, offset, sentence.as_str())?;
+            }
+            is_seen[usize::from(*number)] = true;
+        }
+        Ok(())
+    }
+
+    /// Checks the description of an entry.
+    fn check_description(
+        &mut self,
+        variable: Variable,
+        option: &LoadOption<'_>,
+    ) -> Result<(), End> {
+        let units = option.description_units();
+        for (place, unit) in units.iter().enumerate() {
+            if is_control(unit) && place.saturating_add(1) < units.len() {
+                let offset = place.saturating_mul(2).saturating_add(6);
+                let sentence = format!(in self.rt.alloc();
+                    "the description has the control character U+{unit:04X}"
+                )?;
+                self.report(variable, offset, sentence.as_str())?;
+            }
+        }
+        Ok(())
+    }
+
+    /// Checks that no other entry has the same device paths and optional data.
+    fn check_duplicate(
+        &mut self,
+        variable: Variable,
+        number: u16,
+        option: &LoadOption<'_>,
+    ) -> Result<(), End> {
+        let mut key = Vec::from_slice(self.rt.alloc(), option.file_path_list())?;
+        key.extend_from_slice(option.optional_data())?;
+        if let Some(other) = self.seen.get(&key) {
+            let other = Variable::Boot(*other);
+            let offset = option
+                .description_units()
+                .len()
+                .saturating_mul(2)
+                .saturating_add(6);
+            let sentence = format!(in self.rt.alloc();
+                "the device paths and the data are those of {other}"
+            )?;
+            return self.report(variable, offset, sentence.as_str());
+        }
+        self.seen.insert(key, number)?;
+        Ok(())
+    }
+
+    /// Checks that the machine has the partition that an entry's first device path begins with.
+    fn check_disk(&mut self, variable: Variable, option: &LoadOption<'_>) -> Result<(), End> {
+        let Some(disks) = self.disks else {
+            return Ok(());
+        };
+        let Some(path) = option.device_paths().next() else {
+            return Ok(());
+        };
+        if path.short_form() != Some(ShortForm::HardDrive) {
+            return Ok(());
+        }
+        let Some(node) = path.node_iter().next() else {
+            return Ok(());
+        };
+        let Ok(drive) = HardDrive::from_node(node) else {
+            return Ok(());
+        };
+        let link = match drive.partition_guid() {
+            Some(guid) => format!(in self.rt.alloc(); "{guid}")?.to_ascii_lowercase(
+                self.rt.alloc(),
+            )?,
+            None => {
+                let [a, b, c, d, ..] = drive.partition_signature();
+                let signature = u32::from_le_bytes([a, b, c, d]);
+                let number = drive.partition_number();
+                format!(in self.rt.alloc(); "{signature:08x}-{number:02x}")?
+            }
+        };
+        let path = format!(in self.rt.alloc(); "{disks}/{link}")?;
+        if fs::metadata(self.rt, path.as_str()).is_ok() {
+            return Ok(());
+        }
+        let offset = option
+            .description_units()
+            .len()
+            .saturating_mul(2)
+            .saturating_add(6);
+        let sentence = format!(in self.rt.alloc(); "no disk here has the partition {link}")?;
+        self.report(variable, offset, sentence.as_str())
+    }
+
+    /// Checks a file that an entry names.
+    fn check_file(&mut self, variable: Variable, file: &File) -> Result<(), End> {
+        let path = &file.path;
+        if let Some(reason) = &file.refused {
+            let sentence = format!(in self.rt.alloc(); "{path}: {reason}")?;
+            return self.report(variable, file.offset, sentence.as_str());
+        }
+        let Some(esp) = self.esp else {
+            return Ok(());
+        };
+        let relative = path.replace(self.rt.alloc(), "\\", "/")?;
+        let there = format!(in self.rt.alloc(); "{esp}/{relative}")?;
+        if fs::metadata(self.rt, there.as_str()).is_ok() {
+            return Ok(());
+        }
+        let sentence = format!(in self.rt.alloc(); "{path} is not in {esp}")?;
+        self.report(variable, file.offset, sentence.as_str())
+    }
+
+    /// Checks an entry.
+    fn check_entry(&mut self, variable: Variable, bytes: &[u8]) -> Result<(), End> {
+        let shown = Shown::of_entry(self.rt.alloc(), bytes)?;
+        if let Some(fault) = &shown.malformed {
+            self.report(variable, fault.offset, fault.reason.as_str())?;
+        }
+        if COMMON_LIMIT < bytes.len() {
+            let len = bytes.len();
+            let sentence = format!(in self.rt.alloc();
+                "the entry has {len} bytes, and some firmware keeps no more than 1024"
+            )?;
+            self.report(variable, COMMON_LIMIT, sentence.as_str())?;
+        }
+        for file in &shown.files {
+            self.check_file(variable, file)?;
+        }
+        if let Ok(option) = LoadOption::from_bytes(bytes) {
+            self.check_description(variable, &option)?;
+            self.check_disk(variable, &option)?;
+            if let Variable::Boot(number) = variable {
+                self.check_duplicate(variable, number, &option)?;
+            }
+        }
+        Ok(())
+    }
+
+    fn check_source(&mut self, source: &Source, buffer: &mut [u8]) -> Result<(), End> {
+        let variable = source.variable;
+        if variable.option().is_none() {
+            return Ok(());
+        }
+        match self.variables.read(source, buffer)? {
+            Content::Bytes(bytes) => self.check_entry(variable, bytes),
+            Content::TooShort => self.report(variable, 0, TOO_SHORT),
+            Content::Unreadable(cause) => self.report_unreadable(variable, &cause),
+        }
+    }
+}
+
+/// Reports what is wrong, and returns the status.
+pub(crate) fn run<'a>(
+    rt: &'a HostRuntime,
+    words: &Words<'a>,
+    folder: &str,
+    variables: &'a Variables<'a>,
+) -> Result<u8, End> {
+    let disks = match words.value("--disks") {
+        Some(disks) => Some(disks),
+        None if folder == OWN && fs::metadata(rt, DISKS).is_ok() => Some(DISKS),
+        None => None,
+    };
+    let mut check = Check {
+        rt,
+        out: Output::new(rt),
+        variables,
+        esp: words.value("--esp"),
+        disks,
+        seen: BTreeMap::new(rt.alloc()),
+        is_well: true,
+        is_read: true,
+    };
+    let mut buffer = [0; MOST_READ];
+    let head = Head::of(rt.alloc(), variables, &mut buffer)?;
+    check.check_head(&head)?;
+    for source in &variables.sources {
+        check.check_source(source, &mut buffer)?;
+    }
+    for it in &variables.passed_over {
+        check.is_well = false;
+        writeln!(check.out.text, "{}: passed over: {}", it.file, it.reason)?;
+    }
+    check.out.flush()?;
+    Ok(if !check.is_read {
+        UNREADABLE
+    } else if !check.is_well {
+        MALFORMED
+    } else {
+        0
+    })
+}

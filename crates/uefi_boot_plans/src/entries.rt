@@ -1,0 +1,104 @@
+//! Plans that change one field of an entry. Every other byte of the entry is unchanged.
+#![tactic(auto)]
+
+ghost use Rattle.std.specs.Prelude.{◌≡◌, ◌∷◌, [], IfErr, IfOk};
+ghost use Rattle.uefi_text.specs.Views.{text_of};
+ghost use Rattle.uefi_device_path.specs.LoadOptions.{Entry, EntryRefusedFor, IsEntry, entry_bytes};
+ghost use Rattle.uefi_device_path.specs.OptionEdits.{with_attributes, with_description};
+ghost use Rattle.uefi_device_path.specs.Views.{entry_of};
+ghost use Rattle.uefi_boot_plans.specs.Plans.{IsEntryError, activity, changes_of, written};
+
+use crate::plan::{PlanError, Step, Variable};
+use std::alloc::{AllocError, Global};
+use uefi_device_path::{LoadOption, LoadOptionError, set_attributes};
+use uefi_text::CStr16;
+
+/// Attributes with the first bit, `LOAD_OPTION_ACTIVE`, set or not.
+fn with_activity(attributes: u32, active: bool) -> u32
+    ensures { result ≡ activity active attributes }
+{
+    attributes - attributes % 2 + u32::from(active)
+}
+
+/// The attributes of the load option that bytes are.
+fn attributes_of(bytes: &[u8]) -> Result<u32, LoadOptionError>
+    ensures ok { IfOk result (λ attributes. (option : Entry) → IsEntry option →
+        bytes.now ≡ entry_bytes option → attributes ≡ option.attributes) }
+    ensures refusal { IfErr result (λ error. EntryRefusedFor bytes.now error) }
+    ensures accepted { IfOk result (λ _.
+        (option : Entry) × IsEntry option × (bytes.now ≡ entry_bytes option)) }
+{
+    match LoadOption::from_bytes(bytes) {
+        Ok(option) => Ok(option.attributes()),
+        Err(error) => Err(error),
+    }
+}
+
+/// The plan that makes an entry active or not.
+///
+/// Returns `MalformedEntry` if its bytes are not a load option, and then `OutOfMemory` if memory runs
+/// out.
+pub fn set_active(
+    alloc: Global,
+    number: u16,
+    entry: &[u8],
+    active: bool,
+) -> Result<Vec<Step>, PlanError>
+    ensures ok { IfOk result (λ plan. (option : Entry) → IsEntry option → entry.now ≡ entry_bytes option →
+        changes_of plan.items ≡ written (Variable.Entry number)
+        (entry_bytes (with_attributes (activity active option.attributes) option)) ∷ []) }
+    ensures refused { IfErr result (λ error. IsEntryError entry.now error) }
+{
+    let attributes = match attributes_of(entry) {
+        Ok(attributes) => attributes,
+        Err(error) => return Err(PlanError::MalformedEntry(error)),
+    };
+    let mut bytes = Vec::from_slice(alloc, entry)?;
+    if let Err(error) = set_attributes(bytes.as_mut_slice(), with_activity(attributes, active)) {
+        return Err(PlanError::MalformedEntry(error));
+    }
+    Ok(Step::write(Variable::Entry(number), bytes).alone(alloc)?)
+}
+
+/// The bytes of a load option with another description.
+fn described(
+    alloc: Global,
+    option: &LoadOption<'_>,
+    description: CStr16<'_>,
+) -> Result<Vec<u8>, AllocError>
+    ensures { IfOk result (λ bytes. bytes.items
+        ≡ entry_bytes (with_description (text_of description.entry) (entry_of option.now))) }
+{
+    // The old description has its NUL, so there is room.
+    let room = option.as_bytes().len() + 2 * description.as_slice().units().len();
+    let mut bytes = Vec::from_elem(alloc, 0u8, room)?;
+    match option.write_with_description(description, bytes.as_mut_slice()) {
+        Ok(len) => {
+            bytes.truncate(len);
+            Ok(bytes)
+        }
+        Err(_) => Err(AllocError),
+    }
+}
+
+/// The plan that gives an entry another description.
+///
+/// Fails as [`set_active`] does.
+pub fn rename(
+    alloc: Global,
+    number: u16,
+    entry: &[u8],
+    description: CStr16<'_>,
+) -> Result<Vec<Step>, PlanError>
+    ensures ok { IfOk result (λ plan. (option : Entry) → IsEntry option → entry.now ≡ entry_bytes option →
+        changes_of plan.items ≡ written (Variable.Entry number)
+        (entry_bytes (with_description (text_of description.entry) option)) ∷ []) }
+    ensures refused { IfErr result (λ error. IsEntryError entry.now error) }
+{
+    let option = match LoadOption::from_bytes(entry) {
+        Ok(option) => option,
+        Err(error) => return Err(PlanError::MalformedEntry(error)),
+    };
+    let bytes = described(alloc, &option, description)?;
+    Ok(Step::write(Variable::Entry(number), bytes).alone(alloc)?)
+}

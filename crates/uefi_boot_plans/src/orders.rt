@@ -1,0 +1,195 @@
+//! Plans that change `BootOrder`, `BootNext` and `Timeout`.
+#![tactic(auto)]
+
+ghost use Rattle.std.specs.Prelude.{◌≡◌, ◌≢◌, ◌<◌, ◌%◌, ◌^◌, ◌↔◌, ◌∷◌, ◌++◌, [], length, take, Contains, ℕ, IfOk, IfErr, IfSome, IsNone, None, Some, if◌then◌else◌};
+ghost use Rattle.uefi_boot_variables.specs.Orders.{over, stands_in, with_at, without};
+ghost use Rattle.uefi_boot_plans.specs.Plans.{change_of, changes_of, deleted, is_next, ordered, written};
+ghost use Rattle.uefi_text.specs.UnitBytes.{unit_bytes, units_of_bytes};
+
+use crate::plan::{PlanError, Step, Variable};
+use std::alloc::{AllocError, Global};
+use uefi_boot_variables::order_edits;
+use uefi_text::UnalignedSlice;
+use uefi_text::scan::split;
+
+/// The bytes of numbers, two for each and the low one first.
+fn bytes_of(alloc: Global, numbers: &[u16]) -> Result<Vec<u8>, AllocError>
+    ensures { IfOk result (λ bytes. bytes.items ≡ unit_bytes numbers.now) }
+{
+    let mut bytes = Vec::from_elem(alloc, 0u8, 2 * numbers.len())?;
+    split(bytes.as_mut_slice(), numbers);
+    Ok(bytes)
+}
+
+/// The numbers that the bytes of an order are.
+fn numbers_of(alloc: Global, order: &[u8]) -> Result<Vec<u16>, PlanError>
+    ensures ok { IfOk result (λ numbers. numbers.items ≡ units_of_bytes order.now) }
+    ensures odd { (result ≡ Err PlanError.MalformedOrder) ↔ (length order.now % 2 ≡ 1) }
+    ensures memory { IfErr result (λ error.
+        error ≢ PlanError.MalformedOrder → error ≡ PlanError.OutOfMemory) }
+{
+    match UnalignedSlice::from_unit_bytes(order) {
+        Some(numbers) => Ok(numbers.to_vec(alloc)?),
+        None => Err(PlanError::MalformedOrder),
+    }
+}
+
+/// The least number that is not used.
+pub fn free_number(used: &[u16]) -> Option<u16>
+    ensures free { IfSome result (λ number. Contains used.now number → ⊥) }
+    ensures least { IfSome result (λ number. (less : ℕ) → less < number → Contains used.now less) }
+    ensures none { IsNone result → (number : ℕ) → number < 2 ^ 16 → Contains used.now number }
+{
+    for number in 0..=u16::MAX {
+        if !used.contains(&number) {
+            return Some(number);
+        }
+    }
+    None
+}
+
+/// The bytes of an order with a number in front, which stands nowhere else.
+fn with_first(alloc: Global, order: &[u8], number: u16) -> Result<Vec<u8>, PlanError>
+    ensures ok { IfOk result (λ bytes. bytes.items
+        ≡ unit_bytes (with_at 0 number (units_of_bytes order.now))) }
+    ensures odd { (result ≡ Err PlanError.MalformedOrder) ↔ (length order.now % 2 ≡ 1) }
+    ensures memory { IfErr result (λ error.
+        error ≢ PlanError.MalformedOrder → error ≡ PlanError.OutOfMemory) }
+{
+    let mut numbers = numbers_of(alloc, order)?;
+    let len = numbers.len();
+    numbers.push(number)?;
+    let len = put_first(numbers.as_mut_slice(), len, number);
+    Ok(bytes_of(alloc, &numbers.as_slice()[..len])?)
+}
+
+/// Puts a number in front of an order that has room for it, and returns how many numbers there are then.
+fn put_first(places: &mut [u16], len: usize, number: u16) -> usize
+    requires { len < length places.old }
+    ensures len { result ≡ length (with_at 0 number (take len places.old)) }
+    ensures places { places.new ≡ over (with_at 0 number (take len places.old)) places.old }
+{
+    order_edits::insert(places, len, 0, number).unwrap()
+}
+
+/// The plan that takes a number out of the order, if it stands there, and is else empty.
+fn delete_from_order(alloc: Global, order: &[u8], number: u16) -> Result<Vec<Step>, PlanError>
+    ensures ok { let numbers = units_of_bytes order.now in IfOk result (λ plan. changes_of plan.items
+        ≡ (if stands_in number numbers then ordered (without number numbers) ∷ [] else [])) }
+    ensures odd { (result ≡ Err PlanError.MalformedOrder) ↔ (length order.now % 2 ≡ 1) }
+    ensures memory { IfErr result (λ error.
+        error ≢ PlanError.MalformedOrder → error ≡ PlanError.OutOfMemory) }
+{
+    let mut numbers = numbers_of(alloc, order)?;
+    let len = numbers.len();
+    if !order_edits::contains(numbers.as_slice(), len, number) {
+        return Ok(Vec::new(alloc));
+    }
+    let kept = order_edits::remove(numbers.as_mut_slice(), len, number);
+    Ok(order_step(alloc, &numbers.as_slice()[..kept])?.alone(alloc)?)
+}
+
+/// The step that makes numbers the order: firmware deletes a variable that is written without bytes.
+fn order_step(alloc: Global, numbers: &[u16]) -> Result<Step, AllocError>
+    ensures { IfOk result (λ step. change_of step ≡ ordered numbers.now) }
+{
+    if numbers.is_empty() {
+        return Ok(Step::delete(Variable::Order));
+    }
+    Ok(Step::write(Variable::Order, bytes_of(alloc, numbers)?))
+}
+
+/// The plan that adds an entry, in front of the others: first the entry is written, and then the order
+/// that names it.
+///
+/// Returns `MalformedOrder` if the order has an odd number of bytes, and then `OutOfMemory` if memory
+/// runs out.
+pub fn create(
+    alloc: Global,
+    order: &[u8],
+    number: u16,
+    entry: Vec<u8>,
+) -> Result<Vec<Step>, PlanError>
+    ensures ok { IfOk result (λ plan. changes_of plan.items
+        ≡ written (Variable.Entry number) entry.items
+        ∷ written Variable.Order (unit_bytes (with_at 0 number (units_of_bytes order.now))) ∷ []) }
+    ensures malformed { (result ≡ Err PlanError.MalformedOrder) ↔ (length order.now % 2 ≡ 1) }
+    ensures memory { IfErr result (λ error.
+        error ≢ PlanError.MalformedOrder → error ≡ PlanError.OutOfMemory) }
+{
+    let order = with_first(alloc, order, number)?;
+    let mut plan = Step::write(Variable::Entry(number), entry).alone(alloc)?;
+    plan.push(Step::write(Variable::Order, order))?;
+    Ok(plan)
+}
+
+/// The plan that moves an entry to the front of the order, or puts it there.
+///
+/// Fails as [`create`] does.
+pub fn first(alloc: Global, order: &[u8], number: u16) -> Result<Vec<Step>, PlanError>
+    ensures ok { IfOk result (λ plan. changes_of plan.items
+        ≡ written Variable.Order (unit_bytes (with_at 0 number (units_of_bytes order.now))) ∷ []) }
+    ensures malformed { (result ≡ Err PlanError.MalformedOrder) ↔ (length order.now % 2 ≡ 1) }
+    ensures memory { IfErr result (λ error.
+        error ≢ PlanError.MalformedOrder → error ≡ PlanError.OutOfMemory) }
+{
+    let order = with_first(alloc, order, number)?;
+    Ok(Step::write(Variable::Order, order).alone(alloc)?)
+}
+
+/// The plan that deletes an entry: first the order without it is written, or deleted if no number
+/// is left, if the entry stands in the order; then `BootNext` is deleted, if it names the entry;
+/// then the entry is deleted.
+///
+/// Fails as [`create`] does.
+pub fn delete(
+    alloc: Global,
+    order: &[u8],
+    next: Option<u16>,
+    number: u16,
+) -> Result<Vec<Step>, PlanError>
+    ensures ok { let numbers = units_of_bytes order.now in IfOk result (λ plan. changes_of plan.items
+        ≡ (if stands_in number numbers then ordered (without number numbers) ∷ [] else [])
+        ++ (if is_next number next then deleted Variable.Next ∷ [] else [])
+        ++ (deleted (Variable.Entry number) ∷ [])) }
+    ensures malformed { (result ≡ Err PlanError.MalformedOrder) ↔ (length order.now % 2 ≡ 1) }
+    ensures memory { IfErr result (λ error.
+        error ≢ PlanError.MalformedOrder → error ≡ PlanError.OutOfMemory) }
+{
+    let mut plan = delete_from_order(alloc, order, number)?;
+    if next == Some(number) {
+        plan.push(Step::delete(Variable::Next))?;
+    }
+    plan.push(Step::delete(Variable::Entry(number)))?;
+    Ok(plan)
+}
+
+/// The plan that makes numbers the order.
+pub fn order(alloc: Global, numbers: &[u16]) -> Result<Vec<Step>, AllocError>
+    ensures { IfOk result (λ plan. changes_of plan.items ≡ ordered numbers.now ∷ []) }
+{
+    order_step(alloc, numbers)?.alone(alloc)
+}
+
+/// The plan that makes an entry the one that the machine boots once.
+pub fn next(alloc: Global, number: u16) -> Result<Vec<Step>, AllocError>
+    ensures { IfOk result (λ plan. changes_of plan.items
+        ≡ written Variable.Next (unit_bytes (number ∷ [])) ∷ []) }
+{
+    Step::write(Variable::Next, bytes_of(alloc, &[number])?).alone(alloc)
+}
+
+/// The plan that makes the machine boot by its order.
+pub fn clear_next(alloc: Global) -> Result<Vec<Step>, AllocError>
+    ensures { IfOk result (λ plan. changes_of plan.items ≡ deleted Variable.Next ∷ []) }
+{
+    Step::delete(Variable::Next).alone(alloc)
+}
+
+/// The plan that makes the firmware wait for a number of seconds before it boots.
+pub fn timeout(alloc: Global, seconds: u16) -> Result<Vec<Step>, AllocError>
+    ensures { IfOk result (λ plan. changes_of plan.items
+        ≡ written Variable.Timeout (unit_bytes (seconds ∷ [])) ∷ []) }
+{
+    Step::write(Variable::Timeout, bytes_of(alloc, &[seconds])?).alone(alloc)
+}
