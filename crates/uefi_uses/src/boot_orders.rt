@@ -1,10 +1,16 @@
-//! A caller of `uefi_boot_variables`: what a menu starts by itself.
-ghost use Rattle.std.specs.Prelude.{◌≡◌, ◌↔◌, ◌%◌, slice_get, length, IfOk, IsErr};
+//! What a menu starts by itself, which number a variable's name has, and an order with one entry in front.
+ghost use Rattle.std.specs.Prelude.{◌≡◌, ◌↔◌, ◌%◌, ◌<◌, slice_get, length, IfOk, IfSome, IsErr};
 ghost use Rattle.std.specs.Option.{option_map};
+ghost use Rattle.uefi_boot_variables.specs.Orders.{once_each, with_front};
 ghost use Rattle.uefi_boot_variables.specs.Present.{present_options, shown};
+ghost use Rattle.uefi_boot_variables.specs.Names.{name_text};
+ghost use Rattle.uefi_boot_variables.specs.Views.{numbers_of};
+ghost use Rattle.uefi_boot_variables.specs.declared.variable_names.LoadOptionKind.TheVariants.{Boot};
 ghost use Rattle.uefi_text.specs.UnitBytes.{units_of_bytes};
 
-use uefi_boot_variables::{LoadOrder, OddLength};
+use uefi_boot_variables::{
+    LoadOptionKind, LoadOptionName, LoadOrder, OddLength, OrderBuffer, OrderFull,
+};
 
 /// What a menu starts where nobody chooses: the first option of `BootOrder` whose variable is there, with
 /// its number and bytes.
@@ -18,4 +24,35 @@ pub fn first_option<'a>(
 {
     let order = LoadOrder::from_bytes(order)?;
     Ok(order.present(variables).next())
+}
+
+/// The number of a boot entry, by the name of its variable.
+pub fn boot_number(name: &str) -> Option<u16>
+    ensures { IfSome result (λ number.
+        name.now ≡ name_text (record { kind = Boot; number = number })) }
+{
+    match LoadOptionName::from_text(name)? {
+        LoadOptionName {
+            kind: LoadOptionKind::Boot,
+            number,
+        } => Some(number),
+        _ => None,
+    }
+}
+
+/// Puts an order into memory of the caller, each number once and one of them in front, and returns how many
+/// numbers it has.
+pub fn with_first(
+    order: &LoadOrder<'_>,
+    number: u16,
+    places: &mut [u16],
+) -> Result<usize, OrderFull>
+    ensures len { IfOk result (λ len.
+        len ≡ length (with_front number (once_each (numbers_of order.now)))) }
+    ensures refused { IsErr result ↔ (length places.old < length (once_each (numbers_of order.now))) }
+{
+    let mut edited = OrderBuffer::new(places);
+    edited.copy_from(order)?;
+    edited.move_to_front(number);
+    Ok(edited.len())
 }

@@ -2,12 +2,11 @@
 ghost use Rattle.std.specs.Prelude.{◌≡◌, ◌↔◌, ◌%◌, ◌∷◌, [], IfErr, IfOk, IsTrue};
 ghost use Rattle.uefi_device_path.specs.Building.{node_of_name};
 ghost use Rattle.uefi_device_path.specs.LoadOptions.{Entry, EntryRefusedFor, IsEntry, entry_bytes};
-ghost use Rattle.uefi_device_path.specs.MediaNodes.{hard_drive_node};
 ghost use Rattle.uefi_path.specs.Views.{path_text};
 
 use std::alloc::Global;
 use uefi_device_path::build::media::HardDrive;
-use uefi_device_path::{BuildError, DevicePathBuf, LoadOption, LoadOptionError};
+use uefi_device_path::{BuildError, BuildNode, DevicePathBuf, LoadOption, LoadOptionError};
 use uefi_path::Path;
 
 /// Whether firmware starts a boot entry by itself, or why the bytes are no boot entry.
@@ -39,7 +38,7 @@ pub fn path_of_file(
     file: Path<'_>,
 ) -> Result<DevicePathBuf, BuildError>
     ensures { IfOk result (λ path.
-        path ≡ hard_drive_node partition.now ∷ node_of_name (path_text file.entry) ∷ []) }
+        path ≡ ⟦<HardDrive as BuildNode>⟧.node partition.now ∷ node_of_name (path_text file.entry) ∷ []) }
 {
     let Ok(mut path) = DevicePathBuf::new(alloc) else {
         return Err(BuildError::OutOfMemory);

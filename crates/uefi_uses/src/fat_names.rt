@@ -1,11 +1,12 @@
-//! Names that a folder of a FAT volume can't hold side by side.
+//! Names of files on a FAT volume: which a folder can hold side by side, and which no file can have.
 ghost use Rattle.std.specs.Prelude.{◌≡◌, ◌↔◌, IsTrue};
-ghost use Rattle.uefi_fat.specs.LongNames.{IsFatName};
+ghost use Rattle.uefi_fat.specs.LongNames.{IsFatName, name_refusal};
+ghost use Rattle.uefi_fat.specs.ShortNames.{IsShortName};
 ghost use Rattle.uefi_fat.specs.Trimming.{trimmed};
 ghost use Rattle.uefi_text.specs.Case.{uppers};
 ghost use Rattle.uefi_text.specs.Views.{units_of};
 
-use uefi_fat::{is_fat_name, same_fat_file};
+use uefi_fat::{FatNameError, check_fat_name, is_fat_name, is_short_name, same_fat_file};
 use uefi_text::Char16Slice;
 
 /// Whether a new file would take the place of one that a folder has: both names are names of files, and of
@@ -15,4 +16,18 @@ pub fn takes_place_of(new: Char16Slice<'_>, present: Char16Slice<'_>) -> bool
         × (uppers (trimmed (units_of new.entry)) ≡ uppers (trimmed (units_of present.entry)))) }
 {
     is_fat_name(new) && is_fat_name(present) && same_fat_file(new, present)
+}
+
+/// Why no file can have a name, or `None` if one can.
+pub fn name_fault(name: Char16Slice<'_>) -> Option<FatNameError>
+    ensures { result ≡ name_refusal (units_of name.entry) }
+{
+    check_fat_name(name).err()
+}
+
+/// Whether a system without long names can read a name.
+pub fn is_for_old_systems(name: Char16Slice<'_>) -> bool
+    ensures { IsTrue result ↔ IsShortName (units_of name.entry) }
+{
+    is_short_name(name)
 }

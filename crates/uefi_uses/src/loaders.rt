@@ -1,6 +1,7 @@
-//! The files that a menu offers.
+//! The files that a menu offers, and those below a folder.
 ghost use Rattle.std.specs.Prelude.{◌≡◌, ◌↔◌, IsTrue};
 ghost use Rattle.uefi_path.specs.WithoutCase.{MatchesPath};
+ghost use Rattle.uefi_path.specs.Components.{StartsWith};
 ghost use Rattle.uefi_path.specs.Separators.{canonical};
 ghost use Rattle.uefi_path.specs.Views.{path_text};
 ghost use Rattle.uefi_text.specs.Case.{uppers};
@@ -14,4 +15,11 @@ pub fn is_offered(file: Path<'_>, pattern: Path<'_>, menu: Path<'_>) -> bool
         × ¬ (uppers (canonical (path_text file.entry)) ≡ uppers (canonical (path_text menu.entry))) }
 {
     file.matches(pattern) && !file.eq_ignore_case(menu)
+}
+
+/// Whether a file lies below a folder, component by component: `\EFIX` does not lie below `\EFI`.
+pub fn is_below(file: Path<'_>, folder: Path<'_>) -> bool
+    ensures { IsTrue result ↔ StartsWith (path_text file.entry) (path_text folder.entry) }
+{
+    file.starts_with(folder)
 }

@@ -1,12 +1,14 @@
-//! Bytes that firmware stored, compared with a path.
-ghost use Rattle.std.specs.Prelude.{◌≡◌, ◌↔◌, List, ℕ, IfOk, IsTrue};
+//! Bytes that firmware stored, compared with a path, and paths that commands change.
+ghost use Rattle.std.specs.Prelude.{◌≡◌, ◌↔◌, ◌∷◌, [], List, ℕ, IfOk, IfSome, IsTrue, length};
+ghost use Rattle.uefi_path.specs.Components.{components_of};
 ghost use Rattle.uefi_path.specs.Separators.{canonical};
 ghost use Rattle.uefi_path.specs.Views.{path_text};
+ghost use Rattle.upath.specs.PathCommands.{after_commands};
 ghost use Rattle.upath.specs.Judging.{IsPathOf};
 
 use std::alloc::Allocator;
-use uefi_path::Path;
-use upath::{JudgeError, judge};
+use uefi_path::{Path, PathBuf};
+use upath::{JudgeError, PathCommand, judge, pieces, run_commands};
 
 /// Whether the bytes that firmware stored hold the path of an entry, with or without one leading
 /// separator; or why they hold no path.
@@ -20,4 +22,19 @@ pub fn is_entry<A: Allocator + Copy>(
 {
     let stored = judge(alloc, bytes)?;
     Ok(stored.as_path() == entry)
+}
+
+/// Turns the path of a file into that of another file in its folder, unless memory runs out.
+pub fn turn_to_sibling<A: Allocator + Copy>(alloc: A, path: &mut PathBuf<A>, name: Path<'_>) -> bool
+    ensures { IsTrue result → path.new
+        ≡ after_commands path.old (PathCommand.Parent ∷ PathCommand.Push name.entry ∷ []) }
+{
+    run_commands(alloc, path, &[PathCommand::Parent, PathCommand::Push(name)]).is_ok()
+}
+
+/// How many folders and files a path names.
+pub fn depth<A: Allocator>(alloc: A, path: Path<'_>) -> Option<usize>
+    ensures { IfSome result (λ depth. depth ≡ length (components_of (path_text path.entry))) }
+{
+    Some(pieces(alloc, path).ok()?.len())
 }
