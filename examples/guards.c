@@ -97,7 +97,7 @@ FINDS(device_path_check)
 CHANGES(string_make_uppercase) CHANGES(string_make_lowercase) CHANGES(device_path_begin)
 ADDS(path_push) ADDS(device_path_append) ADDS(device_path_push_text)
 WRITES(units_from_bytes) WRITES(string_from_utf8) WRITES(utf8_from_string) WRITES(path_parent) WRITES(fat_from_string)
-WRITES(fat_from_units) WRITES(string_from_fat) WRITES(device_path_file_path) WRITES(utf8_from_units_lossy)
+WRITES(fat_from_units) WRITES(string_from_fat) WRITES(device_path_file_path) WRITES(device_path_libefivar_text) WRITES(utf8_from_units_lossy)
 CALL(path_verdict, IN(0), place, JUDGED)
 CALL(path_next_component, IN(0), place, (nard_size *)buffer.at, (nard_size *)buffer.at + 1)
 CALL(device_path_needs, IN(0), place, (nard_size *)buffer.at)
@@ -148,6 +148,16 @@ static nard_result call_lenient_text_fault(void)
 {
     nard_byte *scratch = put(SCRATCH, NULL, number);
     return nard_lenient_text_fault(IN(0), scratch, number, OUT, place);
+}
+
+static nard_result call_lenient_text_extent(void)
+{
+    return nard_lenient_text_extent(IN(0), put(SCRATCH, NULL, number), number, place);
+}
+
+static nard_result call_libefivar_text_extent(void)
+{
+    return nard_libefivar_text_extent(IN(0), put(SCRATCH, NULL, number), number, place);
 }
 
 /* The number of a name or of an order is the character then. */
@@ -330,6 +340,11 @@ static const struct row rows[] = {
     FAULT(device_path_file_path, REFUSED, ODD_BYTES, 10, .in = {BYTES(PCI "\4\4\5\0a" END)}),
     FAULT(device_path_file_path, REFUSED, INVALID_CHAR, 4, .in = {BYTES("\4\4\10\0\0\xd8\0\0" END)}),
     BAD_PATHS(device_path_file_path, REFUSED),
+    ROW(device_path_libefivar_text, TEXT, .in = {BYTES(PCI FILE_A END "x")}, .out = UNITS(u"Pci(0x1F,0x0)/File(\\a)")),
+    ROW(device_path_libefivar_text, TEXT,
+        .in = {BYTES("\4\1\52\0\1\0\0\0\x3f\0\0\0\0\0\0\0\xc8\0\0\0\0\0\0\0\xab\xcd\0\0\0\0\0\0\0\0\0\0\0\0\0\0\1\1" END)},
+        .out = UNITS(u"HD(1,MBR,0x0000cdab,0x3f,0xc8)")),
+    BAD_PATHS(device_path_libefivar_text, REFUSED),
     ROW(device_path_text, TEXT, .in = {BYTES(PCI FILE_A END)}, .out = UNITS(u"Pci(0x1F,0x0)/\\a")),
     ROW(device_path_text, TEXT, .in = {BYTES("\2\1\14\0\xd0\x41\3\12\1\0\0\0" END)}, .number = 3,
         .out = UNITS(u"PciRoot(0x1)")),
@@ -419,6 +434,14 @@ static const struct row rows[] = {
     ROW(lenient_text_fault, TEXT, .in = {BYTES("file(a)")}, .number = 8, .out = UNITS(u"")),
     FAULT(lenient_text_fault, REFUSED, SCRATCH_TOO_SMALL, 3, .in = {BYTES("(a")}, .number = 2),
     FAULT(lenient_text_fault, REFUSED, NOT_UTF8, 1, .in = {BYTES("x\xc3")}),
+    ROW(lenient_text_extent, READ, .in = {BYTES("Pci(0,1)/File(\\a)\xc3\1")}, .number = 20, .place = 17),
+    ROW(lenient_text_extent, READ, .in = {BYTES("Pci(0,1) , Pci(0,2)")}, .number = 20, .place = 19),
+    ROW(lenient_text_extent, READ, .in = {BYTES("")}, .number = 1, .place = 0),
+    FAULT(lenient_text_extent, READ, NO_NODE, 9, .in = {BYTES("Pci(0,1)/")}, .number = 10),
+    FAULT(lenient_text_extent, READ, SCRATCH_TOO_SMALL, 3, .in = {BYTES("(a")}, .number = 2),
+    ROW(libefivar_text_extent, READ, .in = {BYTES("Ata(1,0,12)..")}, .number = 14, .place = 11),
+    FAULT(libefivar_text_extent, READ, NO_NODE, 6, .in = {BYTES("Fibre(1)..")}, .number = 11),
+    FAULT(libefivar_text_extent, READ, SCRATCH_TOO_SMALL, 3, .in = {BYTES("(a")}, .number = 2),
     ROW(load_option_write, WHOLE, .in = {UNITS(u"b\0c"), BYTES(PCI FILE_A END FILE_A), BYTES("x")}, .number = 0xf00000001,
         .out = BYTES(OPTION)),
     ROW(load_option_write, WHOLE, .in = {UNITS(u"b"), {full_list, 65535, 1}, BYTES("")}, .out = {full_option, 65545, 1}),

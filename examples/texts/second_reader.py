@@ -1,12 +1,12 @@
-"""A second reader of the texts of device paths, by docs/SPECIFICATION.md and the rows of crates/uefi_node_table/src/table.rt. It reads a node
-with less care than it should, prints what it read, and takes it if that is the text.
+"""A second reader of the texts of device paths, by docs/SPECIFICATION.md, docs/NODE_TEXTS.md and the rows of the file `forms`, which is no source of the library. It reads
+a node with less care than it should, prints what it read, and takes it if that is the text.
 """
 import collections
 import pathlib
 import re
 import uuid
 
-TABLE = pathlib.Path(__file__).resolve().parent.parent.parent / "crates/uefi_node_table/src/table.rt"
+TABLE = pathlib.Path(__file__).resolve().parent / "forms"
 END, END_INSTANCE = b"\x7f\xff\x04\x00", b"\x7f\x01\x04\x00"
 OK, NOT_UTF8, NO_NODE = 0, 5, 31
 MOST_DATA = 0xFFFF - 4
@@ -134,11 +134,9 @@ def fields_of(text):
 
 def rows():
     """The rows of the table, in order."""
-    # A quote within a text stands as an apostrophe, which no text of the table has.
-    table = TABLE.read_text().replace('\\"', "'")
-    usb_class = re.search(r"macro_rules! usb_class .*?row!\((.*?)\)\n", table, re.S)[1]
-    for row, value, start in re.findall(r'^    (?:row!\(([^$]*?)|usb_class!\((\w+) ("[^"]*"))\),$', table, re.M):
-        row = " ".join((row or usb_class.replace("$class", value).replace("$start", start)).split())
+    for row in TABLE.read_text().splitlines():
+        if row.startswith("#"):
+            continue
         kind, sub_kind, mode, least, more, when, also, start, fields, tail, close, rest = re.fullmatch(
             r'(\d+) (\d+) (\w+) (\d+)(?: \+ (\d+))? \[(.*?)\] \[(.*?)\] "(.*?)"((?: \[[^]]*\])*) (?:Repeated )?(\w+) "(.*?)"((?: \[[^]]*\])*)',
             row).groups()

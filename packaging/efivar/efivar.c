@@ -17,7 +17,7 @@
 
 #define API __attribute__((visibility("default")))
 
-enum { HEADER = 4, END = 0x7f, END_INSTANCE = 1, MEDIA = 4, HARD_DRIVE = 1, FILE_PATH = 4 };
+enum { HEADER = 4, END = 0x7f, END_INSTANCE = 1 };
 
 /* A path without nodes. */
 static const uint8_t empty[HEADER] = {END, 0xff, HEADER, 0};
@@ -49,63 +49,6 @@ static nard_size extent(const uint8_t *path)
     return nard_device_path_size(path, SIZE_MAX, &length) == NARD_OK ? length : 0;
 }
 
-/* A text that is written as far as there is room; `count` is how many units it has. */
-struct text {
-    nard_unit *units;
-    nard_size room, count;
-};
-
-static void put(struct text *text, const char *ascii)
-{
-    for (; *ascii; ascii++, text->count++)
-        if (text->count < text->room)
-            text->units[text->count] = (nard_unit)*ascii;
-}
-
-/* Adds the text of a node, which a NUL may follow. The numbers of a partition are in lower case, as scripts compare them. */
-static void put_node(struct text *text, const uint8_t *node, nard_size count, bool is_partition)
-{
-    nard_size length = 0, start = text->count, room = start < text->room ? text->room - start : 0;
-    nard_unit *units = room ? text->units + start : NULL;
-    unsigned commas = 0;
-    bool is_written = nard_node_text(node, count, false, false, units, room, &length) == NARD_OK;
-    for (nard_size i = 0; is_written && is_partition && i < length; i++) {
-        commas += units[i] == ',';
-        if (1 < commas && 'A' <= units[i] && units[i] <= 'F')
-            units[i] += 'a' - 'A';
-    }
-    text->count += length;
-}
-
-/* Whether a node of a path is of this kind. */
-static bool is_node(const struct nard_device_node *node, uint8_t device_type, uint8_t sub_type)
-{
-    return node->device_type == device_type && node->sub_type == sub_type;
-}
-
-/* Writes a path in libefivar's style: as the library does, with File(..) around the name of a file, and partitions in lower case. */
-static void put_path(struct text *text, const uint8_t *path, nard_size count)
-{
-    struct nard_device_node node;
-    nard_size at = 0;
-    const char *before = "";
-    while (nard_device_path_next_node(path, count, &at, &node) == NARD_OK) {
-        nard_size start = node.start - HEADER;
-        /* Data that are no units are no name: the library prints such a node as Path(4,4,..). */
-        bool is_file = is_node(&node, MEDIA, FILE_PATH) && node.length && node.length % 2 == 0;
-        if (is_node(&node, END, END_INSTANCE)) {
-            put(text, ",");
-            before = "";
-            continue;
-        }
-        put(text, before);
-        put(text, is_file ? "File(" : "");
-        put_node(text, path + start, count - start, is_node(&node, MEDIA, HARD_DRIVE));
-        put(text, is_file ? ")" : "");
-        before = "/";
-    }
-}
-
 /* Copies bytes as snprintf does: what fits, and a NUL. Returns how many there are. */
 static ssize_t give(char *to, size_t room, const char *bytes, size_t count)
 {
@@ -133,9 +76,9 @@ static uint8_t *utf8_of(const nard_unit *units, nard_size count, nard_size *leng
  */
 API ssize_t efidp_format_device_path(char *buf, size_t size, const uint8_t *dp, ssize_t limit)
 {
-    struct text text = {NULL, 0, 0};
     nard_size count, length;
     nard_result reason;
+    nard_unit *units;
     uint8_t *bytes;
     ssize_t told;
     if (!dp && last.reason != NARD_OK) {
@@ -144,20 +87,15 @@ API ssize_t efidp_format_device_path(char *buf, size_t size, const uint8_t *dp, 
         return give(buf, size, why, (size_t)told);
     }
     count = dp && limit < 0 ? extent(dp) : dp ? (nard_size)limit : 0;
-    reason = nard_device_path_check(dp, count, &length);
-    if (reason != NARD_OK)
+    reason = nard_device_path_libefivar_text(dp, count, NULL, 0, &length);
+    if (reason != NARD_BUFFER_TOO_SMALL)
         return refused(reason);
-    put_path(&text, dp, length);
-    /* One more for the NUL of the last node. */
-    text.room = text.count + 1;
-    text.count = 0;
-    text.units = malloc(text.room * sizeof *text.units);
-    if (!text.units)
+    units = malloc((length + 1) * sizeof *units);
+    if (!units || nard_device_path_libefivar_text(dp, count, units, length + 1, &length) != NARD_OK)
         return -1;
-    put_path(&text, dp, length);
-    bytes = utf8_of(text.units, text.count, &length);
+    bytes = utf8_of(units, length, &length);
     told = bytes ? give(buf, size, (char *)bytes, length) : -1;
-    free(text.units);
+    free(units);
     free(bytes);
     return told;
 }

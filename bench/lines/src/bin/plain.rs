@@ -1,6 +1,5 @@
-//! What the line program prints, by the standard library alone: `docs/SPECIFICATION.md`, "The line
-//! program", has the rules. Written for speed: units go straight into one output buffer, and no line
-//! takes memory of its own.
+//! What `upath_cli` prints, by the standard library alone: `docs/PROGRAMS.md` has the lines. Written for speed: units go straight
+//! into one output buffer, and no line allocates.
 use std::cmp::Ordering;
 use std::fmt::{self, Display};
 use std::io::{self, BufRead, Write};

@@ -1,0 +1,79 @@
+/*
+ * The first program of Linux in the test beside this file: runs uefi_boot on the machine's own variables, once with one of them
+ * protected as by `chattr +i`, and ends the machine.
+ */
+#include <fcntl.h>
+#include <linux/fs.h>
+#include <stdio.h>
+#include <stdlib.h>
+#include <sys/ioctl.h>
+#include <sys/mount.h>
+#include <sys/reboot.h>
+#include <sys/stat.h>
+#include <sys/syscall.h>
+#include <sys/wait.h>
+#include <unistd.h>
+
+#define VARIABLES "/sys/firmware/efi/efivars"
+#define PROTECTED VARIABLES "/Boot0000-8be4df61-93ca-11d2-aa0d-00e098032b8c"
+
+/* Does what `chattr +i` and `chattr -i` do. */
+static void protect(int is_protected)
+{
+    int flags = 0, file = open(PROTECTED, O_RDONLY);
+    if (file < 0 || ioctl(file, FS_IOC_GETFLAGS, &flags))
+        perror(PROTECTED);
+    flags = is_protected ? flags | FS_IMMUTABLE_FL : flags & ~FS_IMMUTABLE_FL;
+    if (ioctl(file, FS_IOC_SETFLAGS, &flags))
+        perror(PROTECTED);
+    close(file);
+}
+
+static void run(char *const words[])
+{
+    int status = 0;
+    printf("$");
+    for (int i = 0; words[i]; i++)
+        printf(" %s", words[i]);
+    printf("\n");
+    fflush(stdout);
+    pid_t child = fork();
+    if (child == 0) {
+        dup2(1, 2);
+        execv("/uefi_boot", words);
+        _exit(127);
+    }
+    waitpid(child, &status, 0);
+    printf("status %d\n", WEXITSTATUS(status));
+    fflush(stdout);
+}
+
+#define RUN(...) run((char *const[]){"uefi_boot", __VA_ARGS__, NULL})
+
+int main(void)
+{
+    mkdir("/proc", 0755);
+    mkdir("/sys", 0755);
+    mount("proc", "/proc", "proc", 0, "");
+    mount("sys", "/sys", "sysfs", 0, "");
+    int module = open("/efivarfs.ko", O_RDONLY);
+    if (module >= 0 && syscall(SYS_finit_module, module, "", 0))
+        perror("efivarfs.ko");
+    if (mount("efivarfs", VARIABLES, "efivarfs", 0, ""))
+        perror(VARIABLES);
+    printf("LINUX BEGINS\n");
+    RUN("create", "--description", "made by Linux", "--path", "HD(1,MBR,0x4E415244,0x800,0x4000)/\\EFI\\linux.efi", "--number", "0042");
+    RUN("timeout", "7");
+    RUN("next", "0042");
+    protect(1);
+    RUN("rename", "0000", "protected");
+    protect(0);
+    RUN("rename", "0000", "no longer protected");
+    RUN("delete", "0042");
+    run((char *const[]){"uefi_boot", VARIABLES, NULL});
+    printf("LINUX ENDS\n");
+    fflush(stdout);
+    sync();
+    sleep(1);
+    return reboot(RB_POWER_OFF);
+}
