@@ -3,14 +3,14 @@ use Rattle.std.specs.Fmt.{decimal}
 use Rattle.std.specs.Prelude.{ℕ, codes, List, ◌++◌}
 use Rattle.uefi_boot_variables.specs.declared.orders.NotTwoBytes.{NotTwoBytes}
 
--- that of bytes that are odd in number
+-- what is printed of bytes that are odd in number
 abbrev pub odd_length_text : List ℕ
 odd_length_text = codes "an order has two bytes for each number"
 
--- that of bytes that are not two
+-- what is printed of bytes that are not two
 abbrev pub not_two_bytes_text : NotTwoBytes → List ℕ
 not_two_bytes_text error = codes "a number has two bytes, and not " ++ decimal error.0
 
--- that of an order without room
+-- what is printed of an order without room
 abbrev pub order_full_text : List ℕ
 order_full_text = codes "there is no room for another number"
