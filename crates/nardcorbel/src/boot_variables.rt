@@ -112,6 +112,8 @@ pub extern "C" fn nard_boot_name_write(
         result place.new buffer.new }
     ensures name { (name : LoadOptionName) → kind ≡ kind_number name.kind → number ≡ name.number
         → Shows (Text (name_text name)) place.old buffer.old result place.new buffer.new }
+    ensures length { (name : LoadOptionName) → kind ≡ kind_number name.kind → number ≡ name.number
+        → place.new ≡ length (name_text name) }
 {
     let Some(kind) = kind_of(kind) else {
         return NOT_A_NAME;

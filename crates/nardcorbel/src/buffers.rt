@@ -1,11 +1,12 @@
 //! Paths that are made in a caller's buffer: whole, or not at all. No call takes memory.
-ghost use Rattle.std.specs.Prelude.{◌≡◌, ◌+◌, ◌*◌, ◌≤◌, ℕ, List, Err, Ok, length};
+ghost use Rattle.std.specs.Prelude.{◌≡◌, ◌+◌, ◌*◌, ◌≤◌, ℕ, List, Err, Ok, Some, length};
 ghost use Rattle.std.specs.Str.{IsUtf8, chars};
 ghost use Rattle.uefi_text.specs.Units.{IsText};
 ghost use Rattle.uefi_path.specs.Parents.{parent_text};
 ghost use Rattle.uefi_path.specs.Pushing.{pushed};
 ghost use Rattle.uefi_path.specs.Separators.{with_separators};
 ghost use Rattle.uefi_path.specs.Verdicts.{IsValid, verdict};
+ghost use Rattle.uefi_path.specs.Writing.{normal_path};
 ghost use Rattle.nardcorbel.specs.Buffers.{HasStringIn, first_half, normalized, parent_or_none, second_half};
 ghost use Rattle.nardcorbel.specs.Outcomes.{Shows, when_read, buffer_shown};
 ghost use Rattle.nardcorbel.specs.Outcomes.Outcome.{Text};
@@ -79,8 +80,10 @@ pub extern "C" fn nard_path_join(
 /// what stands after the NUL stays. Takes no memory.
 #[unsafe(no_mangle)]
 pub extern "C" fn nard_path_parent(path: &[u16], buffer: &mut [u16], place: &mut usize) -> u32
-    ensures { Shows (when_read (read_string path.now) (λ text. parent_or_none (parent_text text)))
+    ensures shows { Shows (when_read (read_string path.now) (λ text. parent_or_none (parent_text text)))
         place.old buffer.old result place.new buffer.new }
+    ensures length { (text parent : List ℕ) → read_string path.now ≡ Ok text
+        → parent_text text ≡ Some parent → place.new ≡ length parent }
 {
     let path = match read_string(path) {
         Ok(string) => Path::new(string),
@@ -110,6 +113,8 @@ pub extern "C" fn nard_path_normalize(
 ) -> u32
     ensures path { Shows (when_read (read_string path.now) normalized) place.old buffer.old
         result place.new buffer.new }
+    ensures length { (text normal : List ℕ) → read_string path.now ≡ Ok text
+        → normal_path (with_separators text) ≡ Some normal → place.new ≡ length normal }
     ensures no_character { (refusal : Refusal) → read_string path.now ≡ Err refusal → character.new ≡ 0 }
     ensures character { (text : List ℕ) → read_string path.now ≡ Ok text
         → character.new ≡ refused_character (verdict (with_separators text)) }
@@ -153,6 +158,8 @@ pub extern "C" fn nard_path_normalize_utf8(
     ensures path { HasStringIn bytes.now (second_half buffer.old)
         → Shows (normalized (chars bytes.now)) place.old (first_half buffer.old)
         result place.new (first_half buffer.new) }
+    ensures length { (normal : List ℕ) → HasStringIn bytes.now (second_half buffer.old)
+        → normal_path (with_separators (chars bytes.now)) ≡ Some normal → place.new ≡ length normal }
     ensures character { HasStringIn bytes.now (second_half buffer.old)
         → character.new ≡ refused_character (verdict (with_separators (chars bytes.now))) }
     ensures enough { 2 * length bytes.now + 2 ≤ length buffer.old → IsUtf8 bytes.now

@@ -1,11 +1,12 @@
 //! Device paths in bytes that C holds: whether bytes begin with one, its nodes, the file that it names, and
 //! its text.
-ghost use Rattle.std.specs.Prelude.{◌≡◌, ◌≢◌, ◌+◌, ◌<◌, ◌≤◌, ◌++◌, ◌∷◌, [], ℕ, List, None, Some, Err, Ok, Result, drop, length};
+ghost use Rattle.std.specs.Prelude.{◌≡◌, ◌≢◌, ◌+◌, ◌<◌, ◌≤◌, ◌++◌, ◌∷◌, [], ℕ, All, List, None, Some, Err, Ok, Result, drop, length};
 ghost use Rattle.uefi_device_path.specs.NodeFaults.{fault_place, node_fault};
 ghost use Rattle.uefi_device_path.specs.NodeError.{NodeError};
 ghost use Rattle.uefi_device_path.specs.Nodes.{IsInner, Node, end_entire, node_bytes};
 ghost use Rattle.uefi_device_path.specs.Extents.{BeginNoPath, HasExtent};
 ghost use Rattle.uefi_device_path.specs.Faults.{RefusedFor};
+ghost use Rattle.uefi_device_path.specs.FilePaths.{IsReadable, file_path};
 ghost use Rattle.uefi_device_path.specs.Paths.{BeginWithPath, path_bytes};
 ghost use Rattle.uefi_device_path.specs.declared.errors.DevicePathError.{DevicePathError};
 ghost use Rattle.uefi_device_path.specs.declared.errors.FilePathError.{FilePathError};
@@ -180,6 +181,8 @@ pub extern "C" fn nard_device_path_file_path(
     ensures path { (nodes : List Node) → read_path bytes.now ≡ Ok nodes
         → (file : Result (List ℕ) FilePathError) × GivesFilePath nodes file
         × Shows (file_outcome file) place.old buffer.old result place.new buffer.new }
+    ensures length { (nodes : List Node) → read_path bytes.now ≡ Ok nodes → All IsReadable nodes
+        → place.new ≡ length (file_path nodes) }
 {
     let path = match read_path(bytes) {
         Ok(path) => path,

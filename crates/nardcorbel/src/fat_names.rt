@@ -1,6 +1,6 @@
 //! Names on FAT volumes in units that C holds: which are names of files, which are of one file, and
 //! the characters of short names (UEFI Specification 2.10, sections 13.3 and 21.1).
-ghost use Rattle.std.specs.Prelude.{◌≡◌, ◌↔◌, ℕ, List, Err, Ok, IsTrue};
+ghost use Rattle.std.specs.Prelude.{◌≡◌, ◌↔◌, ℕ, List, Err, Ok, IsTrue, length};
 ghost use Rattle.uefi_text.specs.Case.{uppers};
 ghost use Rattle.uefi_text.specs.Units.{BeginsWithString};
 ghost use Rattle.uefi_text.specs.Views.{units_of};
@@ -119,7 +119,8 @@ pub extern "C" fn nard_fat_from_string(units: &[u16], bytes: &mut [u8], place: &
 /// `BUFFER_TOO_SMALL`, and stays unchanged. Takes no memory.
 #[unsafe(no_mangle)]
 pub extern "C" fn nard_string_from_fat(bytes: &[u8], buffer: &mut [u16], place: &mut usize) -> u32
-    ensures { Shows (Text (fat_text bytes.now)) place.old buffer.old result place.new buffer.new }
+    ensures shows { Shows (Text (fat_text bytes.now)) place.old buffer.old result place.new buffer.new }
+    ensures length { place.new ≡ length (fat_text bytes.now) }
 {
     report(fat_to_str(bytes, buffer), place)
 }

@@ -15,14 +15,17 @@ ghost use Rattle.nardcorbel.specs.Strings.{text_until_nul};
 use crate::outcomes::{read_string, read_utf8, refuse, report};
 use crate::reasons::{BUFFER_TOO_SMALL, INTERIOR_NUL, INVALID_CHAR, OK};
 use uefi_text::decode::write_lossy;
-use uefi_text::{CStr16, EqStrUntilNul, is_latin1};
+use uefi_text::{CStr16, EqStrUntilNul, is_latin1, text_len};
 
-/// Why a text is no string, or `OK`; and how many characters are before the one that it cannot
-/// have, which are all of them where it has none.
+/// Why a text is no string, or `OK`; and the number of characters before the first that no string can
+/// have, or of all characters if there is none. Characters are decoded only to find that first one.
 fn judge_text(text: &str) -> (u32, usize)
     ensures reason { result.0 ≡ character_reason (find is_deciding_char (chars text.now)) }
     ensures place { result.1 ≡ position_or_len is_deciding_char (chars text.now) }
 {
+    if let Some(len) = text_len(text) {
+        return (OK, len);
+    }
     let mut len = 0;
     for character in text.chars() {
         match character {
@@ -43,7 +46,8 @@ fn judge_text(text: &str) -> (u32, usize)
 /// unchanged; what is after the NUL stays. Takes no memory.
 #[unsafe(no_mangle)]
 pub extern "C" fn nard_string_from_utf8(bytes: &[u8], buffer: &mut [u16], place: &mut usize) -> u32
-    ensures { Shows (string_of_utf8 bytes.now) place.old buffer.old result place.new buffer.new }
+    ensures shows { Shows (string_of_utf8 bytes.now) place.old buffer.old result place.new buffer.new }
+    ensures length { IsUtf8 bytes.now → IsText (chars bytes.now) → place.new ≡ length (chars bytes.now) }
 {
     let text = match read_utf8(bytes) {
         Ok(text) => text,

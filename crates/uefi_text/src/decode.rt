@@ -107,6 +107,19 @@ fn store<const N: usize>(bytes: &mut [u8], place: usize, lanes: Simd<u8, N>)
     lanes.copy_to_slice(&mut bytes[place..]);
 }
 
+/// Writes the UTF-8 of eight units that have three bytes each from a place on.
+#[inline(always)]
+fn write_wide(bytes: &mut [u8], place: usize, units: u16x8)
+    requires wide { (k : ℕ) → k < 8 → 0x800 ≤ slice_index units k }
+    requires room { place + length (encode_utf8_all units) ≤ length bytes.old }
+    ensures len { length (encode_utf8_all units) ≡ 24 }
+    ensures bytes { take (place + 24) bytes.new ≡ take place bytes.old ++ encode_utf8_all units }
+{
+    let (front, back) = eight_of_three_bytes(units);
+    store(bytes, place, front);
+    store(bytes, place + 16, back);
+}
+
 /// Writes the UTF-8 of at most eight units from a place on, and returns the place after them. Eight that
 /// have three bytes each are written together.
 #[inline(always)]
@@ -123,9 +136,7 @@ fn write_few(bytes: &mut [u8], place: usize, units: &[u16]) -> usize
     if lanes.simd_ge(u16x8::splat(0x800)).to_bitmask() != 0xff {
         return write_each(bytes, place, units);
     }
-    let (front, back) = eight_of_three_bytes(lanes);
-    store(bytes, place, front);
-    store(bytes, place + 16, back);
+    write_wide(bytes, place, lanes);
     place + 24
 }
 
@@ -171,6 +182,20 @@ pub(crate) fn write_latin1(bytes: &mut [u8], characters: &[u8]) -> usize
     write_utf8(bytes, &units[..len])
 }
 
+/// Does what [`add_utf8`] does, in memory whose size is counted first.
+fn add_wide<A: Allocator>(bytes: &mut Vec<u8, A>, units: &[u16]) -> Result<(), AllocError>
+    ensures ok { OnOk result (bytes.new.items ≡ bytes.old.items ++ encode_utf8_all units.now) }
+    ensures err { OnErr result (bytes.new.items ≡ bytes.old.items) }
+{
+    let start = bytes.len();
+    let Some(end) = start.checked_add(utf8_len(units)) else {
+        return Err(AllocError);
+    };
+    bytes.resize(end, 0)?;
+    write_by_eight(&mut bytes[start..], units);
+    Ok(())
+}
+
 /// Adds the UTF-8 of units to bytes, which stay unchanged where memory is refused.
 pub(crate) fn add_utf8<A: Allocator>(
     bytes: &mut Vec<u8, A>,
@@ -182,13 +207,7 @@ pub(crate) fn add_utf8<A: Allocator>(
     if is_ascii(units) {
         return add_ascii(bytes, units);
     }
-    let start = bytes.len();
-    let Some(end) = start.checked_add(utf8_len(units)) else {
-        return Err(AllocError);
-    };
-    bytes.resize(end, 0)?;
-    write_by_eight(&mut bytes[start..], units);
-    Ok(())
+    add_wide(bytes, units)
 }
 
 /// Whether two units are the surrogates of one character.

@@ -29,9 +29,14 @@ fn is_undecided(text: &str) -> bool
     !has_deciding_byte(text.as_bytes())
 }
 
-/// How many units a text of UCS-2 has, which is how many characters; `None` exactly for other texts. Bytes
-/// are looked at, and none of them is decoded.
-pub(crate) fn text_len(text: &str) -> Option<usize>
+/// The number of units of a UCS-2 text, which is its number of characters; or `None` for any other text.
+/// Looks at the bytes, and decodes none of them.
+///
+/// ```rust
+/// assert_eq!(rt; text_len("B\u{f6}ot"), Some(4));
+/// assert_eq!(rt; text_len("\u{1f600}"), None);
+/// ```
+pub fn text_len(text: &str) -> Option<usize>
     ensures text { SomeIff result (IsText (chars text.now)) (length (chars text.now)) }
     ensures undecided { SomeIff result (find is_deciding_char (chars text.now) ≡ None)
         (length (chars text.now)) }
