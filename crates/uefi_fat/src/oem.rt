@@ -120,8 +120,8 @@ fn text_len(bytes: &[u8]) -> usize
 }
 
 /// Writes the string of bytes in the characters of short names to the start of a buffer, as
-/// `FatToStr` does: a unit for each byte before the first NUL, or for each byte if there is none, and a NUL.
-/// Returns its length without the NUL. What follows the NUL is unchanged.
+/// `FatToStr` does: a unit for each byte before the first NUL, or for each byte if there is none,
+/// and a NUL. Returns its length without the NUL. The rest of the buffer is unchanged.
 ///
 /// Fails only if the buffer is too small, and then leaves it unchanged. Two passes.
 ///

@@ -20,7 +20,7 @@ use uefi_text::counted::CountedReader;
 use uefi_text::strs::{CStr16, Char16Slice};
 
 /// An iterator over the components of a path. A contract sees it as `components_left` of it: what
-/// is still to come.
+/// remains.
 #[derive(Drop)]
 pub struct Components<'a> {
     /// What is left to cut; `None` after the last component.

@@ -43,8 +43,8 @@ fn find_path_fault(path: Path<'_>) -> Option<PathFault>
     None
 }
 
-/// Whether a path is accepted, as [`validate_path`](crate::validate_path) says; or why not, and where its
-/// first component at fault begins. Takes no memory.
+/// Whether a path is accepted, as [`validate_path`](crate::validate_path) says; or why not, and
+/// where its first component at fault begins. Does not allocate.
 ///
 /// ```rust
 /// let text = CString16::try_from_str(rt.alloc(), r"\efi\b?ot")?;

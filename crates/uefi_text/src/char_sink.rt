@@ -61,7 +61,7 @@ impl<A: Allocator> CharSink for String<A> {
     }
 }
 
-/// Refuses a character exactly where the text with it would pass `N` bytes. Takes no memory.
+/// Refuses a character exactly if the text with it would pass `N` bytes. Does not allocate.
 impl<const N: usize> CharSink for ArrayString<N> {
     ghost text = { λ string. string.bytes };
 

@@ -83,7 +83,7 @@ impl<A: Allocator + Copy> PartialRun<A> {
     }
 }
 
-/// What the lines of an input print, from the empty path on.
+/// Returns what the lines of an input print, from the empty path on.
 ///
 /// Lines end at a line feed, and no other byte ends or trims one. `from T` makes the path that of T, its
 /// slashes replaced, `push T` and `join T` push that onto it, `clear` empties it, `parent` makes it its
