@@ -182,9 +182,9 @@ pub extern "C" fn nard_device_path_push_lenient_text(
     push_styled_text(TextStyle::Lenient, buffer, bytes, scratch, place)
 }
 
-/// Adds the nodes of a text in UTF-8 that libefivar prints, and efibootmgr with it, to the device path
-/// that a buffer begins with, before its end, as [`push_libefivar_text_in_buf`](uefi_device_path) does.
-/// It is refused as by [`nard_device_path_push_lenient_text`].
+/// Adds the nodes of a text in UTF-8 that libefivar and efibootmgr print to the device path that a
+/// buffer begins with, before its end, as [`push_libefivar_text_in_buf`](uefi_device_path) does. It
+/// is refused as by [`nard_device_path_push_lenient_text`].
 #[unsafe(no_mangle)]
 pub extern "C" fn nard_device_path_push_libefivar_text(
     buffer: &mut [u8],

@@ -168,10 +168,10 @@ pub extern "C" fn nard_device_path_next_node(
 /// Bytes that do not begin with a device path are refused as by [`nard_device_path_check`], and
 /// then a node that should name a file and has no name, where `place` becomes the offset of its
 /// data: `ODD_BYTES` where they end in half a unit, and else as by `nard_string_with_nul`.
-/// Otherwise `place` becomes the number of units of the file path, its NUL not counted, and a
-/// buffer with at most that many places is refused as `BUFFER_TOO_SMALL`. If the call refuses, the
-/// buffer is unchanged. Units after the NUL are never changed. Does not allocate (UEFI
-/// Specification 2.10, section 10.3.5.4).
+/// Otherwise `place` becomes the number of units of the file path, without its NUL, and a buffer
+/// with at most that many places is refused as `BUFFER_TOO_SMALL`. If the call refuses, the buffer
+/// is unchanged. Units after the NUL are never changed. Does not allocate (UEFI Specification 2.10,
+/// section 10.3.5.4).
 #[unsafe(no_mangle)]
 pub extern "C" fn nard_device_path_file_path(
     bytes: &[u8],
@@ -199,8 +199,8 @@ pub extern "C" fn nard_device_path_file_path(
 /// into the first places of a buffer as UTF-16, and a NUL.
 ///
 /// Bytes that do not begin with a device path are refused as by [`nard_device_path_check`], and the
-/// buffer stays unchanged. Otherwise `place` becomes the number of units of the text, its NUL not
-/// counted, or at most `usize::MAX - 1`, and a buffer of no more places, and no other, is
+/// buffer stays unchanged. Otherwise `place` becomes the number of units of the text, without its
+/// NUL, or at most `usize::MAX - 1`, and a buffer of no more places, and no other, is
 /// `BUFFER_TOO_SMALL`: it stays unchanged. What stands after the NUL stays. Does not allocate (UEFI
 /// Specification 2.10, section 10.6.1).
 #[unsafe(no_mangle)]

@@ -93,8 +93,7 @@ pub(crate) fn report_fat(written: FatBytes, place: &mut usize) -> u32
 }
 
 /// Writes the string that units begin with to the start of `bytes` in the characters of short
-/// names, as `str_to_fat` does: `OK`, or `CHAR_REPLACED` where one of them is `_` in place of
-/// another.
+/// names, as `str_to_fat` does: `OK`, or `CHAR_REPLACED` if one of them is `_` in place of another.
 ///
 /// `place` becomes how many bytes are written. What is after them stays, and no NUL is written.
 /// Units that do not begin with a string are refused as by `nard_string_until_nul`, whose `place`
@@ -113,8 +112,8 @@ pub extern "C" fn nard_fat_from_string(units: &[u16], bytes: &mut [u8], place: &
 }
 
 /// Writes the string of bytes in the characters of short names to the start of `buffer`, as
-/// `fat_to_str` does: a unit for each byte before the first NUL, or for each byte where there is
-/// none, and a NUL.
+/// `fat_to_str` does: a unit for each byte before the first NUL, or for each byte if there is none,
+/// and adds a NUL.
 ///
 /// `place` becomes how many units the text has. A buffer with no more places than these is
 /// `BUFFER_TOO_SMALL`, and stays unchanged. Does not allocate.

@@ -25,7 +25,7 @@ pub struct LoadOptionParts {
     /// The offset of the description.
     pub description_start: usize,
 
-    /// The number of units of the description, its NUL not counted.
+    /// The number of units of the description, without its NUL.
     pub description_length: usize,
 
     /// The offset of the file path list.
@@ -34,7 +34,7 @@ pub struct LoadOptionParts {
     /// The number of bytes of the file path list.
     pub list_length: usize,
 
-    /// The number of bytes of the first device path of the list, its end node among them.
+    /// The number of bytes of the first device path of the list, its end node included.
     pub path_length: usize,
 
     /// The offset of the optional data.

@@ -69,7 +69,7 @@ pub extern "C" fn nard_path_verdict(units: &[u16], place: &mut usize, character:
 }
 
 /// Returns whether both begin with a string, and the paths of these are equal: one leading
-/// separator says nothing. Does not allocate.
+/// separator makes no difference. Does not allocate.
 #[unsafe(no_mangle)]
 pub extern "C" fn nard_path_equal(first: &[u16], second: &[u16]) -> bool
     ensures { IsTrue result ↔ (BeginsWithString first.now × BeginsWithString second.now
@@ -84,9 +84,9 @@ pub extern "C" fn nard_path_equal(first: &[u16], second: &[u16]) -> bool
     Path::new(first) == Path::new(second)
 }
 
-/// Returns the order of two paths, which is that of their texts without one leading separator, by
-/// code unit: -1, 0 or 1 where the first is less, equal or greater, and `NO_ORDER` where one of
-/// them does not begin with a string. Does not allocate.
+/// Returns the order of two paths, by their texts without one leading separator, by code unit: -1,
+/// 0 or 1 if the first is less, equal or greater, and `NO_ORDER` if one of them does not begin with
+/// a string. Does not allocate.
 #[unsafe(no_mangle)]
 pub extern "C" fn nard_path_order(first: &[u16], second: &[u16]) -> i32
     ensures order { BeginsWithString first.now → BeginsWithString second.now
@@ -105,8 +105,8 @@ pub extern "C" fn nard_path_order(first: &[u16], second: &[u16]) -> i32
 
 /// Finds the next component of a path, from a place in its text on. Returns whether there is one.
 ///
-/// `text` are the units of the path without its NUL, any units. `place` is 0 at first. Where there
-/// is a component it is the `len` units from `start` on, which is `place`, but 1 where a separator
+/// `text` are the units of the path without its NUL, any units. `place` is 0 at first. If there is
+/// a component it is the `len` units from `start` on, which is `place`, but 1 where a separator
 /// begins the text and `place` is 0; and `place` becomes the place of the next one, after the
 /// separator that ends it. Else all three stay unchanged. An empty component is one, too. Does not
 /// allocate.
@@ -139,7 +139,7 @@ pub extern "C" fn nard_path_next_component(
 /// Finds the last component of a path. Returns whether it has one.
 ///
 /// `text` are the units of the path without its NUL, any units. `start` becomes the place where the
-/// component begins, which ends with the text, and stays unchanged where there is none. It may be
+/// component begins, which ends with the text, and stays unchanged if there is none. It may be
 /// empty. Does not allocate.
 #[unsafe(no_mangle)]
 pub extern "C" fn nard_path_file_name(text: &[u16], start: &mut usize) -> bool

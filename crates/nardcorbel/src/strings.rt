@@ -95,8 +95,8 @@ pub extern "C" fn nard_string_equal(first: &[u16], second: &[u16]) -> bool
     first.eq_cstr16(second)
 }
 
-/// Returns the order of two strings, by code unit: -1, 0 or 1 where the first is less, equal or
-/// greater, and `NO_ORDER` where one of them does not begin with a string. Does not allocate.
+/// Returns the order of two strings, by code unit: -1, 0 or 1 if the first is less, equal or
+/// greater, and `NO_ORDER` if one of them does not begin with a string. Does not allocate.
 #[unsafe(no_mangle)]
 pub extern "C" fn nard_string_order(first: &[u16], second: &[u16]) -> i32
     ensures order { BeginsWithString first.now → BeginsWithString second.now
@@ -112,8 +112,8 @@ pub extern "C" fn nard_string_order(first: &[u16], second: &[u16]) -> i32
     order_number(first.cmp(&second))
 }
 
-/// Returns whether the units begin with a string, and each character of its text is one of ASCII.
-/// Does not allocate.
+/// Returns whether the units begin with a string, and each character of its text is ASCII. Does not
+/// allocate.
 #[unsafe(no_mangle)]
 pub extern "C" fn nard_string_is_ascii(units: &[u16]) -> bool
     ensures { IsTrue result ↔ (BeginsWithString units.now × IsAscii (text_until_nul units.now)) }

@@ -1,5 +1,6 @@
-//! Units that may hold surrogates, compared without case, matched and converted as the firmware's Unicode
-//! collation does (UEFI Specification 2.10, section 21.1): names on FAT volumes may be no strings.
+//! Units that may contain surrogates, compared without case, matched and converted as the
+//! firmware's Unicode collation does (UEFI Specification 2.10, section 21.1): names on FAT volumes
+//! may be no strings.
 //!
 //! The text of units is what is before their first NUL, or all of them if there is none. No call
 //! refuses a unit.

@@ -93,8 +93,8 @@ pub extern "C" fn nard_string_equal_until_nul(units: &[u16], bytes: &[u8]) -> bo
     }
 }
 
-/// Returns whether the bytes are UTF-8, and each character that they encode is one of Latin-1. Does
-/// not allocate.
+/// Returns whether the bytes are UTF-8, and each character that they encode is Latin-1. Does not
+/// allocate.
 #[unsafe(no_mangle)]
 pub extern "C" fn nard_utf8_is_latin1(bytes: &[u8]) -> bool
     ensures { IsTrue result ↔ (IsUtf8 bytes.now × IsLatin1 (chars bytes.now)) }

@@ -68,9 +68,9 @@ pub extern "C" fn nard_string_equal_ignore_case(first: &[u16], second: &[u16]) -
     first.eq_ignore_case(second)
 }
 
-/// Returns the order of two strings without case, which is that of their units in upper case: -1, 0
-/// or 1 where the first is less, equal or greater, and `NO_ORDER` where one of them does not begin
-/// with a string. Does not allocate.
+/// Returns the order of two strings without case, by their units in upper case: -1, 0 or 1 if the
+/// first is less, equal or greater, and `NO_ORDER` if one of them does not begin with a string.
+/// Does not allocate.
 #[unsafe(no_mangle)]
 pub extern "C" fn nard_string_order_ignore_case(first: &[u16], second: &[u16]) -> i32
     ensures order { BeginsWithString first.now → BeginsWithString second.now
@@ -104,7 +104,7 @@ pub extern "C" fn nard_string_matches(units: &[u16], pattern: &[u16]) -> bool
 }
 
 /// Returns whether both begin with a string, and the paths of these are equal without case: one
-/// leading separator says nothing. Does not allocate.
+/// leading separator makes no difference. Does not allocate.
 #[unsafe(no_mangle)]
 pub extern "C" fn nard_path_equal_ignore_case(first: &[u16], second: &[u16]) -> bool
     ensures { IsTrue result ↔ (BeginsWithString first.now × BeginsWithString second.now

@@ -12,7 +12,7 @@ ghost use Rattle.uefi_text.specs.UnitBytes.{unit_bytes};
 use crate::order_edits::{OrderFull, copy, insert, move_to_front, put, remove};
 use crate::orders::LoadOrder;
 
-/// An order in the caller's memory, in which no number stands twice. No call allocates memory.
+/// An order in the caller's memory, in which no number occurs twice. No call allocates memory.
 ///
 /// A contract sees the list of its numbers (`numbers_in`), and what all places of the caller's memory hold
 /// (`order_places`): the numbers come first, and no call changes the places after them. Once the order is no

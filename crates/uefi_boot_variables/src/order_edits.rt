@@ -1,8 +1,8 @@
 //! Edits of an order that lies in the first places of a slice.
 //!
-//! `len` says how many numbers the order has; where there are fewer places, it has as many as
-//! these. A number may stand twice in such an order, and no edit leaves the number that it is about
-//! there twice. The places after the order are unchanged. No call allocates.
+//! `len` says how many numbers the order has; if there are fewer places, it has as many as these. A
+//! number may stand twice in such an order, and no edit leaves the number that it is about there
+//! twice. The places after the order are unchanged. No call allocates.
 #![tactic(auto)]
 
 ghost use Rattle.std.specs.Prelude.{◌≡◌, ◌+◌, ◌-◌, ◌<◌, ◌≤◌, ◌↔◌, false, insert, length, take, IfOk, IsErr, OnErr, OnOk, Some};

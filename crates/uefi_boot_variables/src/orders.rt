@@ -100,7 +100,7 @@ pub struct LoadOrder<'a> {
 
 impl<'a> LoadOrder<'a> {
     /// Reads the order in the bytes of a variable, two for each number, the low byte first. Refused
-    /// exactly if the bytes are odd in number.
+    /// exactly if the number of bytes is odd.
     ///
     /// ```rust
     /// assert_eq!(rt; LoadOrder::from_bytes(&[3, 0, 1, 0])?.get(1), Some(1));
@@ -138,7 +138,7 @@ impl<'a> LoadOrder<'a> {
         self.numbers.get(place)
     }
 
-    /// The number at a place where there is one.
+    /// The number at a place if there is one.
     pub(crate) fn number(&self, place: usize) -> u16
         requires { place < length (numbers_of self.now) }
         ensures { result ≡ slice_index (numbers_of self.now) place }

@@ -136,8 +136,9 @@ impl<'a> DevicePathBuilder<'a> {
         })
     }
 
-    /// Adds all nodes of another path before the end. Fails with `BufferTooSmall` and the count of bytes that
-    /// the path then needs, if the buffer has fewer; the path is then unchanged. Allocates nothing.
+    /// Adds all nodes of another path before the end. Fails with `BufferTooSmall` and the number of
+    /// bytes that the path then needs, if the buffer has fewer; the path is then unchanged.
+    /// Allocates nothing.
     ///
     /// ```rust
     /// let card = DevicePathBuf::from_text(rt.alloc(), "SD(0x1)")?;

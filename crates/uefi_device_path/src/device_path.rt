@@ -85,8 +85,8 @@ impl<'a> DevicePath<'a> {
         }
     }
 
-    /// The device path that bytes begin with, and the bytes after it, where they begin with one: no header is
-    /// tested again.
+    /// The device path that bytes begin with, and the bytes after it, if they begin with one: no
+    /// header is tested again.
     pub(crate) fn take_first(bytes: &'a [u8]) -> (Self, &'a [u8])
         requires { (nodes : List Node) × BeginWithPath bytes.now nodes }
         ensures { BeginWith bytes.now (nodes_of result.0) (node_bytes end_entire ++ result.1.now) }
@@ -158,7 +158,7 @@ impl<'a> DevicePath<'a> {
         }
     }
 
-    /// All bytes of the path, those of the node that ends it among them.
+    /// All bytes of the path, its end node included.
     ///
     /// ```rust
     /// let path = DevicePath::from_bytes(&[0x7f, 0xff, 4, 0, 9, 9])?;
@@ -214,7 +214,7 @@ impl<'a> DevicePath<'a> {
     }
 
     /// Writes the file path, which [`DevicePath::file_path`] makes, to the start of a buffer, with
-    /// a NUL after it, and returns its length without the NUL. The rest of the buffer is unchanged.
+    /// a NUL, and returns its length without the NUL. The rest of the buffer is unchanged.
     ///
     /// Fails with `Name` if that call refuses a name, for the same node, or else if the buffer is
     /// too small. The buffer is then unchanged. Does not allocate.
@@ -290,8 +290,8 @@ impl<'a> DevicePath<'a> {
     }
 
     /// Writes what is printed of the path, which [`DevicePath::display`] gives, to the start of a
-    /// buffer as UTF-16, with a NUL after it, and returns its length without the NUL. The rest of
-    /// the buffer is unchanged.
+    /// buffer as UTF-16, with a NUL, and returns its length without the NUL. The rest of the buffer
+    /// is unchanged.
     ///
     /// Fails only if the buffer is too small, and then leaves it unchanged. Makes the text twice:
     /// once to count its units, and once to write them. Does not allocate.

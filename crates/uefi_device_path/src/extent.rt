@@ -17,7 +17,7 @@ use uefi_device_nodes::node::{DevicePathNode, fault_place};
 pub struct PathCut {
     /// The number of bytes of the whole nodes that come first: the next node begins there.
     pub passed: usize,
-    /// How many bytes there have to be to go on: up to the end of the next node's header, or of the
+    /// The number of bytes needed to continue: up to the end of the next node's header, or of the
     /// node if its header is there.
     pub needed: usize,
 }

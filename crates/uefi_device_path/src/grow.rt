@@ -47,8 +47,8 @@ pub(crate) fn put_at<N: BuildNode>(buffer: &mut [u8], len: usize, node: &N) -> u
     end
 }
 
-/// The same where there is room for the node; else the buffer is unchanged. Returns how many bytes the path
-/// then has or needs, as far as a `usize` counts.
+/// Adds a node in this way if there is room for it; otherwise the buffer is unchanged. Returns how
+/// many bytes the path then has or needs, as far as a `usize` counts.
 pub(crate) fn put_if_room<N: BuildNode>(buffer: &mut [u8], len: usize, node: &N) -> usize
     requires is_path { len ≤ length buffer.now → IsPath (take len buffer.now) }
     requires unrefused { build_refusal (N.node node.now) ≡ None }

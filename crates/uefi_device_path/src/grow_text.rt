@@ -38,7 +38,7 @@ fn text_error(error: PushLenientTextError) -> PushTextError
 /// The text is read as [`DevicePathBuf::from_text`](crate::DevicePathBuf) reads it; a comma in it
 /// ends an instance. Fails with `Path` if the buffer does not begin with a device path, then with
 /// `NoNode` and the byte at which the text stops being that of a path, and then with
-/// `BufferTooSmall` and the count of bytes that the path then needs; the buffer is then unchanged.
+/// `BufferTooSmall` and the number of bytes that the path then needs; the buffer is then unchanged.
 /// Allocates nothing.
 ///
 /// ```rust

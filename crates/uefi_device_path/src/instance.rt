@@ -50,7 +50,7 @@ pub struct DevicePathInstanceIterator<'a> {
     pub ghost are_nodes: { ForSome rest (λ bytes. AreNodes bytes.now) },
 }
 
-/// The bytes of the first instance, and those after the node that ends it, where there is one.
+/// The bytes of the first instance, and those after the node that ends it, if there is one.
 pub(crate) fn cut_instance(bytes: &[u8]) -> (&[u8], Option<&[u8]>)
     requires { AreNodes bytes.now }
     ensures first { AreNodes result.0.now }
@@ -105,8 +105,8 @@ impl<'a> DevicePathInstance<'a> {
     }
 
     /// Writes the file path, which [`DevicePathInstance::file_path`] makes, to the start of a
-    /// buffer, with a NUL after it, and returns its length without the NUL. The rest of the buffer
-    /// is unchanged.
+    /// buffer, with a NUL, and returns its length without the NUL. The rest of the buffer is
+    /// unchanged.
     ///
     /// Fails with `Name` if that call refuses a name, for the same node, or else if the buffer is
     /// too small. The buffer is then unchanged. Does not allocate.

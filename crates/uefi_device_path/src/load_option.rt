@@ -177,7 +177,7 @@ impl<'a> LoadOption<'a> {
         self.attributes / 2 % 2 == 1
     }
 
-    /// Returns whether a menu leaves the option out: `LOAD_OPTION_HIDDEN`.
+    /// Returns whether a menu omits the option: `LOAD_OPTION_HIDDEN`.
     pub fn is_hidden(&self) -> bool
         ensures { IsTrue result ↔ ((entry_of self.now).attributes / 8 % 2 ≡ 1) }
     {
@@ -193,7 +193,7 @@ impl<'a> LoadOption<'a> {
     }
 
     /// Returns the description as a string in its own memory. Refused as
-    /// [`UnalignedSlice::to_cstring16`] refuses its units: where it holds a surrogate, and then as
+    /// [`UnalignedSlice::to_cstring16`] refuses its units: if it holds a surrogate, and then as
     /// `OutOfMemory`. One allocation.
     ///
     /// ```rust
@@ -215,8 +215,8 @@ impl<'a> LoadOption<'a> {
     }
 
     /// Returns the description in UTF-8: each pair of surrogates is one character, and U+FFFD
-    /// stands for each surrogate that has no partner (Unicode Standard, section 3.9), so that
-    /// nothing is refused but memory. Takes memory for the units, and for the text as it grows.
+    /// stands for each surrogate without a partner (Unicode Standard, section 3.9), so that nothing
+    /// is refused but memory. Takes memory for the units, and for the text as it grows.
     ///
     /// ```rust
     /// let option = LoadOption::from_bytes(b"\x01\0\0\0\x04\0a\0\0\xd8\0\0\x7f\xff\x04\0")?;
@@ -230,7 +230,7 @@ impl<'a> LoadOption<'a> {
     }
 
     /// Returns the code units of the description, its NUL included, wherever they lie. They may
-    /// hold surrogates: [`UnalignedSlice::to_cstr16`] and its neighbours say whether they are a
+    /// contain surrogates: [`UnalignedSlice::to_cstr16`] and its neighbours say whether they are a
     /// string.
     ///
     /// ```rust
@@ -274,8 +274,8 @@ impl<'a> LoadOption<'a> {
     }
 
     /// Returns the code units that the bytes after the file path list encode, two bytes for each,
-    /// the low byte first: a command line, where the loader takes one. `None` exactly if the bytes
-    /// are odd in number. The units may hold NULs and surrogates.
+    /// the low byte first: a command line, where the loader takes one. `None` exactly if the number
+    /// of bytes is odd. The units may hold NULs and surrogates.
     ///
     /// ```rust
     /// let option = LoadOption::from_bytes(b"\x01\0\0\0\x04\0a\0\0\0\x7f\xff\x04\0q\0\0\0")?;

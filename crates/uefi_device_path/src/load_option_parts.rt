@@ -141,7 +141,7 @@ impl<'a> LoadOptionParts<'a> {
         self.attributes
     }
 
-    /// Returns the code units of the description and its NUL, if it has one. They may hold
+    /// Returns the code units of the description and its NUL, if it has one. They may contain
     /// surrogates.
     pub fn description_units(&self) -> Option<UnalignedSlice<'a, u16>>
         ensures units { MatchOption result ((parts_of self.now).description ≡ None) (λ units.

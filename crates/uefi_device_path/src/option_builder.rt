@@ -197,7 +197,7 @@ impl<'a> LoadOptionBuilder<'a> {
         Ok(lengths.whole)
     }
 
-    /// Returns the bytes of the load option, in memory of their own. Refused as
+    /// Returns the bytes of the load option, in their own memory. Refused as
     /// [`LoadOptionBuilder::write`] refuses the fields, and then as `OutOfMemory`. One allocation,
     /// of the size of the load option.
     ///

@@ -70,8 +70,8 @@ fn extent_in<A: Allocator + Copy>(
 }
 
 /// Returns how many bytes of a text are the path that it begins with, as people write it, where
-/// something else may follow: programs such as efibootmgr print optional data directly after the
-/// last node.
+/// other text may follow: programs such as efibootmgr print optional data directly after the last
+/// node.
 ///
 /// The path is all of the text if [`DevicePathBuf::from_lenient_text`](crate::DevicePathBuf) reads that. If
 /// the call refuses the text at a byte where a node should end, the path is what stands before this byte.
@@ -92,7 +92,7 @@ pub fn lenient_text_extent<A: Allocator + Copy>(
     extent_in(TextStyle::Lenient, alloc, text)
 }
 
-/// The same of a text that libefivar prints, and efibootmgr with it, as
+/// The same of a text that libefivar and efibootmgr print, as
 /// [`DevicePathBuf::from_libefivar_text`](crate::DevicePathBuf) reads it.
 ///
 /// ```rust

@@ -65,7 +65,7 @@ impl<'a> Path<'a> {
         self.strip_prefix_ignore_case(base).is_some()
     }
 
-    /// Returns the components of this path after as many as the base has, where it starts with the
+    /// Returns the components of this path after as many as the base has, if it starts with the
     /// base without case; otherwise `None`.
     ///
     /// ```rust

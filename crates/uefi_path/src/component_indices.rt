@@ -51,7 +51,7 @@ impl<'a> Path<'a> {
     ghost use Rattle.uefi_path.specs.ComponentIndices.{BeginAtPlaces, indexed_units, indices_left};
 
     /// Returns the components, as [`Path::components`], each with the place where it begins: how
-    /// many characters of the text stand before it, a leading separator among them. Does not
+    /// many characters of the text stand before it, a leading separator included. Does not
     /// allocate.
     ///
     /// ```rust

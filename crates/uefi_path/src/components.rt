@@ -166,7 +166,7 @@ impl<'a> Components<'a> {
         false
     }
 
-    /// Those after the components of a base, where they begin with these.
+    /// Those after the components of a base, if they begin with these.
     pub(crate) fn strip(self, base: Components<'_>) -> Option<Components<'a>>
         requires texts { All IsText (components_left self) }
         requires bound { length (components_left self) < 2 ^ 64 }

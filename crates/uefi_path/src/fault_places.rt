@@ -15,8 +15,8 @@ pub struct PathFault {
     /// Why: the error of [`validate_path`](crate::validate_path).
     pub error: PathError,
 
-    /// Where the component at fault begins in the text of the path: how many characters stand before
-    /// it, a leading separator among them. 0 where the text is empty.
+    /// Where the component at fault begins in the text of the path: how many characters stand
+    /// before it, a leading separator included. 0 where the text is empty.
     pub place: usize,
 }
 

@@ -80,7 +80,7 @@ pub fn parent_shape()
     ensures not_doubled { ParentIsNotDoubled }
 {}
 
-/// The parent of a valid path, where there is one, is valid.
+/// The parent of a valid path, if there is one, is valid.
 #[tactic(auto, using(crate::proofs::ParentForm::valid_parent_text))]
 pub fn parent_valid()
     ensures { ParentIsValid }

@@ -25,7 +25,7 @@ use uefi_text::chars::SEPARATOR;
 use uefi_text::strs::{CStr16, Char16Slice};
 
 /// A borrowed path: any string, read as components between separators. A contract sees it as
-/// `path_text` of it: its whole text, a leading separator among it.
+/// `path_text` of it: its whole text, a leading separator included.
 #[derive(Clone, Copy)]
 pub struct Path<'a> {
     string: CStr16<'a>,
@@ -118,8 +118,8 @@ impl<'a> Path<'a> {
         self.strip_prefix(base).is_some()
     }
 
-    /// Returns the components of this path after those of the base, where it starts with the base,
-    /// as [`Path::starts_with`] says; otherwise `None`. Does not allocate.
+    /// Returns the components of this path after those of the base, if it starts with the base, as
+    /// [`Path::starts_with`] says; otherwise `None`. Does not allocate.
     ///
     /// ```rust
     /// let text = CString16::try_from_str(rt.alloc(), r"\efi\boot\bootx64.efi")?;

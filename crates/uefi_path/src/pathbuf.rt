@@ -124,7 +124,7 @@ fn replace_slashes<A: Allocator>(string: &mut CString16<A>, has_slash: bool)
     }
 }
 
-/// Where the last component begins, or the length where there is none.
+/// Where the last component begins, or the length if there is none.
 fn name_start(units: &[u16]) -> usize
     ensures within { result ≤ length units.now }
     ensures name { StartsName units.now result (last_or None (components_of units.now)) }

@@ -197,8 +197,7 @@ impl<'a> EqStrUntilNul for CStr8<'a> {
     }
 }
 
-/// Returns whether every character of a Rust text is one of Latin-1: at most U+00FF. Does not
-/// allocate.
+/// Returns whether every character of a Rust text is Latin-1: at most U+00FF. Does not allocate.
 ///
 /// ```rust
 /// assert!(rt; is_latin1("café"));

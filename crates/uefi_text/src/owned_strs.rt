@@ -395,7 +395,7 @@ impl<A: Allocator> CString16<A> {
         Ok(())
     }
 
-    /// Does what [`CString16::push`] does where the vector may have no room. It is rarely so, and a call
+    /// Does what [`CString16::push`] does if the vector may have no room. This is rare, and a call
     /// with room saves no registers.
     #[cold]
     #[inline(never)]
@@ -475,8 +475,8 @@ impl<A: Allocator> CString16<A> {
         Ok(())
     }
 
-    /// Keeps the first `len` characters, or all where there are no more. Neither allocates nor
-    /// frees memory.
+    /// Keeps the first `len` characters, or all if there are no more. Neither allocates nor frees
+    /// memory.
     ///
     /// ```rust
     /// let mut name = CString16::try_from_str(rt.alloc(), "Boot0001")?;
@@ -594,7 +594,7 @@ impl<A: Allocator> CString16<A> {
         set_case(&mut self.units, case);
     }
 
-    /// Returns the number of characters of the text, the NUL not counted.
+    /// Returns the number of characters of the text, without the NUL.
     ///
     /// ```rust
     /// let name = CString16::try_from_str(rt.alloc(), "café")?;
@@ -721,7 +721,7 @@ impl<A: Allocator> TryFrom<Vec<u16, A>> for CString16<A> {
     }
 }
 
-/// Appends a Rust text. Where it holds a NUL or a character above U+FFFF, or memory is refused, the
+/// Appends a Rust text. If it contains a NUL or a character above U+FFFF, or memory runs out, the
 /// result is an error, and the string is unchanged.
 ///
 /// `write!` prints in parts, and an error leaves the parts before it. Each part is tested before

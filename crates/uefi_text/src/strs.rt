@@ -278,7 +278,7 @@ impl<'a> CStr16<'a> {
         self.as_slice().iter()
     }
 
-    /// Returns the number of characters of the text, the NUL not counted.
+    /// Returns the number of characters of the text, without the NUL.
     pub fn num_chars(&self) -> usize
         ensures { result ≡ length (text_of self.now) }
     {

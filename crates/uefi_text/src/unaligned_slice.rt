@@ -279,7 +279,7 @@ impl<'a, T: Packed> UnalignedSlice<'a, T> {
         }
     }
 
-    /// The item at a place where there is one.
+    /// The item at a place if there is one.
     fn item(&self, place: usize) -> T
         requires { place < length (items_of self.now) }
         ensures { T.number result ≡ slice_index (items_of self.now) place }
@@ -305,7 +305,7 @@ impl<'a, T: Packed> UnalignedSlice<'a, T> {
         }
     }
 
-    /// Takes the first item away, where there is one.
+    /// Takes the first item away, if there is one.
     fn take_first(&mut self) -> Option<T>
         ensures { YieldsFirstBy T.number items_of self.old result self.new }
     {
@@ -510,7 +510,7 @@ impl<'a> UnalignedSlice<'a, u16> {
     ghost use Rattle.uefi_text.specs.Views.{items_of, text_of};
 
     /// Returns the code units that all of the bytes encode, two bytes for each, the low byte first;
-    /// or `None` exactly if the bytes are odd in number.
+    /// or `None` exactly if the number of bytes is odd.
     ///
     /// ```rust
     /// assert_eq!(rt; UnalignedSlice::from_unit_bytes(&[0x48, 0, 0x69, 0]).map(|it| it.len()), Some(2));
