@@ -1,38 +1,38 @@
 /*
- * nardcorbel: strings, paths, device paths and load options as UEFI firmware holds them.
+ * nardcorbel: strings, paths, device paths and load options as UEFI firmware stores them.
  *
- * The library reads and writes them in memory that the caller gives: no call allocates, keeps a pointer, or calls anything
- * else. Every call is proved to do what its contract says, for every input whose caller keeps the rules below. The contracts
- * are in crates/nardcorbel/CALLING.md; the comments here say the same in words.
+ * The library reads and writes memory that the caller provides. No call allocates, keeps a pointer, or calls other code. Every
+ * call is proved to do what its contract says if its caller follows the rules below. The contracts are in
+ * crates/nardcorbel/CALLING.md; the comments here describe them in words.
  *
  * Words
  *   unit    a code unit of UCS-2, two bytes
  *   text    units without a NUL and without a surrogate (0xd800 to 0xdfff)
- *   string  a text and its NUL. Units "begin with a string" if a NUL comes before any surrogate; what follows it is not read.
+ *   string  a text and its NUL. Units "begin with a string" if a NUL comes before any surrogate; calls do not read beyond the NUL.
  *   path    a string of components with separators, '\', between them. One separator at its start is ignored.
  *
- * What the caller must see to
- *   - A pointer with a count is null only if the count is 0; no other pointer is null.
+ * Rules for the caller
+ *   - A pointer with a count may be null if the count is 0. No other pointer may be null.
  *   - Pointers to units, sizes and structs are aligned for their type. Bytes, and so device paths, may have any address. The
  *     name in a node may begin at an odd address: nard_units_from_bytes copies it to an even one.
  *   - The memory has as many elements as the count or the room says, at most PTRDIFF_MAX bytes.
- *   - What a call reads is initialized. What it only writes, a buffer or a number such as *length, need not be.
+ *   - Memory that a call reads is initialized. Memory that it only writes, a buffer or a number such as *length, need not be.
  *   - A nard_bool is 0 or 1.
- *   - While a call runs, nobody else writes what it is given or reads what it writes: no interrupt, no event, no processor.
- *   - What a call writes overlaps nothing else that it is given. What it only reads may overlap.
+ *   - While a call runs, no interrupt, event or other processor writes the call's arguments or reads memory that it writes.
+ *   - Memory that a call writes overlaps no other argument. Memory that it only reads may overlap.
  *
- * What comes back
- *   - Most calls return a reason: NARD_OK, or why the input is refused. nard_reason_text has it in words.
- *   - A call that writes a text says in *length how many units it has, its NUL not counted. It needs room for one more. If
- *     there is less, it returns NARD_BUFFER_TOO_SMALL, and *length is what it would have written. Units after the NUL are
- *     never touched.
- *   - If the input is refused, *length is where it is at fault, and the buffer is unchanged.
- *   - Where a call differs from this, its comment says so.
+ * Results
+ *   - Most calls return a reason: NARD_OK, or why they refuse the input. nard_reason_text returns the reason in words.
+ *   - A call that writes a text sets *length to the number of units without the NUL. It needs room for one more unit. If there
+ *     is less room, the call returns NARD_BUFFER_TOO_SMALL, and *length is the length of the text. No call writes units after
+ *     the NUL.
+ *   - If a call refuses its input, *length is the place of the fault, and the buffer is unchanged.
+ *   - If a call differs from these rules, its comment says so.
  *
  * Two kinds of archive
  *   - For programs on Linux, by `rt lib`: ELF for x86-64-v2. It may use the red zone, so firmware must not link it.
- *   - For firmware, by tools/firmware-lib: ELF and COFF, for any x86-64 and aarch64 processor, without a red zone, and with general
- *     registers alone.
+ *   - For firmware, by tools/firmware-lib: ELF and COFF, for any x86-64 and aarch64 processor, without a red zone, and with only
+ *     general registers.
  */
 #ifndef NARDCORBEL_H
 #define NARDCORBEL_H
@@ -60,7 +60,7 @@ typedef int32_t nard_order;   /* -1, 0 or 1 for less, equal or greater, or NARD_
 typedef unsigned long long nard_number; /* of 64 bits */
 
 #ifndef NARD_CALL
-/* The calling convention: System V's in ELF for x86-64, otherwise the usual one, whatever the compiler is told to use. */
+/* The calling convention: System V in ELF for x86-64, otherwise the platform's own, whatever the compiler's options say. */
 #if defined(__x86_64__) && defined(__ELF__)
 #define NARD_CALL __attribute__((sysv_abi))
 #elif defined(__x86_64__) && defined(_WIN32) && defined(__GNUC__)
@@ -71,7 +71,7 @@ typedef unsigned long long nard_number; /* of 64 bits */
 #endif
 
 #ifndef NARD_MUST_USE
-/* The compiler warns where a reason is not looked at. Who wants no warning defines this as nothing first. */
+/* The compiler warns if a program ignores a reason. To disable the warning, define this as nothing first. */
 #if defined(__GNUC__)
 #define NARD_MUST_USE __attribute__((warn_unused_result))
 #else
@@ -88,7 +88,7 @@ typedef unsigned long long nard_number; /* of 64 bits */
 extern "C" {
 #endif
 
-/* Why a call refuses its input: the name NARD_.., its number, and what nard_reason_text says. */
+/* Why a call refuses its input: the name NARD_.., its number, and the text of nard_reason_text. */
 #define NARD_REASONS(REASON) \
     REASON(OK, 0, "nothing is wrong") \
     REASON(NO_NUL, 1, "not null-terminated") \
@@ -134,7 +134,7 @@ enum nard_reason {
 /* The order if one of the two is not a string: the least nard_order. */
 #define NARD_NO_ORDER (-2147483647 - 1)
 
-/* A reason in words. */
+/* Returns a reason in words. */
 static inline const char *nard_reason_text(nard_result reason)
 {
     switch (reason) {
@@ -158,13 +158,13 @@ static inline const char *nard_reason_text(nard_result reason)
 /* ---- Strings ---- */
 
 /*
- * Checks that all units are one string.
+ * Checks that the units are exactly one string.
  *
  * Returns
  *   NARD_OK            *length is the length of the text
  *   NARD_NO_NUL        there is neither a NUL nor a surrogate; *length is count
  *   NARD_INVALID_CHAR  a surrogate comes first, at *length
- *   NARD_INTERIOR_NUL  a NUL comes first and is not the last unit, at *length
+ *   NARD_INTERIOR_NUL  a NUL comes first, at *length, but is not the last unit
  */
 nard_result NARD_CALL nard_string_with_nul(const nard_unit *units, nard_size count, nard_size *length);
 
@@ -178,23 +178,23 @@ nard_result NARD_CALL nard_string_with_nul(const nard_unit *units, nard_size cou
  */
 nard_result NARD_CALL nard_string_until_nul(const nard_unit *units, nard_size count, nard_size *length);
 
-/* Whether both begin with a string, and the texts are equal. */
+/* Returns whether both begin with a string, and the texts are equal. */
 nard_bool NARD_CALL nard_string_equal(const nard_unit *first, nard_size first_count,
                                       const nard_unit *second, nard_size second_count);
 
 /*
- * The order of two strings, unit by unit: -1, 0 or 1; NARD_NO_ORDER, which is below 0 too, if one of them does not begin with a
- * string.
+ * Compares two strings, unit by unit. Returns -1, 0 or 1, or NARD_NO_ORDER, which is also below 0, if one of them does not
+ * begin with a string.
  */
 nard_order NARD_CALL nard_string_order(const nard_unit *first, nard_size first_count,
                                        const nard_unit *second, nard_size second_count);
 
-/* Whether the units begin with a string whose text is ASCII. */
+/* Returns whether the units begin with a string whose text is ASCII. */
 nard_bool NARD_CALL nard_string_is_ascii(const nard_unit *units, nard_size count);
 
 /*
- * The same without case, as the firmware's Unicode collation compares names (UEFI Specification 2.10, section 21.1): `a` to
- * `z`, and U+00E0 to U+00FE but U+00F7, count as their capitals.
+ * Compares two strings without case. Returns as nard_string_equal and nard_string_order. As in the firmware's Unicode collation
+ * (UEFI Specification 2.10, section 21.1), `a` to `z`, and U+00E0 to U+00FE except U+00F7, count as their capitals.
  */
 nard_bool NARD_CALL nard_string_equal_ignore_case(const nard_unit *first, nard_size first_count,
                                                   const nard_unit *second, nard_size second_count);
@@ -202,26 +202,26 @@ nard_order NARD_CALL nard_string_order_ignore_case(const nard_unit *first, nard_
                                                    const nard_unit *second, nard_size second_count);
 
 /*
- * Puts the text of the string that a buffer begins with in upper or in lower case, as the collation's StrUpr and StrLwr do.
- * Returns as nard_string_until_nul; if it is not NARD_OK, the buffer is unchanged.
+ * Changes the string at the start of a buffer to upper or to lower case, as the collation's StrUpr and StrLwr do. Returns as
+ * nard_string_until_nul; if the result is not NARD_OK, the buffer is unchanged.
  */
 nard_result NARD_CALL nard_string_make_uppercase(nard_unit *buffer, nard_size room, nard_size *length);
 nard_result NARD_CALL nard_string_make_lowercase(nard_unit *buffer, nard_size room, nard_size *length);
 
 /*
- * Whether both begin with a string, and the pattern matches the whole text of `units` without case, as MetaiMatch does: `*`
- * is any text, `?` is one unit, `[a-z]` is one unit of a set. For a pattern of p units and a text of t,
- * fewer than (p + 1) * (t + 1) units of each are read once both are known to be strings.
+ * Returns whether both begin with a string, and the pattern matches the whole text of `units` without case, as MetaiMatch does:
+ * `*` matches any text, `?` one unit, `[a-z]` one unit of a set. For a pattern of p units and a text of t, the call reads fewer
+ * than (p + 1) * (t + 1) units of each, after it has checked that both are strings.
  */
 nard_bool NARD_CALL nard_string_matches(const nard_unit *units, nard_size count,
                                         const nard_unit *pattern, nard_size pattern_count);
 
-/* ---- Units that may hold surrogates: the texts of the firmware's Unicode collation, names on FAT volumes among them ---- */
+/* ---- Units that may contain surrogates, as in the firmware's Unicode collation and in names on FAT volumes ---- */
 
 /*
- * The text of units is what is before their first NUL, or all of them if there is none. No unit is refused, so these calls serve
- * StriColl, MetaiMatch, StrUpr, StrLwr and StrToFat of EFI_UNICODE_COLLATION_PROTOCOL (section 21.1); nard_string_from_fat serves
- * FatToStr.
+ * Compares or matches units that may contain surrogates. The text of units is the units before their first NUL, or all units if
+ * there is no NUL. These calls refuse no unit, so they implement StriColl, MetaiMatch, StrUpr, StrLwr and StrToFat of
+ * EFI_UNICODE_COLLATION_PROTOCOL (section 21.1); nard_string_from_fat implements FatToStr.
  */
 nard_bool NARD_CALL nard_units_equal_ignore_case(const nard_unit *first, nard_size first_count,
                                                  const nard_unit *second, nard_size second_count);
@@ -230,13 +230,13 @@ nard_order NARD_CALL nard_units_order_ignore_case(const nard_unit *first, nard_s
 nard_bool NARD_CALL nard_units_matches(const nard_unit *units, nard_size count,
                                        const nard_unit *pattern, nard_size pattern_count);
 
-/* Both return the length of the text; what follows the text is unchanged. */
+/* Changes a text to upper or to lower case, and returns its length. Units after the text are unchanged. */
 nard_size NARD_CALL nard_units_make_uppercase(nard_unit *buffer, nard_size room);
 nard_size NARD_CALL nard_units_make_lowercase(nard_unit *buffer, nard_size room);
 
 /*
  * Writes a text in the characters of 8.3 names, as nard_fat_from_string writes a string. A surrogate becomes '_'.
- * Returns NARD_OK, or NARD_CHAR_REPLACED if a byte is '_' for another unit.
+ * Returns NARD_OK, or NARD_CHAR_REPLACED if a '_' replaces another unit.
  */
 nard_result NARD_CALL nard_fat_from_units(const nard_unit *units, nard_size count, nard_byte *bytes, nard_size room,
                                           nard_size *length);
@@ -246,7 +246,7 @@ nard_result NARD_CALL nard_fat_from_units(const nard_unit *units, nard_size coun
 /*
  * Copies the units that bytes encode, the low byte first, to the start of a buffer. The bytes may begin at any address.
  *
- *   *count   out: half of byte_count, rounded down, whatever is returned
+ *   *count   out: half of byte_count, rounded down, whatever the call returns
  *
  * Returns
  *   NARD_OK                the units were written; the rest of the buffer is unchanged
@@ -257,43 +257,43 @@ nard_result NARD_CALL nard_units_from_bytes(const nard_byte *bytes, nard_size by
                                             nard_unit *buffer, nard_size room, nard_size *count);
 
 /*
- * Counts the units before the first NUL of those that bytes encode. They may be surrogates; an odd byte at the end is ignored.
+ * Counts the units before the first NUL in bytes that encode units. The units may be surrogates; an odd byte at the end is ignored.
  *
  * Returns
  *   NARD_OK      *count is the number of units before the NUL
- *   NARD_NO_NUL  there is none; *count is half of byte_count, rounded down
+ *   NARD_NO_NUL  there is no NUL; *count is half of byte_count, rounded down
  */
 nard_result NARD_CALL nard_packed_until_nul(const nard_byte *bytes, nard_size byte_count, nard_size *count);
 
 /*
- * Writes a text in UTF-8 as a string.
+ * Converts a text from UTF-8 to a string.
  *
  * Returns
  *   NARD_OK
- *   NARD_NOT_UTF8                           *length is how many bytes before the fault are UTF-8; the buffer is unchanged
- *   NARD_INVALID_CHAR, NARD_INTERIOR_NUL    a character is above U+FFFF, or a NUL, whichever comes first; *length is the number of
- *                                           characters before it, and the buffer is unchanged
+ *   NARD_NOT_UTF8                           the first *length bytes are UTF-8, and the next are not; the buffer is unchanged
+ *   NARD_INVALID_CHAR, NARD_INTERIOR_NUL    a character is above U+FFFF, or is a NUL, whichever comes first; *length is the
+ *                                           number of characters before it, and the buffer is unchanged
  *   NARD_BUFFER_TOO_SMALL                   room <= *length; the buffer is unchanged
  */
 nard_result NARD_CALL nard_string_from_utf8(const nard_byte *bytes, nard_size byte_count,
                                             nard_unit *buffer, nard_size room, nard_size *length);
 
 /*
- * Writes the text of the string that units begin with, as UTF-8 with a NUL.
+ * Converts the string that units begin with to UTF-8 with a NUL.
  *
  * Returns
  *   NARD_OK                            *length is the number of bytes before the NUL
- *   NARD_NO_NUL, NARD_INVALID_CHAR     as nard_string_until_nul, *length too; the bytes are unchanged
+ *   NARD_NO_NUL, NARD_INVALID_CHAR     as nard_string_until_nul, with its *length; the bytes are unchanged
  *   NARD_BUFFER_TOO_SMALL              room <= *length; the bytes are unchanged
  */
 nard_result NARD_CALL nard_utf8_from_string(const nard_unit *units, nard_size count,
                                             nard_byte *bytes, nard_size room, nard_size *length);
 
 /*
- * Writes the units before the first NUL, or all of them if there is none, as UTF-8 with a NUL. Each pair of surrogates is one
- * character, and each surrogate without a partner becomes U+FFFD, so the call refuses no units.
+ * Converts the units before the first NUL, or all units if there is no NUL, to UTF-8 with a NUL. Each pair of surrogates becomes
+ * one character, and each surrogate without a partner becomes U+FFFD, so the call refuses no units.
  *
- * The text may hold control characters, ESC among them, and characters that change the direction of a text. Replace them
+ * The text may contain control characters, such as ESC, and characters that change the direction of a text. Replace them
  * before you show a description or a name to a person, as examples/boot_entry.c does.
  *
  * Returns
@@ -304,23 +304,23 @@ nard_result NARD_CALL nard_utf8_from_units_lossy(const nard_unit *units, nard_si
                                                  nard_byte *bytes, nard_size room, nard_size *length);
 
 /*
- * Whether the units begin with a string, the bytes are UTF-8, and one is a prefix of the other: the text of the string, and
- * what the bytes encode up to their first NUL.
+ * Returns whether the units begin with a string, the bytes are UTF-8, and either the string's text or the text of the bytes up to
+ * their first NUL is a prefix of the other.
  */
 nard_bool NARD_CALL nard_string_equal_until_nul(const nard_unit *units, nard_size count,
                                                 const nard_byte *bytes, nard_size byte_count);
 
-/* Whether the bytes are UTF-8, and no character is above U+00FF. */
+/* Returns whether the bytes are UTF-8, and no character is above U+00FF. */
 nard_bool NARD_CALL nard_utf8_is_latin1(const nard_byte *bytes, nard_size byte_count);
 
 /* ---- Paths ---- */
 
 /*
- * Checks that the units begin with a string that is a path to a file. A slash is not a separator: nard_path_join with an
- * empty second path replaces slashes first.
+ * Checks that the units begin with a string that is a path to a file. A slash is not a separator: to replace slashes, call
+ * nard_path_join with an empty second path first.
  *
- *   *place      out: the index of the unit at which the component at fault begins; the length of the text if the result is
- *               NARD_OK; as nard_string_until_nul if the units do not begin with a string
+ *   *place      out: the index where the component at fault begins; the length of the text if the call returns NARD_OK; as
+ *               nard_string_until_nul if the units do not begin with a string
  *   *character  out: the character that is not allowed, or 0
  *
  * Returns
@@ -328,66 +328,75 @@ nard_bool NARD_CALL nard_utf8_is_latin1(const nard_byte *bytes, nard_size byte_c
  *   NARD_NO_NUL, NARD_INVALID_CHAR   as nard_string_until_nul
  *   NARD_PATH_EMPTY                  the text is empty
  *   NARD_EMPTY_COMPONENT, NARD_ILLEGAL_CHAR, NARD_CLIMBS_ABOVE_ROOT
- *                                    the fault of the first component that has one
+ *                                    the fault of the first component with a fault
  */
 nard_result NARD_CALL nard_path_verdict(const nard_unit *units, nard_size count, nard_size *place, nard_unit *character);
 
-/* Whether both begin with a string, and are equal as paths. */
+/* Returns whether both begin with a string, and are equal as paths. */
 nard_bool NARD_CALL nard_path_equal(const nard_unit *first, nard_size first_count,
                                     const nard_unit *second, nard_size second_count);
 
-/* The order of two paths: that of their texts without one separator at the start, as nard_string_order. */
+/* Compares two paths without one separator at their start, as nard_string_order does. */
 nard_order NARD_CALL nard_path_order(const nard_unit *first, nard_size first_count,
                                      const nard_unit *second, nard_size second_count);
 
-/* Whether both begin with a string, and are equal as paths without case. */
+/* Returns whether both begin with a string, and are equal as paths without case. */
 nard_bool NARD_CALL nard_path_equal_ignore_case(const nard_unit *first, nard_size first_count,
                                                 const nard_unit *second, nard_size second_count);
 
-/* Whether each component of the pattern matches the component at its place, and both have as many: `*` stops at '\'. */
+/*
+ * Returns whether the pattern has as many components as the path, and each matches the component at its place: `*` stops at '\'.
+ */
 nard_bool NARD_CALL nard_path_matches(const nard_unit *path, nard_size count,
                                       const nard_unit *pattern, nard_size pattern_count);
 
 /*
- * The next component of a text without its NUL.
+ * Finds the next component of a text without its NUL.
  *
  *   *place             in and out: where to look; 0 at first
  *   *start             out: where the component begins
- *   *component_length  out: how many units it has
+ *   *component_length  out: the number of its units
  *
- * Returns true, or false after the last component, and then changes nothing.
+ * Returns true, or false after the last component; then all three are unchanged.
  */
 nard_bool NARD_CALL nard_path_next_component(const nard_unit *text, nard_size length,
                                              nard_size *place, nard_size *start, nard_size *component_length);
 
-/* The last component of a text without its NUL begins at *start; false if there is none, and *start is unchanged. */
+/*
+ * Finds the last component of a text without its NUL. *start is where it begins. Returns false, and leaves *start unchanged, if
+ * there is no component.
+ */
 nard_bool NARD_CALL nard_path_file_name(const nard_unit *text, nard_size length, nard_size *start);
 
 /*
- * The first *parent_length units of a text without its NUL are a path of all its components but the last; false if it has at
- * most one component, and *parent_length is unchanged. nard_path_parent writes the parent without a separator at its start.
+ * Finds the parent of a path: the first *parent_length units of a text without its NUL are a path of all components but the last.
+ * Returns false, and leaves *parent_length unchanged, if there is at most one component. nard_path_parent writes the parent
+ * without a separator at its start.
  */
 nard_bool NARD_CALL nard_path_parent_length(const nard_unit *text, nard_size length, nard_size *parent_length);
 
 /*
- * Adds a path to the one in a buffer. Slashes of the added path become separators, and a separator goes between the two if
- * the first is not empty and does not end in one. An empty path adds nothing.
+ * Adds a path to the path in a buffer. Slashes of the added path become separators. If the first path is not empty and does not
+ * end in a separator, one is added between the two. An empty path adds nothing.
  *
  * Returns
  *   NARD_OK                          the buffer begins with the path of both
- *   NARD_NO_NUL, NARD_INVALID_CHAR   the buffer, or then `path`, does not begin with a string: as nard_string_until_nul
+ *   NARD_NO_NUL, NARD_INVALID_CHAR   the buffer, or else `path`, does not begin with a string: as nard_string_until_nul
  *   NARD_BUFFER_TOO_SMALL            room <= *length; the buffer is unchanged
  */
 nard_result NARD_CALL nard_path_push(nard_unit *buffer, nard_size room, const nard_unit *path, nard_size count, nard_size *length);
 
-/* Writes `path`, its slashes replaced, with `other` added, to a buffer. Returns as nard_path_push, `path` before `other`. */
+/*
+ * Writes `path`, with its slashes replaced, and `other` added, to a buffer. Returns as nard_path_push, and checks `path` before
+ * `other`.
+ */
 nard_result NARD_CALL nard_path_join(const nard_unit *path, nard_size count, const nard_unit *other, nard_size other_count,
                                      nard_unit *buffer, nard_size room, nard_size *length);
 
 /*
- * Writes the parent of a path to a buffer: all components but the last, slashes replaced, without a separator at the start.
- * Empty components are left out. If one comes right before the last component, the parent ends with a separator: the parent of
- * `a\\b\\c` is `a\b\`.
+ * Writes the parent of a path to a buffer: all components but the last, with slashes replaced, without a separator at the start.
+ * Empty components are omitted. If an empty component comes right before the last component, the parent ends with a separator: the
+ * parent of `a\\b\\c` is `a\b\`.
  *
  * Returns
  *   NARD_OK
@@ -398,8 +407,8 @@ nard_result NARD_CALL nard_path_join(const nard_unit *path, nard_size count, con
 nard_result NARD_CALL nard_path_parent(const nard_unit *path, nard_size count, nard_unit *buffer, nard_size room, nard_size *length);
 
 /*
- * Writes the normal path of a path to a buffer, slashes replaced: without `.`, and without each name that a `..` follows. If
- * nothing is left, it is a lone separator.
+ * Writes the normal form of a path to a buffer, with slashes replaced: without `.`, and without each name that a `..` cancels. If
+ * nothing is left, the normal path is a lone separator.
  *
  * Returns
  *   NARD_OK                 *character is 0
@@ -413,17 +422,17 @@ nard_result NARD_CALL nard_path_normalize(const nard_unit *path, nard_size count
                                           nard_size *length, nard_unit *character);
 
 /*
- * Writes the normal path of a path in UTF-8 to a buffer: nard_string_from_utf8 writes the path as a string into the second half
- * of the buffer, from buffer[room / 2] on, and nard_path_normalize the normal path of that into the first half. Each needs room
- * in its half alone: 2 * byte_count + 2 units are enough for any path.
+ * Writes the normal form of a path in UTF-8 to a buffer. First nard_string_from_utf8 writes the path as a string to the second
+ * half of the buffer, from buffer[room / 2] on. Then nard_path_normalize writes its normal form to the first half. Each call needs
+ * room only in its half: 2 * byte_count + 2 units are enough for any path.
  *
  * Returns
  *   NARD_OK                                                *character is 0
  *   NARD_NOT_UTF8, NARD_INVALID_CHAR, NARD_INTERIOR_NUL    as nard_string_from_utf8
- *   NARD_BUFFER_TOO_SMALL                                  as the first of the two calls for which its half is too small
+ *   NARD_BUFFER_TOO_SMALL                                  as the first of the two calls whose half is too small
  *   another reason                                         as nard_path_normalize
  *
- * What is refused in the second half leaves the whole buffer unchanged; what is refused in the first leaves that half unchanged.
+ * If the first call refuses, the whole buffer is unchanged. If the second call refuses, the first half is unchanged.
  */
 nard_result NARD_CALL nard_path_normalize_utf8(const nard_byte *bytes, nard_size byte_count, nard_unit *buffer, nard_size room,
                                                nard_size *length, nard_unit *character);
@@ -431,8 +440,8 @@ nard_result NARD_CALL nard_path_normalize_utf8(const nard_byte *bytes, nard_size
 /* ---- Names on FAT volumes (section 13.3) ---- */
 
 /*
- * Checks that the units begin with a string that a file on a FAT volume can have as its name. The file system trims a name
- * before it looks for the file: spaces at the start, and spaces and dots at the end.
+ * Checks that the units begin with a string that a file on a FAT volume can have as its name. Before the file system looks for a
+ * file, it trims the name: it removes spaces at the start, and spaces and dots at the end.
  *
  *   *length     out: as nard_string_until_nul
  *   *character  out: the character that is not allowed, or 0
@@ -440,37 +449,37 @@ nard_result NARD_CALL nard_path_normalize_utf8(const nard_byte *bytes, nard_size
  * Returns
  *   NARD_OK
  *   NARD_NO_NUL, NARD_INVALID_CHAR   as nard_string_until_nul
- *   NARD_NAME_EMPTY                  nothing is left of it, as of "." and "..", which name folders
- *   NARD_NAME_TOO_LONG               more than 255 units are left
- *   NARD_ILLEGAL_CHAR                a unit that is left is below U+0020, or one of " * / : < > ? \ |
+ *   NARD_NAME_EMPTY                  the trimmed name is empty, as for "." and "..", which name folders
+ *   NARD_NAME_TOO_LONG               the trimmed name has more than 255 units
+ *   NARD_ILLEGAL_CHAR                a unit of the trimmed name is below U+0020, or one of " * / : < > ? \ |
  */
 nard_result NARD_CALL nard_fat_name_check(const nard_unit *units, nard_size count, nard_size *length, nard_unit *character);
 
-/* Whether both begin with a string, and these name one file: what is left of them, trimmed, is the same without case. */
+/* Returns whether both begin with a string, and the strings name one file: the trimmed names are equal without case. */
 nard_bool NARD_CALL nard_fat_name_equal(const nard_unit *first, nard_size first_count,
                                         const nard_unit *second, nard_size second_count);
 
 /*
- * Whether the units begin with a string that is an 8.3 name as a directory entry holds it: 1 to 8 characters, and then maybe a
- * dot and 1 to 3 more, all of them capital letters, digits or marks that such names take.
+ * Returns whether the units begin with a string that is an 8.3 name as a directory entry stores it: 1 to 8 characters, and
+ * optionally a dot and 1 to 3 more, all of them capital letters, digits or marks that 8.3 names allow.
  */
 nard_bool NARD_CALL nard_fat_name_is_short(const nard_unit *units, nard_size count);
 
 /*
- * Writes the string that units begin with in the 8-bit characters of 8.3 names, as the collation's StrToFat does: nothing for
- * a space or a dot, and for any other unit its upper case, or '_' if no 8.3 name takes it. No NUL is written.
+ * Writes the string that units begin with in the 8-bit characters of 8.3 names, as the collation's StrToFat does. It skips spaces
+ * and dots, and writes any other unit in upper case, or as '_' if 8.3 names do not allow it. It writes no NUL.
  *
  * Returns
  *   NARD_OK                          *length bytes were written, as many as fit; the others are unchanged
- *   NARD_CHAR_REPLACED               the same, and one of them is '_' for another character
+ *   NARD_CHAR_REPLACED               as NARD_OK, and at least one byte is '_' for another character
  *   NARD_NO_NUL, NARD_INVALID_CHAR   as nard_string_until_nul; the bytes are unchanged
  */
 nard_result NARD_CALL nard_fat_from_string(const nard_unit *units, nard_size count, nard_byte *bytes, nard_size room,
                                            nard_size *length);
 
 /*
- * Writes a unit for each byte before the first NUL, or for each byte if there is none, and a NUL, as the collation's FatToStr
- * does.
+ * Writes a unit for each byte before the first NUL, or for all bytes if there is no NUL, and adds a NUL, as the collation's
+ * FatToStr does.
  *
  * Returns
  *   NARD_OK
@@ -482,25 +491,25 @@ nard_result NARD_CALL nard_string_from_fat(const nard_byte *bytes, nard_size byt
 /* ---- Device paths and load options (UEFI Specification 2.10, chapter 10 and section 3.1.3) ---- */
 
 /*
- * Checks that bytes begin with a device path. What follows it is not read.
+ * Checks that bytes begin with a device path, and does not read beyond it.
  *
  * Returns
- *   NARD_OK         *length is how many bytes it has, its end node included
- *   another reason  what is wrong with the first malformed node; *length is the offset of its bytes at fault. In this order:
- *                   NARD_NO_END_NODE, NARD_TRUNCATED_HEADER, NARD_UNKNOWN_END, NARD_LENGTH_BELOW_HEADER, NARD_END_WITH_DATA,
- *                   NARD_NODE_BEYOND_END
+ *   NARD_OK         *length is the size of the path in bytes, with its end node
+ *   another reason  the fault of the first malformed node; *length is the offset of the bytes at fault. Faults are tested in this
+ *                   order: NARD_NO_END_NODE, NARD_TRUNCATED_HEADER, NARD_UNKNOWN_END, NARD_LENGTH_BELOW_HEADER,
+ *                   NARD_END_WITH_DATA, NARD_NODE_BEYOND_END
  */
 nard_result NARD_CALL nard_device_path_check(const nard_byte *bytes, nard_size byte_count, nard_size *length);
 
 /*
- * Says how many bytes a device path has whose length is not known, without reading beyond them.
+ * Finds the size of a device path of unknown length, without reading beyond the path.
  *
- *   byte_count   how many bytes may be read: 4 at first, then *needed of the call before
- *   *offset      in and out: where a node begins, 0 at first; where the next one begins
+ *   byte_count   the number of bytes that may be read: 4 at first, then *needed of the previous call
+ *   *offset      in and out: where a node begins, 0 at first; then where the next node begins
  *
  * Returns
- *   NARD_OK           *needed <= byte_count: the path is whole, and has *needed bytes, its end node included
- *                     *needed > byte_count: so many bytes are needed to go on; no path that begins with these has fewer
+ *   NARD_OK           *needed <= byte_count: the path is whole, and has *needed bytes with its end node
+ *                     *needed > byte_count: the call needs *needed bytes to continue; no path that begins with these bytes is shorter
  *   NARD_NO_END_NODE  *offset is more than byte_count; *needed and *offset are unchanged
  *   another reason    as nard_device_path_check, because no path begins with these bytes, whatever follows them; *needed is
  *                     unchanged
@@ -509,16 +518,16 @@ nard_result NARD_CALL nard_device_path_needs(const nard_byte *bytes, nard_size b
                                              nard_size *needed);
 
 /*
- * The size of a device path whose length is not known, for example one that firmware hands out.
+ * Finds the size of a device path of unknown length, for example one from the firmware.
  *
- *   limit   a path of more bytes is refused
+ *   limit   the call refuses a path of more bytes
  *
  * Returns
- *   NARD_OK          *length is how many bytes the path has, its end node included
- *   another reason   as nard_device_path_check of the first `limit` bytes, *length too
+ *   NARD_OK          *length is the size of the path in bytes, with its end node
+ *   another reason   as nard_device_path_check of the first `limit` bytes, with its *length
  *
- * It reads no byte that a well-formed path from `path` on does not contain, and none from `limit` on. The caller has to know that
- * these can be read: bytes that are no path may state any length.
+ * The call reads no byte beyond a well-formed path, and none from `limit` on. The caller has to know that these bytes can be read,
+ * because bytes that are not a path may state any length.
  */
 static inline NARD_MUST_USE nard_result nard_device_path_size(const nard_byte *path, nard_size limit, nard_size *length)
 {
@@ -539,43 +548,43 @@ static inline NARD_MUST_USE nard_result nard_device_path_size(const nard_byte *p
 
 /* A node of a device path. */
 struct nard_device_node {
-    nard_byte device_type; /* its type, and the sub-type that belongs to it */
+    nard_byte device_type; /* the type, and the sub-type within it */
     nard_byte sub_type;
-    nard_size start;       /* the offset of its data */
-    nard_size length;      /* how many bytes these are */
+    nard_size start;       /* the offset of the data */
+    nard_size length;      /* the size of the data in bytes */
 };
 
 /*
  * Reads the node at an offset.
  *
- *   *offset   in and out: where the node begins, 0 at first; where the next one begins
- *   *node     out: the node, if NARD_OK is returned; otherwise unchanged
+ *   *offset   in and out: where the node begins, 0 at first; then where the next node begins
+ *   *node     out: the node if the call returns NARD_OK; otherwise unchanged
  *
  * Returns
- *   NARD_OK           a node, also one that ends an instance (type 0x7f, sub-type 1)
- *   NARD_END_OF_PATH  the node that ends the path; at *offset the next path of a list begins
+ *   NARD_OK           a node, which may be one that ends an instance (type 0x7f, sub-type 1)
+ *   NARD_END_OF_PATH  the node ends the path; the next path of a list begins at *offset
  *   NARD_NO_END_NODE  *offset is byte_count or more, and unchanged
- *   another reason    as nard_device_path_check; *offset is that of the bytes at fault
+ *   another reason    as nard_device_path_check; *offset is the offset of the bytes at fault
  */
 nard_result NARD_CALL nard_device_path_next_node(const nard_byte *bytes, nard_size byte_count,
                                                  nard_size *offset, struct nard_device_node *node);
 
 /*
- * Reads a number of the data of a node, the low byte first: `width` bytes, 1, 2, 4 or 8, from a place on. The macros of
- * nardcorbel_nodes.h are the place and the width of each field.
- * Returns NARD_OK, or NARD_NO_FIELD if the data end before or the width is another, and then leaves *number unchanged.
+ * Reads a number from the data of a node, the low byte first: `width` bytes, 1, 2, 4 or 8, from `place` on. The macros of
+ * nardcorbel_nodes.h give the place and the width of each field. Returns NARD_OK, or NARD_NO_FIELD if the data ends before the
+ * field does or no field has this width; *number is then unchanged.
  */
 nard_result NARD_CALL nard_node_number(const nard_byte *content, nard_size byte_count, nard_size place, nard_size width,
                                        nard_number *number);
 
 /*
- * Writes the file path of a device path to a buffer: the names of all nodes that name files, slashes replaced, one separator
- * between two. The device path is checked first, then the names, then the room.
+ * Writes the file path of a device path to a buffer: the names of all nodes that name files, with slashes replaced and one
+ * separator between two names. The call checks the device path first, then the names, then the room.
  *
  * Returns
  *   NARD_OK
  *   NARD_ODD_BYTES, NARD_NO_NUL, NARD_INVALID_CHAR, NARD_INTERIOR_NUL
- *                           the data of a file node, at the offset *length, is not a string; the buffer is unchanged
+ *                           the data of the file node, at the offset *length, is not a string; the buffer is unchanged
  *   NARD_BUFFER_TOO_SMALL   room <= *length; the buffer is unchanged
  *   another reason          as nard_device_path_check; the buffer is unchanged
  */
@@ -583,10 +592,9 @@ nard_result NARD_CALL nard_device_path_file_path(const nard_byte *bytes, nard_si
                                                  nard_unit *buffer, nard_size room, nard_size *length);
 
 /*
- * Formats a device path as text, for example
+ * Formats a device path as text. The text is UTF-16 with a NUL (section 10.6.1), for example
  *     PciRoot(0x0)/Pci(0x1F,0x2)/Sata(0x0,0xFFFF,0x0)/HD(1,GPT,...)
- * (section 10.6.1), as UTF-16 with a NUL. No control character and no character that turns the direction of a text is written:
- * they are escaped.
+ * Control characters, and characters that change the direction of a text, are escaped.
  *
  *   display_only      shorter forms that cannot be read back
  *   allow_shortcuts   short names such as VenPcAnsi()
@@ -601,8 +609,8 @@ nard_result NARD_CALL nard_device_path_text(const nard_byte *bytes, nard_size by
                                             nard_unit *buffer, nard_size room, nard_size *length);
 
 /*
- * Formats a device path as libefivar does, and efibootmgr with it, for scripts that read their output: as nard_device_path_text,
- * but with File(..) around the name of a file, and with the numbers of a partition in lower case. For example
+ * Formats a device path as libefivar and efibootmgr do, for scripts that read their output. The text is that of
+ * nard_device_path_text, but with File(..) around file names, and the numbers of a partition in lower case. For example
  *     HD(1,GPT,03020100-0504-0706-0809-0a0b0c0d0e0f,0x800,0x100000)/File(\EFI\debian\shimx64.efi)
  *
  * Returns as nard_device_path_text does.
@@ -611,10 +619,10 @@ nard_result NARD_CALL nard_device_path_libefivar_text(const nard_byte *bytes, na
                                                       nard_unit *buffer, nard_size room, nard_size *length);
 
 /*
- * Formats one node as text, as nard_device_path_text formats a path, for example
+ * Formats one node as text. The text is as nard_device_path_text formats a path, for example
  *     Pci(0x1F,0x2)
- * What follows the node is not read: for a node of a path, give the bytes from where nard_device_path_next_node finds it. A node
- * that ends the path or an instance is Path(127,255) or Path(127,1).
+ * The call does not read beyond the node. For a node of a path, pass the bytes from the node's offset on. A node that ends the path
+ * is Path(127,255), and a node that ends an instance Path(127,1).
  *
  *   display_only, allow_shortcuts   as nard_device_path_text
  *
@@ -627,7 +635,7 @@ nard_result NARD_CALL nard_node_text(const nard_byte *bytes, nard_size byte_coun
                                      nard_bool display_only, nard_bool allow_shortcuts,
                                      nard_unit *buffer, nard_size room, nard_size *length);
 
-/* Where the parts of a load option begin in its bytes, and how long they are. */
+/* The offsets and lengths of the parts of a load option. */
 struct nard_load_option {
     nard_size attributes;         /* 32 bits; bit 0 is LOAD_OPTION_ACTIVE */
     nard_size description_start;
@@ -640,15 +648,15 @@ struct nard_load_option {
 };
 
 /*
- * Reads a load option, the value of a variable Boot####. The description may hold surrogates.
+ * Reads a load option, the value of a variable Boot####. The description may contain surrogates.
  *
- *   *option   out: its parts, if NARD_OK is returned; otherwise unchanged
- *   *offset   out: byte_count, or where the bytes are at fault
+ *   *option   out: its parts if the call returns NARD_OK; otherwise unchanged
+ *   *offset   out: byte_count, or the offset of the bytes at fault
  *
  * Returns NARD_OK, or the first of these that holds
  *   NARD_OPTION_TOO_SHORT         there are fewer than 6 bytes; *offset is byte_count
  *   NARD_DESCRIPTION_WITHOUT_END  *offset is the end of the last whole unit
- *   NARD_LIST_BEYOND_END          *offset is 4, that of the list's length
+ *   NARD_LIST_BEYOND_END          *offset is 4, where the length of the list is
  *   NARD_EMPTY_LIST               *offset is where the list begins
  *   another reason                as nard_device_path_check, for the first malformed node of the list
  */
@@ -658,7 +666,7 @@ nard_result NARD_CALL nard_load_option_read(const nard_byte *bytes, nard_size by
 /* ---- Writing device paths and load options ---- */
 
 /*
- * Writes a device path without nodes to the start of a buffer: its end node, 4 bytes. nard_device_path_push adds to it.
+ * Writes a device path without nodes to the start of a buffer: only its end node, 4 bytes. nard_device_path_push adds nodes.
  * Returns NARD_OK, or NARD_BUFFER_TOO_SMALL if room < 4, and then leaves the buffer unchanged; *length is 4.
  */
 nard_result NARD_CALL nard_device_path_begin(nard_byte *buffer, nard_size room, nard_size *length);
@@ -667,82 +675,87 @@ nard_result NARD_CALL nard_device_path_begin(nard_byte *buffer, nard_size room, 
  * Adds a node to the device path that a buffer begins with, before its end.
  *
  * Returns NARD_OK, or the first of these that holds
- *   as nard_device_path_check of the buffer, *length too
+ *   as nard_device_path_check of the buffer, with its *length
  *   NARD_NODE_OF_END        the node is of type End, and either not of sub-type 1 or with data; *length is unchanged
  *   NARD_NODE_TOO_LONG      there are more than 65,531 bytes of data; *length is unchanged
- *   NARD_BUFFER_TOO_SMALL   room < *length, how many bytes the path would have
- * If it is NARD_OK, *length is how many bytes the path then has, and those after it are unchanged. Otherwise the buffer is.
+ *   NARD_BUFFER_TOO_SMALL   room < *length, the size that the path would have
+ * If the call returns NARD_OK, *length is the new size of the path, and the bytes after it are unchanged. Otherwise the buffer is
+ * unchanged.
  */
 nard_result NARD_CALL nard_device_path_push(nard_byte *buffer, nard_size room, nard_byte device_type, nard_byte sub_type,
                                             const nard_byte *content, nard_size byte_count, nard_size *length);
 
 /*
- * Adds the nodes of the device path that bytes begin with to the one that a buffer begins with, before its end.
+ * Adds the nodes of the device path that bytes begin with to the path that a buffer begins with, before its end.
  *
  * Returns NARD_OK, or the first of these that holds
- *   as nard_device_path_check of the buffer, and then of the bytes, *length too
- *   NARD_BUFFER_TOO_SMALL   room < *length, how many bytes the path would have
- * If it is NARD_OK, *length is how many bytes the path then has, and those after it are unchanged. Otherwise the buffer is.
+ *   as nard_device_path_check of the buffer, and then of the bytes, with its *length
+ *   NARD_BUFFER_TOO_SMALL   room < *length, the size that the path would have
+ * If the call returns NARD_OK, *length is the new size of the path, and the bytes after it are unchanged. Otherwise the buffer is
+ * unchanged.
  */
 nard_result NARD_CALL nard_device_path_append(nard_byte *buffer, nard_size room, const nard_byte *bytes, nard_size byte_count,
                                               nard_size *length);
 
 /*
- * Adds the nodes of a text in UTF-8, for example
+ * Adds the nodes of a text to the device path that a buffer begins with, before its end. The text is UTF-8, as
+ * nard_device_path_text writes it without display_only and allow_shortcuts, for example
  *     PciRoot(0x0)/Pci(0x1F,0x2)/Sata(0x0,0xFFFF,0x0)
- * to the device path that a buffer begins with, before its end. The text is as nard_device_path_text writes it without
- * display_only and allow_shortcuts. A comma ends an instance.
+ * A comma ends an instance.
  *
  * Returns NARD_OK, or the first of these that holds
- *   as nard_device_path_check of the buffer, *length too
- *   NARD_NOT_UTF8           *length is how many bytes before the fault are UTF-8
- *   NARD_NO_NODE            at byte *length of the text a node has to begin, and none does
- *   NARD_BUFFER_TOO_SMALL   room < *length, how many bytes the path would have, or SIZE_MAX if these are more
- * If it is NARD_OK, *length is how many bytes the path then has, and those after it are unchanged. Otherwise the buffer is.
+ *   as nard_device_path_check of the buffer, with its *length
+ *   NARD_NOT_UTF8           the first *length bytes are UTF-8, and the next are not
+ *   NARD_NO_NODE            a node should begin at byte *length of the text, but does not
+ *   NARD_BUFFER_TOO_SMALL   room < *length, the size that the path would have, or SIZE_MAX if the size is larger
+ * If the call returns NARD_OK, *length is the new size of the path, and the bytes after it are unchanged. Otherwise the buffer is
+ * unchanged.
  */
 nard_result NARD_CALL nard_device_path_push_text(nard_byte *buffer, nard_size room, const nard_byte *bytes, nard_size byte_count,
                                                  nard_size *length);
 
 /*
- * Adds the nodes of a text of the UEFI Specification, in UTF-8 and as people write it, to the device path that a buffer begins
- * with, before its end, for example
+ * Adds the nodes of a text, as people write it, to the device path that a buffer begins with, before its end. The text is UTF-8, in
+ * the forms of the UEFI Specification, for example
  *     pciroot(0)/pci(31, 2)/HD(1,GPT,12345678-9abc-def0-1234-56789abcdef0,0x800,0x100000)/File(\EFI\boot\bootx64.efi)
  *
- *   - Case does not matter, except in texts such as names of files.
+ *   - Case does not matter, except in texts such as file names.
  *   - A number is hexadecimal after 0x and otherwise decimal, and may begin with zeros. Numbers at the end of a call may be left
  *     out, but not all of them.
  *   - Blanks and line ends are ignored in calls and around nodes.
- *   - The name of a file may be in File(..). It may lack its first backslash if it has another backslash, has no `)`, `:` or
+ *   - A file name may be in File(..). It may lack its first backslash if it has another backslash, has no `)`, `:` or
  *     quotation mark, and does not follow a comma. A comma ends an instance.
  *
  * A text that nard_device_path_push_text reads is read as the same nodes.
  *
- * A call in which other programs print hexadecimal numbers without 0x, such as Fibre(5006,0), is refused. efibootmgr's text of an
- * NVMe node is the specification's text of another node: read what it prints by nard_device_path_push_libefivar_text.
+ * The call refuses numbers without 0x where other programs print hexadecimal numbers without 0x, as in Fibre(5006,0). efibootmgr's
+ * text of an NVMe node is the specification's text of another node: use nard_device_path_push_libefivar_text to read efibootmgr's
+ * output.
  *
- *   scratch, scratch_room   for copies of calls and names: one byte more than the text; it then holds anything
+ *   scratch, scratch_room   for copies of calls and names: one byte more than the text; it then contains anything
  *
  * Returns NARD_OK, or the first of these that holds
- *   as nard_device_path_check of the buffer, *length too
- *   NARD_NOT_UTF8           *length is how many bytes before the fault are UTF-8
- *   NARD_SCRATCH_TOO_SMALL  scratch_room < *length, one more than byte_count
- *   NARD_NO_NODE            a node can't be read; *length is the offset of the first wrong byte, or of the number, digits or name
- *                           that is wrong, and byte_count if the text ends too early
- *   NARD_BUFFER_TOO_SMALL   room < *length, how many bytes the path would have, or SIZE_MAX if these are more
- * If it is NARD_OK, *length is how many bytes the path then has, and those after it are unchanged. Otherwise the buffer is.
+ *   as nard_device_path_check of the buffer, with its *length
+ *   NARD_NOT_UTF8           the first *length bytes are UTF-8, and the next are not
+ *   NARD_SCRATCH_TOO_SMALL  scratch_room < *length, which is byte_count + 1
+ *   NARD_NO_NODE            a node can't be read; *length is the offset of the first wrong byte, or of the wrong number, digits or
+ *                           name, or byte_count if the text ends too early
+ *   NARD_BUFFER_TOO_SMALL   room < *length, the size that the path would have, or SIZE_MAX if the size is larger
+ * If the call returns NARD_OK, *length is the new size of the path, and the bytes after it are unchanged. Otherwise the buffer is
+ * unchanged.
  */
 nard_result NARD_CALL nard_device_path_push_lenient_text(nard_byte *buffer, nard_size room, const nard_byte *bytes,
                                                          nard_size byte_count, nard_byte *scratch, nard_size scratch_room,
                                                          nard_size *length);
 
 /*
- * Adds the nodes of a text in UTF-8 that libefivar prints, and efibootmgr with it, to the device path that a buffer begins with,
- * before its end, for example
+ * Adds the nodes of a text, as libefivar and efibootmgr print it, to the device path that a buffer begins with, before its end. The
+ * text is UTF-8, for example
  *     PciRoot(0x0)/Pci(0x1d,0x0)/NVMe(0x1,00-25-38-5B-71-B0-03-1C)/HD(1,GPT,12345678-9abc-def0-1234-56789abcdef0,0x800,0x64000)
- * libefivar prints the identifier of an NVMe node from its first byte on, and Ata with three numbers. Its Fibre, SAS and UsbClass
- * leave out what distinguishes two nodes, and PciRoot and PcieRoot may have a text instead of the number, which begins with 0x:
- * these are refused. All other nodes are read as nard_device_path_push_lenient_text reads them, and the arguments and what it
- * returns are as there.
+ * libefivar prints the identifier of an NVMe node from its first byte on, and Ata with three numbers. The call refuses libefivar's
+ * Fibre, SAS and UsbClass, because they omit what distinguishes two nodes, and PciRoot and PcieRoot unless their number begins with
+ * 0x, because they may have a text instead of the number. It reads all other nodes as nard_device_path_push_lenient_text does, and
+ * has the same arguments and results.
  */
 nard_result NARD_CALL nard_device_path_push_libefivar_text(nard_byte *buffer, nard_size room, const nard_byte *bytes,
                                                            nard_size byte_count, nard_byte *scratch, nard_size scratch_room,
@@ -752,81 +765,84 @@ nard_result NARD_CALL nard_device_path_push_libefivar_text(nard_byte *buffer, na
  * Finds the end of the path at the start of a text. Other data may follow the path: efibootmgr -v prints optional data directly
  * after it, for example
  *     HD(1,GPT,12345678-9abc-def0-1234-56789abcdef0,0x800,0x100000)/File(\EFI\debian\shimx64.efi)RC
- * If nard_device_path_push_lenient_text reads all of the text, the path is all of it. If that call stops at a byte because a node
- * should end there, the path is the text before this byte. The data that follow need not be UTF-8.
+ * If nard_device_path_push_lenient_text reads the whole text, the path is the whole text. If that call stops at a byte because a
+ * node should end there, the path is the text before this byte. The data that follow need not be UTF-8.
  *
- *   scratch, scratch_room   for copies: one byte more than the text; it then holds anything
+ *   scratch, scratch_room   for copies: one byte more than the text; it then contains anything
  *
  * Returns
- *   NARD_OK                 *length is how many bytes the path has
- *   NARD_SCRATCH_TOO_SMALL  scratch_room < *length, one more than byte_count
- *   NARD_NO_NODE            the text begins with no path; *length is as from nard_device_path_push_lenient_text
+ *   NARD_OK                 *length is the size of the path's text in bytes
+ *   NARD_SCRATCH_TOO_SMALL  scratch_room < *length, which is byte_count + 1
+ *   NARD_NO_NODE            the text does not begin with a path; *length is as from nard_device_path_push_lenient_text
  */
 nard_result NARD_CALL nard_lenient_text_extent(const nard_byte *bytes, nard_size byte_count, nard_byte *scratch,
                                                nard_size scratch_room, nard_size *length);
 
 /*
- * Finds the same end in a text that libefivar or efibootmgr printed, as nard_device_path_push_libefivar_text reads it.
+ * Finds the end of the path at the start of a text that libefivar or efibootmgr printed. The path is as
+ * nard_device_path_push_libefivar_text reads it; the arguments and results are as for nard_lenient_text_extent.
  */
 nard_result NARD_CALL nard_libefivar_text_extent(const nard_byte *bytes, nard_size byte_count, nard_byte *scratch,
                                                  nard_size scratch_room, nard_size *length);
 
 /*
- * Writes in words why nard_device_path_push_lenient_text returns NARD_NO_NODE for a text, as UTF-16 with a NUL, for example
+ * Writes in words why a text is refused. The words say why nard_device_path_push_lenient_text returns NARD_NO_NODE, as UTF-16 with
+ * a NUL, for example
  *     no node at offset 11: expected a number up to 0xFF at offset 20
- * If it reads the text, there are no words.
+ * If that call reads the text, the words are empty.
  *
- *   scratch, scratch_room   as there: one byte more than the text; it then holds anything
+ *   scratch, scratch_room   for copies: one byte more than the text; it then contains anything
  *
  * Returns NARD_OK, or the first of these that holds
- *   NARD_NOT_UTF8           *length is how many bytes before the fault are UTF-8
- *   NARD_SCRATCH_TOO_SMALL  scratch_room < *length, one more than byte_count
- *   NARD_BUFFER_TOO_SMALL   room <= *length, how many units the words have without their NUL
- * If it is NARD_OK, the words and a NUL were written, *length is their length without it, and the rest of the buffer is
- * unchanged. Otherwise the buffer is.
+ *   NARD_NOT_UTF8           the first *length bytes are UTF-8, and the next are not
+ *   NARD_SCRATCH_TOO_SMALL  scratch_room < *length, which is byte_count + 1
+ *   NARD_BUFFER_TOO_SMALL   room <= *length, the length of the words in units without their NUL
+ * If the call returns NARD_OK, the words and a NUL were written, *length is their length without it, and the rest of the buffer is
+ * unchanged. Otherwise the buffer is unchanged.
  */
 nard_result NARD_CALL nard_lenient_text_fault(const nard_byte *bytes, nard_size byte_count, nard_byte *scratch,
                                               nard_size scratch_room, nard_unit *buffer, nard_size room, nard_size *length);
 
 /*
- * Writes in words why nard_device_path_push_libefivar_text returns NARD_NO_NODE for a text, as nard_lenient_text_fault does for
- * nard_device_path_push_lenient_text.
+ * Writes in words why a text of libefivar is refused. The words say why nard_device_path_push_libefivar_text returns NARD_NO_NODE, as
+ * nard_lenient_text_fault says it for nard_device_path_push_lenient_text.
  */
 nard_result NARD_CALL nard_libefivar_text_fault(const nard_byte *bytes, nard_size byte_count, nard_byte *scratch,
                                                 nard_size scratch_room, nard_unit *buffer, nard_size room, nard_size *length);
 
 /*
- * Writes a load option of one device path: what a variable Boot#### holds.
+ * Writes a load option of one device path, the value of a variable Boot####.
  *
- *   attributes    32 bits; those above are ignored
+ *   attributes    32 bits; higher bits are ignored
  *   description   a string
  *   bytes         begin with the device path
  *   optional      the optional data
  *
  * Returns NARD_OK, or the first of these that holds
- *   NARD_NO_NUL, NARD_INVALID_CHAR   as nard_string_until_nul of the description, *length too
- *   as nard_device_path_check of the bytes, *length too
+ *   NARD_NO_NUL, NARD_INVALID_CHAR   as nard_string_until_nul of the description, with its *length
+ *   as nard_device_path_check of the bytes, with its *length
  *   NARD_LIST_TOO_LONG               the device path has more than 65,535 bytes; *length is unchanged
- *   NARD_BUFFER_TOO_SMALL            room < *length, how many bytes the load option would have
- * If it is NARD_OK, *length is how many bytes it has, and those after it are unchanged. Otherwise the buffer is.
+ *   NARD_BUFFER_TOO_SMALL            room < *length, the size that the load option would have
+ * If the call returns NARD_OK, *length is the size of the load option in bytes, and the bytes after it are unchanged. Otherwise the
+ * buffer is unchanged.
  */
 nard_result NARD_CALL nard_load_option_write(nard_size attributes, const nard_unit *description, nard_size count,
                                              const nard_byte *bytes, nard_size byte_count,
                                              const nard_byte *optional, nard_size optional_count,
                                              nard_byte *buffer, nard_size room, nard_size *length);
 
-/* ---- Device paths beside others ---- */
+/* ---- Comparing device paths ---- */
 
 /*
- * Whether both begin with a device path, and the first with the nodes of the second: what follows them begins at *offset. If
- * not, *offset is unchanged.
+ * Returns whether both begin with a device path, and the first path begins with the nodes of the second. The other nodes begin at
+ * *offset. If the call returns false, *offset is unchanged.
  */
 nard_bool NARD_CALL nard_device_path_strip_prefix(const nard_byte *bytes, nard_size byte_count,
                                                   const nard_byte *prefix, nard_size prefix_count, nard_size *offset);
 
 /*
- * Returns whether both begin with a device path, and the second is a short form of the first (section 3.1.2). The first path is
- * then some nodes, a node that the first node of the short form names, and the other nodes of the short form. HD(..) names a
+ * Returns whether both begin with a device path, and the second is a short form of the first (section 3.1.2). The first path then
+ * consists of any nodes, a node that the first node of the short form names, and the other nodes of the short form. HD(..) names a
  * partition by number and signature; a file name and a URI name an equal node.
  */
 nard_bool NARD_CALL nard_device_path_is_expansion(const nard_byte *bytes, nard_size byte_count,
@@ -834,25 +850,25 @@ nard_bool NARD_CALL nard_device_path_is_expansion(const nard_byte *bytes, nard_s
 
 /* ---- Names and orders of load options (section 3.3) ---- */
 
-/* What firmware does with a load option: the word that its name begins with. */
+/* The kind of a load option, from the word that its name begins with. */
 enum nard_boot_kind {
-    NARD_BOOT = 0,             /* Boot####: a system or an application that is started */
-    NARD_DRIVER = 1,           /* Driver####: a driver that is loaded before anything is booted */
-    NARD_SYS_PREP = 2,         /* SysPrep####: an application that runs before anything is booted */
-    NARD_PLATFORM_RECOVERY = 3 /* PlatformRecovery####: what is started if nothing else boots */
+    NARD_BOOT = 0,             /* Boot####: a system or an application to start */
+    NARD_DRIVER = 1,           /* Driver####: a driver to load before anything is booted */
+    NARD_SYS_PREP = 2,         /* SysPrep####: an application to run before anything is booted */
+    NARD_PLATFORM_RECOVERY = 3 /* PlatformRecovery####: an application to start if nothing else boots */
 };
 
 /*
- * Reads the name of a variable that holds a load option, such as Boot001F: the word of a kind, and a number in four
- * hexadecimal digits, in upper case.
+ * Reads the name of a variable that contains a load option, such as Boot001F: the word of a kind, and a number in four upper-case
+ * hexadecimal digits.
  *
  *   *kind     out: NARD_BOOT, NARD_DRIVER, NARD_SYS_PREP or NARD_PLATFORM_RECOVERY
  *   *number   out: the number
  *
  * Returns
  *   NARD_OK
- *   NARD_NO_NUL, NARD_INVALID_CHAR   as nard_string_until_nul; both are unchanged
- *   NARD_NOT_A_NAME                  the string is no such name; both are unchanged
+ *   NARD_NO_NUL, NARD_INVALID_CHAR   as nard_string_until_nul; *kind and *number are unchanged
+ *   NARD_NOT_A_NAME                  the string is not a name of this form; *kind and *number are unchanged
  */
 nard_result NARD_CALL nard_boot_name_read(const nard_unit *units, nard_size count, nard_byte *kind, nard_unit *number);
 
@@ -868,10 +884,10 @@ nard_result NARD_CALL nard_boot_name_write(nard_byte kind, nard_unit number, nar
                                            nard_size *length);
 
 /*
- * Reads a number of an order: the value of BootOrder, DriverOrder or SysPrepOrder.
+ * Reads a number of an order, the value of BootOrder, DriverOrder or SysPrepOrder.
  *
- *   place     which number, 0 for the first
- *   *number   out: the number, if NARD_OK is returned; otherwise unchanged
+ *   place     the index of the number, 0 for the first
+ *   *number   out: the number if the call returns NARD_OK; otherwise unchanged
  *
  * Returns
  *   NARD_OK
@@ -881,31 +897,31 @@ nard_result NARD_CALL nard_boot_name_write(nard_byte kind, nard_unit number, nar
 nard_result NARD_CALL nard_boot_order_read(const nard_byte *bytes, nard_size byte_count, nard_size place, nard_unit *number);
 
 /*
- * Edit an order in units, as nard_units_from_bytes reads it and SetVariable takes it: the first *count units of `order`, or
- * `room` of them if that is less. The numbers that an edit is not about keep their order.
+ * Edits an order in units, as nard_units_from_bytes reads it and SetVariable takes it. The order is the first *count units of
+ * `order`, or `room` units if that is less. All other numbers keep their order.
  *
- *   *count   in and out: how many numbers there are; the units after them are unchanged
+ *   *count   in and out: the number of units in the order; the units after the order are unchanged
  *
- * nard_boot_order_insert puts a number at a place among the others; if it is in the order already, it moves. A place beyond the
- * end is the end. It returns NARD_OK, or NARD_BUFFER_TOO_SMALL if the number is not in the order, and there is no room for
- * it; the order and *count are then unchanged.
+ * nard_boot_order_insert inserts a number at an index among the others, or moves it there if the order contains it. An index beyond
+ * the end means the end. The call returns NARD_OK, or NARD_BUFFER_TOO_SMALL if the order does not contain the number and has no room
+ * for it; the order and *count are then unchanged.
  *
- * The other two return whether the number was in the order. nard_boot_order_remove takes it out, and
+ * The other two calls return whether the order contained the number. nard_boot_order_remove removes the number, and
  * nard_boot_order_move_to_front moves it to the front.
  */
 nard_result NARD_CALL nard_boot_order_insert(nard_unit *order, nard_size room, nard_size *count, nard_size place, nard_unit number);
 nard_bool NARD_CALL nard_boot_order_remove(nard_unit *order, nard_size room, nard_size *count, nard_unit number);
 nard_bool NARD_CALL nard_boot_order_move_to_front(nard_unit *order, nard_size room, nard_size *count, nard_unit number);
 
-/* The version of the archive: major * 65536 + minor * 256 + patch. */
+/* Returns the version of the archive: major * 65536 + minor * 256 + patch. */
 nard_result NARD_CALL nard_version(void);
 
 /* ---- Null pointers ---- */
 
 /*
- * The library takes no null pointer. So the name of each call that takes a pointer with a count means a function of this header,
- * which gives the library a pointer to an element in place of a null pointer. Nobody reads or writes the element, since the count
- * of a null pointer has to be 0.
+ * The library takes no null pointer. The name of each call that takes a pointer with a count therefore means a function of this
+ * header, which replaces a null pointer by a pointer to an element. No call reads or writes the element, because the count of a
+ * null pointer is 0.
  */
 static inline const nard_unit *nard_given_units(const nard_unit *units)
 {

@@ -1,9 +1,9 @@
 /*
- * nardcorbel_nodes.h - where the fields of device path nodes lie (UEFI Specification 2.10, section 10.3)
+ * nardcorbel_nodes.h - the places of the fields of device path nodes (UEFI Specification 2.10, section 10.3)
  *
  * Made by include/make-nodes from the layouts of the proved views. A kind of node is its type and its sub-type. A field is the place
- * of its first byte in the data of the node, and how many bytes it has, or 0 for all that follow. Of a list of numbers, it is
- * the first. A part whose place depends on the bytes before it is no field.
+ * of its first byte in the node's data and its number of bytes, or 0 for all bytes that follow. For a list of numbers, it is the
+ * first number. A part whose place depends on the bytes before it is not a field.
  *
  *     nard_number start;
  *     if (NARD_IS(node, NARD_HARD_DRIVE) &&
@@ -20,7 +20,7 @@
 #define NARD_AS_IS_(macro) macro
 #define NARD_FIRST_(first, second) (first)
 #define NARD_SECOND_(first, second) (second)
-/* NARD_PLACE(field) and NARD_WIDTH(field): the place of a field, and how many bytes it has. */
+/* NARD_PLACE(field) and NARD_WIDTH(field): the place of a field, and its number of bytes. */
 #define NARD_PLACE(...) NARD_AS_IS_(NARD_FIRST_(__VA_ARGS__))
 #define NARD_WIDTH(...) NARD_AS_IS_(NARD_SECOND_(__VA_ARGS__))
 /* NARD_IS(node, kind): whether a struct nard_device_node is of a kind. */

@@ -44,7 +44,8 @@ pub struct LoadOptionName {
 const NAME_ROOM: usize = 21;
 
 impl LoadOptionName {
-    /// Reads a name. Fails if the string is none: after the word stand four digits of hexadecimal, in upper case.
+    /// Reads a name. Fails if the string is not a name: a word and four upper-case hexadecimal
+    /// digits.
     pub fn from_cstr16(string: &CStr16) -> Result<Self, Error> {
         let (mut kind, mut number) = (0, 0);
         check(
@@ -140,7 +141,8 @@ impl Iterator for OrderNumbers<'_> {
 impl ExactSizeIterator for OrderNumbers<'_> {}
 impl FusedIterator for OrderNumbers<'_> {}
 
-/// An order that is edited in a buffer: each number stands in it once. It dereferences to its numbers.
+/// An order that is edited in a buffer and contains each number once. It dereferences to its
+/// numbers.
 ///
 /// ```
 /// use nardcorbel::OrderBuffer;
@@ -166,8 +168,8 @@ impl<'a> OrderBuffer<'a> {
         Self { places, count: 0 }
     }
 
-    /// Creates an order from the bytes of a variable such as `BootOrder`. A number that stands there twice is kept where it
-    /// stands first.
+    /// Creates an order from the bytes of a variable such as `BootOrder`. If a number occurs twice,
+    /// only the first is kept.
     ///
     /// Fails if the number of bytes is odd, or if the buffer has too few places.
     pub fn from_order(places: &'a mut [u16], bytes: &[u8]) -> Result<Self, Error> {

@@ -17,8 +17,8 @@ pub struct Error {
     /// What is wrong.
     pub reason: Reason,
 
-    /// For [`Reason::BufferTooSmall`], how many elements the buffer needs. Otherwise the index or offset of the fault in the input.
-    /// It has no meaning where the whole path or node is at fault.
+    /// For [`Reason::BufferTooSmall`], how many elements the buffer needs. Otherwise the index or
+    /// offset of the fault in the input. It has no meaning if the whole path or node is at fault.
     pub place: usize,
 
     /// The character at fault, if one is.

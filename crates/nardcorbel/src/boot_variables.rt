@@ -65,11 +65,11 @@ fn kind_of(number: u8) -> Option<LoadOptionKind>
     }
 }
 
-/// Reads the string that units begin with as the name of a load option, such as `Boot001F`.
+/// Reads the string at the start of units as the name of a load option, such as `Boot001F`.
 ///
-/// At `OK` `kind` becomes its kind and `number` its number. Units that begin with no string are refused
-/// as by `nard_string_until_nul`, and then a string that `LoadOptionName::from_cstr16` does not read as
-/// `NOT_A_NAME`. Refused, `kind` and `number` stay unchanged. Takes no memory.
+/// At `OK`, `kind` becomes its kind and `number` its number. Units that do not begin with a string
+/// are refused as by `nard_string_until_nul`; a string that `LoadOptionName::from_cstr16` does not
+/// read is refused as `NOT_A_NAME`. `kind` and `number` are then unchanged. Does not allocate.
 #[unsafe(no_mangle)]
 pub extern "C" fn nard_boot_name_read(units: &[u16], kind: &mut u8, number: &mut u16) -> u32
     ensures no_string { (refusal : Refusal) → read_string units.now ≡ Err refusal
@@ -98,9 +98,10 @@ pub extern "C" fn nard_boot_name_read(units: &[u16], kind: &mut u8, number: &mut
 
 /// Writes the name of the load option of a kind and a number as a string to the start of a buffer.
 ///
-/// A kind above 3 is `NOT_A_NAME`, which leaves `place` unchanged. Else `place`
-/// becomes how many units the name has, and a buffer of no more places is `BUFFER_TOO_SMALL`.
-/// Refused, the buffer stays unchanged; what is after the NUL stays. Takes no memory.
+/// A kind above 3 is refused as `NOT_A_NAME`, and `place` is unchanged. Otherwise `place` becomes
+/// the length of the name in units, and a buffer with at most that many places is refused as
+/// `BUFFER_TOO_SMALL`. If the call refuses, the buffer is unchanged. Units after the NUL are never
+/// changed. Does not allocate.
 #[unsafe(no_mangle)]
 pub extern "C" fn nard_boot_name_write(
     kind: u8,
@@ -122,11 +123,11 @@ pub extern "C" fn nard_boot_name_write(
     report(name.write_cstr16(buffer), place)
 }
 
-/// Reads the number at a place of the order that bytes are, those of a variable such as
-/// `BootOrder`: `OK`, or `END_OF_ORDER` from the last place on.
+/// Reads the number at an index of an order in the bytes of a variable such as `BootOrder`. Returns
+/// `OK`, or `END_OF_ORDER` if the index is at the end or beyond it.
 ///
-/// Bytes that are odd in number are `ODD_BYTES`, whatever the place. At `OK` `number` becomes the
-/// number, and else it stays unchanged. Takes no memory.
+/// An odd number of bytes is refused as `ODD_BYTES`, whatever the index. `number` becomes the
+/// number at `OK`, and is otherwise unchanged. Does not allocate.
 #[unsafe(no_mangle)]
 pub extern "C" fn nard_boot_order_read(bytes: &[u8], place: usize, number: &mut u16) -> u32
     ensures odd { (result ≡ ODD_BYTES) ↔ (length bytes.now % 2 ≡ 1) }
@@ -150,13 +151,13 @@ pub extern "C" fn nard_boot_order_read(bytes: &[u8], place: usize, number: &mut 
     }
 }
 
-/// Puts a number at a place among the others of an order, as `order_edits::insert` does: where it
-/// is in the order already, it moves. A place beyond the end is the end.
+/// Inserts a number at an index among the others of an order, as `order_edits::insert` does, or
+/// moves it there if the order contains it. An index beyond the end is the end.
 ///
-/// The order is the first `count` units of `order`, or all of them where these are fewer. `count`
-/// becomes how many numbers it then has, and the units after these stay. A number that is not in
-/// the order, for which there is no room, is `BUFFER_TOO_SMALL`, which leaves the order and `count`
-/// unchanged. Takes no memory.
+/// The order is the first `count` units of `order`, or all units if there are fewer. `count`
+/// becomes the new number of numbers, and the units after them are unchanged. If the order does not
+/// contain the number and has no room for it, the call returns `BUFFER_TOO_SMALL`, and the order
+/// and `count` are unchanged. Does not allocate.
 #[unsafe(no_mangle)]
 pub extern "C" fn nard_boot_order_insert(
     order: &mut [u16],
@@ -182,9 +183,10 @@ pub extern "C" fn nard_boot_order_insert(
     }
 }
 
-/// Takes a number out of an order, as `order_edits::remove` does, and says whether it was there.
+/// Removes a number from an order, as `order_edits::remove` does, and returns whether the order
+/// contained it.
 ///
-/// The order and `count` are as in [`nard_boot_order_insert`]. Takes no memory.
+/// The order and `count` are as in [`nard_boot_order_insert`]. Does not allocate.
 #[unsafe(no_mangle)]
 pub extern "C" fn nard_boot_order_remove(order: &mut [u16], count: &mut usize, number: u16) -> bool
     ensures stood { result ≡ stands_in number (take count.old order.old) }
@@ -196,10 +198,10 @@ pub extern "C" fn nard_boot_order_remove(order: &mut [u16], count: &mut usize, n
     stood
 }
 
-/// Moves a number of an order to the front, as `order_edits::move_to_front` does, and says whether
-/// it was there; where it was not, the order stays.
+/// Moves a number of an order to the front, as `order_edits::move_to_front` does, and returns
+/// whether the order contained it. Otherwise the order is unchanged.
 ///
-/// The order and `count` are as in [`nard_boot_order_insert`]. Takes no memory.
+/// The order and `count` are as in [`nard_boot_order_insert`]. Does not allocate.
 #[unsafe(no_mangle)]
 pub extern "C" fn nard_boot_order_move_to_front(
     order: &mut [u16],

@@ -1,5 +1,10 @@
+<<<<<<< HEAD
 //! Paths that are made in a caller's buffer: whole, or not at all. No call takes memory.
 ghost use Rattle.std.specs.Prelude.{◌≡◌, ◌+◌, ◌*◌, ◌≤◌, ℕ, List, Err, Ok, Some, length};
+=======
+//! Paths that are made in a caller's buffer: whole, or not at all. No call allocates.
+ghost use Rattle.std.specs.Prelude.{◌≡◌, ◌+◌, ◌*◌, ◌≤◌, ℕ, List, Err, Ok, length};
+>>>>>>> 5a63d78039292a3c171a378f6c2db18b09da4649
 ghost use Rattle.std.specs.Str.{IsUtf8, chars};
 ghost use Rattle.uefi_text.specs.Units.{IsText};
 ghost use Rattle.uefi_path.specs.Parents.{parent_text};
@@ -20,14 +25,14 @@ use crate::utf8_texts::nard_string_from_utf8;
 use uefi_path::{NormalWriteError, Path, laws, push_in_buf};
 use uefi_text::BufferTooSmall;
 
-/// Pushes a path on the path that a buffer begins with, in place, as `PathBuf::push` does: a separator
-/// between the two where the first is not empty and does not end in one, and each slash of the second
-/// replaced. The empty path changes nothing.
+/// Pushes a path onto the path at the start of a buffer, as `PathBuf::push` does. Slashes of the
+/// second path are replaced. If the first path is not empty and does not end in a separator, one is
+/// added between the two. The empty path changes nothing.
 ///
-/// Units that begin with no string are refused as by `nard_string_until_nul`, those of the buffer first.
-/// Else `place` becomes how many units the path has, or at most `usize::MAX - 1`, and a buffer of no more
-/// places is `BUFFER_TOO_SMALL`. Refused, the buffer stays unchanged; what stands after the NUL stays.
-/// Takes no memory.
+/// Units that do not begin with a string are refused as by `nard_string_until_nul`, the buffer
+/// first. Otherwise `place` becomes the length of the path in units, at most `usize::MAX - 1`, and
+/// a buffer with at most that many places is refused as `BUFFER_TOO_SMALL`. If the call refuses,
+/// the buffer is unchanged. Units after the NUL are never changed. Does not allocate.
 #[unsafe(no_mangle)]
 pub extern "C" fn nard_path_push(buffer: &mut [u16], path: &[u16], place: &mut usize) -> u32
     ensures { Shows (when_read (read_string buffer.old) (λ text. when_read (read_string path.now) (λ other.
@@ -44,12 +49,12 @@ pub extern "C" fn nard_path_push(buffer: &mut [u16], path: &[u16], place: &mut u
     report(push_in_buf(buffer, end, path), place)
 }
 
-/// Writes the path of a string, each slash replaced, with another pushed after it, as `Path::join` does, into
-/// the first places of a buffer, and a NUL.
+/// Writes the path of a string with another path pushed after it, as `Path::join` does, and a NUL
+/// to the start of a buffer. Slashes are replaced.
 ///
-/// Units that begin with no string are refused as by `nard_string_until_nul`, those of `path` first. Else
-/// `place` and a buffer that is too small are as in [`nard_path_push`]. Refused, the buffer stays
-/// unchanged; what stands after the NUL stays. Takes no memory.
+/// Units that do not begin with a string are refused as by `nard_string_until_nul`, `path` first.
+/// Otherwise `place` and a buffer that is too small are as in [`nard_path_push`]. If the call
+/// refuses, the buffer is unchanged. Units after the NUL are never changed. Does not allocate.
 #[unsafe(no_mangle)]
 pub extern "C" fn nard_path_join(
     path: &[u16],
@@ -71,13 +76,14 @@ pub extern "C" fn nard_path_join(
     report(path.write_joined(other, buffer), place)
 }
 
-/// Writes the parent of a string's path, as `Path::parent` has it, into the first places of a buffer, and
-/// a NUL.
+/// Writes the parent of a string's path, as `Path::parent` makes it, and a NUL to the start of a
+/// buffer.
 ///
-/// Units that begin with no string are refused as by `nard_string_until_nul`, and a path of at most one
-/// component as `NO_PARENT`, which leaves `place` unchanged. Else `place` becomes how many units the
-/// parent has, and a buffer of no more places is `BUFFER_TOO_SMALL`. Refused, the buffer stays unchanged;
-/// what stands after the NUL stays. Takes no memory.
+/// Units that do not begin with a string are refused as by `nard_string_until_nul`, and a path of
+/// at most one component as `NO_PARENT`, and then `place` is unchanged. Otherwise `place` becomes
+/// the length of the parent in units, and a buffer with at most that many places is refused as
+/// `BUFFER_TOO_SMALL`. If the call refuses, the buffer is unchanged. Units after the NUL are never
+/// changed. Does not allocate.
 #[unsafe(no_mangle)]
 pub extern "C" fn nard_path_parent(path: &[u16], buffer: &mut [u16], place: &mut usize) -> u32
     ensures shows { Shows (when_read (read_string path.now) (λ text. parent_or_none (parent_text text)))
@@ -96,14 +102,15 @@ pub extern "C" fn nard_path_parent(path: &[u16], buffer: &mut [u16], place: &mut
     }
 }
 
-/// Writes the normal path of a string's path, as `Path::write_normal` makes it, into the first places of a
-/// buffer, and a NUL: each slash is a separator.
+/// Writes the normal path of a string's path, as `Path::write_normal` makes it, and a NUL to the
+/// start of a buffer. Slashes count as separators.
 ///
-/// Units that begin with no string are refused as by `nard_string_until_nul`, and then a path that is not
-/// valid as by `nard_path_verdict` of the path with its slashes replaced, with its `place` and its
-/// `character`. Else `place` becomes how many units the normal path has, and a buffer of no more places
-/// is `BUFFER_TOO_SMALL`. Refused, the buffer stays unchanged; what stands after the NUL stays.
-/// `character` becomes 0 but where a character is the reason. Takes no memory.
+/// Units that do not begin with a string are refused as by `nard_string_until_nul`, and then a path
+/// that is not valid as by `nard_path_verdict` of the path with its slashes replaced, with its
+/// `place` and its `character`. Otherwise `place` becomes the number of units of the normal path,
+/// and a buffer with at most that many places is refused as `BUFFER_TOO_SMALL`. If the call
+/// refuses, the buffer is unchanged. Units after the NUL are never changed. `character` becomes 0
+/// unless a character is the reason. Does not allocate.
 #[unsafe(no_mangle)]
 pub extern "C" fn nard_path_normalize(
     path: &[u16],
@@ -140,8 +147,9 @@ pub extern "C" fn nard_path_normalize(
 /// place more if their number is odd, and [`nard_path_normalize`] makes of that the normal path in the
 /// first half.
 ///
-/// Each refuses in its half as it does in a buffer. Twice as many places as bytes, and two more, are enough
-/// for any path. `character` becomes 0 but where a character is the reason. Takes no memory.
+/// Each refuses in its half as it does in a buffer. Twice as many places as bytes, and two more,
+/// are enough for any path. `character` becomes 0 unless a character is the reason. Does not
+/// allocate.
 #[unsafe(no_mangle)]
 pub extern "C" fn nard_path_normalize_utf8(
     bytes: &[u8],

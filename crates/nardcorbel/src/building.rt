@@ -22,9 +22,9 @@ use uefi_device_path::{
 
 /// Writes the device path without nodes to the start of a buffer: its end node alone.
 ///
-/// `place` becomes 4, how many bytes it has. A buffer of fewer bytes is `BUFFER_TOO_SMALL`, and
-/// stays unchanged. What stands after the path stays. Takes no memory (UEFI Specification 2.10,
-/// section 10.3.1).
+/// `place` becomes 4, the size of the path. A buffer of fewer bytes is refused as
+/// `BUFFER_TOO_SMALL`, and is unchanged. Bytes after the path are unchanged. Does not allocate
+/// (UEFI Specification 2.10, section 10.3.1).
 #[unsafe(no_mangle)]
 pub extern "C" fn nard_device_path_begin(buffer: &mut [u8], place: &mut usize) -> u32
     ensures { Shows (Content (path_bytes [])) place.old buffer.old result place.new buffer.new }
@@ -43,12 +43,12 @@ fn are_bytes(bytes: &[u8])
 
 /// Adds a node to the device path that a buffer begins with, before its end, as [`push_in_buf`] does.
 ///
-/// Bytes that begin with no device path are refused as by [`nard_device_path_check`], with its
-/// `place`; then a node of type End that ends no instance as `NODE_OF_END`, more than 65,531 bytes
-/// of data as `NODE_TOO_LONG`, and a buffer that is too small as `BUFFER_TOO_SMALL`. `place`
-/// becomes how many bytes the path then has, or needs; it stays unchanged for a node that may not
-/// stand there. Refused, the buffer stays unchanged; what stands after the path stays. Takes no
-/// memory (UEFI Specification 2.10, section 10.3.1).
+/// Bytes that do not begin with a device path are refused as by [`nard_device_path_check`], with
+/// its `place`; then a node of type End that does not end an instance as `NODE_OF_END`, more than
+/// 65,531 bytes of data as `NODE_TOO_LONG`, and a buffer that is too small as `BUFFER_TOO_SMALL`.
+/// `place` becomes the size that the path then has or needs; it is unchanged for a node that is not
+/// allowed there. If the call refuses, the buffer is unchanged. Bytes after the path are never
+/// changed. Does not allocate (UEFI Specification 2.10, section 10.3.1).
 #[unsafe(no_mangle)]
 pub extern "C" fn nard_device_path_push(
     buffer: &mut [u8],
@@ -71,13 +71,13 @@ pub extern "C" fn nard_device_path_push(
     report(push_in_buf(buffer, &node), place)
 }
 
-/// Adds the nodes of the device path that bytes begin with to the one that a buffer begins with, as
+/// Adds the nodes of the device path at the start of bytes to the path at the start of a buffer, as
 /// [`append_in_buf`] does.
 ///
 /// Refused as by [`nard_device_path_check`], the buffer first and then the bytes, with its `place`;
-/// then a buffer that is too small as `BUFFER_TOO_SMALL`. Else `place` becomes how many bytes the
-/// path then has, or needs. Refused, the buffer stays unchanged; what stands after the path stays.
-/// Takes no memory.
+/// then a buffer that is too small as `BUFFER_TOO_SMALL`. Otherwise `place` becomes the number of
+/// bytes of the path then, or needs. If the call refuses, the buffer is unchanged. Bytes after the
+/// path are never changed. Does not allocate.
 #[unsafe(no_mangle)]
 pub extern "C" fn nard_device_path_append(buffer: &mut [u8], bytes: &[u8], place: &mut usize) -> u32
     ensures { Shows (when_read (read_path buffer.old) (λ nodes. when_read (read_path bytes.now) (λ others.
@@ -137,13 +137,14 @@ fn push_styled_text(
 /// Adds the nodes of a text in UTF-8 to the device path that a buffer begins with, before its end, as
 /// [`push_text_in_buf`] does.
 ///
-/// A buffer that begins with no device path is refused as by [`nard_device_path_check`], with its
-/// `place`; then bytes that are not UTF-8 as `NOT_UTF8`, and `place` becomes how many bytes before
-/// the fault are; then a text that is not that of a path as `NO_NODE`, and `place` becomes the byte
-/// at which a node has to begin and none does; and then a buffer that is too small as
-/// `BUFFER_TOO_SMALL`. Else `place` becomes how many bytes the path then has, or needs, and the
-/// greatest `usize` where these are more. Refused, the buffer stays unchanged; what stands after the
-/// path stays. Takes no memory (UEFI Specification 2.10, section 10.6.1).
+/// A buffer that does not begin with a device path is refused as by [`nard_device_path_check`],
+/// with its `place`; then bytes that are not UTF-8 as `NOT_UTF8`, and `place` becomes how many
+/// bytes before the fault are; then a text that is not that of a path as `NO_NODE`, and `place`
+/// becomes the byte at which a node has to begin and none does; and then a buffer that is too small
+/// as `BUFFER_TOO_SMALL`. Otherwise `place` becomes the number of bytes of the path then, or needs,
+/// and the largest `usize` if the size is larger. If the call refuses, the buffer is unchanged.
+/// Bytes after the path are never changed. Does not allocate (UEFI Specification 2.10, section
+/// 10.6.1).
 #[unsafe(no_mangle)]
 pub extern "C" fn nard_device_path_push_text(
     buffer: &mut [u8],
@@ -159,14 +160,15 @@ pub extern "C" fn nard_device_path_push_text(
 /// Adds the nodes of a text in UTF-8, as people write it, to the device path that a buffer begins with,
 /// before its end, as [`push_lenient_text_in_buf`](uefi_device_path) does.
 ///
-/// A buffer that begins with no device path is refused as by [`nard_device_path_check`], with its `place`;
-/// then bytes that are not UTF-8 as `NOT_UTF8`, and `place` becomes how many bytes before the fault are;
-/// then a `scratch` that is not longer than these bytes as `SCRATCH_TOO_SMALL`, and `place` becomes how
-/// many bytes it needs; then a text that is not read as a path as `NO_NODE`, and `place` becomes the byte
-/// of it that is wrong, or its length; and then a buffer that is too small as `BUFFER_TOO_SMALL`. Else
-/// `place` becomes how many bytes the path then has, or needs, and the greatest `usize` where these are
-/// more. Refused, the buffer stays unchanged; what stands after the path stays; `scratch` then holds
-/// anything. Takes no memory (UEFI Specification 2.10, section 10.6.1).
+/// A buffer that does not begin with a device path is refused as by [`nard_device_path_check`],
+/// with its `place`; then bytes that are not UTF-8 as `NOT_UTF8`, and `place` becomes how many
+/// bytes before the fault are; then a `scratch` that is not longer than these bytes as
+/// `SCRATCH_TOO_SMALL`, and `place` becomes how many bytes it needs; then a text that is not read
+/// as a path as `NO_NODE`, and `place` becomes the byte of it that is wrong, or its length; and
+/// then a buffer that is too small as `BUFFER_TOO_SMALL`. Otherwise `place` becomes the number of
+/// bytes of the path then, or needs, and the largest `usize` if the size is larger. If the call
+/// refuses, the buffer is unchanged. Bytes after the path are never changed. `scratch` then
+/// contains anything. Does not allocate (UEFI Specification 2.10, section 10.6.1).
 #[unsafe(no_mangle)]
 pub extern "C" fn nard_device_path_push_lenient_text(
     buffer: &mut [u8],
@@ -180,9 +182,9 @@ pub extern "C" fn nard_device_path_push_lenient_text(
     push_styled_text(TextStyle::Lenient, buffer, bytes, scratch, place)
 }
 
-/// Adds the nodes of a text in UTF-8 that libefivar prints, and efibootmgr with it, to the device path
-/// that a buffer begins with, before its end, as [`push_libefivar_text_in_buf`](uefi_device_path) does.
-/// It is refused as by [`nard_device_path_push_lenient_text`].
+/// Adds the nodes of a text in UTF-8 that libefivar and efibootmgr print to the device path that a
+/// buffer begins with, before its end, as [`push_libefivar_text_in_buf`](uefi_device_path) does. It
+/// is refused as by [`nard_device_path_push_lenient_text`].
 #[unsafe(no_mangle)]
 pub extern "C" fn nard_device_path_push_libefivar_text(
     buffer: &mut [u8],
@@ -196,8 +198,9 @@ pub extern "C" fn nard_device_path_push_libefivar_text(
     push_styled_text(TextStyle::Libefivar, buffer, bytes, scratch, place)
 }
 
-/// Whether both begin with a device path, and the second is a short form that stands for the first, as
-/// [`DevicePath::is_expansion_of`] says. Takes no memory (UEFI Specification 2.10, section 3.1.2).
+/// Returns whether both begin with a device path, and the second is a short form that stands for
+/// the first, as [`DevicePath::is_expansion_of`] says. Does not allocate (UEFI Specification 2.10,
+/// section 3.1.2).
 #[unsafe(no_mangle)]
 pub extern "C" fn nard_device_path_is_expansion(bytes: &[u8], form: &[u8]) -> bool
     ensures { IsTrue result ↔ ((nodes : List Node) × (others : List Node) × BeginWithPath bytes.now nodes
@@ -212,8 +215,9 @@ pub extern "C" fn nard_device_path_is_expansion(bytes: &[u8], form: &[u8]) -> bo
     path.is_expansion_of(short)
 }
 
-/// Whether both begin with a device path, and the first begins with the nodes of the second: then `place`
-/// becomes the offset of what follows them. Else it stays unchanged. Takes no memory.
+/// Returns whether both begin with a device path, and the first path begins with the nodes of the
+/// second. If so, `place` becomes the offset after these nodes; otherwise it is unchanged. Does not
+/// allocate.
 #[unsafe(no_mangle)]
 pub extern "C" fn nard_device_path_strip_prefix(
     bytes: &[u8],
@@ -241,13 +245,13 @@ pub extern "C" fn nard_device_path_strip_prefix(
 
 /// Writes a load option of one device path to the start of a buffer, as [`LoadOptionBuilder::write`] does.
 ///
-/// Of `attributes` the lowest 32 bits count. Units of the description that begin with no string are
-/// refused as by `nard_string_until_nul`, then bytes that begin with no device path as by
-/// [`nard_device_path_check`], each with its `place`; then a device path of more than 65,535 bytes
-/// as `LIST_TOO_LONG`, and a buffer that is too small as `BUFFER_TOO_SMALL`. `place` becomes how
-/// many bytes the load option has, or needs; it stays unchanged at `LIST_TOO_LONG`. Refused, the
-/// buffer stays unchanged; what stands after the load option stays. Takes no memory (UEFI
-/// Specification 2.10, section 3.1.3).
+/// Of `attributes` the lowest 32 bits count. Units of the description that do not begin with a
+/// string are refused as by `nard_string_until_nul`, then bytes that do not begin with a device
+/// path as by [`nard_device_path_check`], each with its `place`; then a device path of more than
+/// 65,535 bytes as `LIST_TOO_LONG`, and a buffer that is too small as `BUFFER_TOO_SMALL`. `place`
+/// becomes how many bytes the load option has, or needs; it stays unchanged at `LIST_TOO_LONG`. If
+/// the call refuses, the buffer is unchanged. Bytes after the load option are never changed. Does
+/// not allocate (UEFI Specification 2.10, section 3.1.3).
 #[unsafe(no_mangle)]
 pub extern "C" fn nard_load_option_write(
     attributes: usize,

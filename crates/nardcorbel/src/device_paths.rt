@@ -27,11 +27,11 @@ use uefi_device_path::{
     fault_place,
 };
 
-/// Whether bytes begin with a device path: `OK`, or why not.
+/// Checks that bytes begin with a device path. Returns `OK`, or the fault.
 ///
-/// `place` becomes how many bytes the path has, its end node among them; or the offset of the bytes that
-/// are at fault in the first malformed node, as [`DevicePath::from_bytes`] has it. What follows the path
-/// is not read. Takes no memory (UEFI Specification 2.10, section 10.3.1).
+/// `place` becomes the size of the path with its end node, or the offset of the bytes at fault in
+/// the first malformed node, as [`DevicePath::from_bytes`] reports it. The call does not read
+/// beyond the path. Does not allocate (UEFI Specification 2.10, section 10.3.1).
 #[unsafe(no_mangle)]
 pub extern "C" fn nard_device_path_check(bytes: &[u8], place: &mut usize) -> u32
     ensures { ShowsNumber (when_read (read_path bytes.now) (λ nodes. Number (length (path_bytes nodes))))
@@ -43,15 +43,16 @@ pub extern "C" fn nard_device_path_check(bytes: &[u8], place: &mut usize) -> u32
     }
 }
 
-/// How many bytes there have to be to go on in a device path whose first bytes these are: `OK`, or why
-/// no path begins so.
+/// Finds how many bytes are needed to read on in a device path that begins with these bytes.
+/// Returns `OK`, or why no path begins with them.
 ///
-/// At `OK` `needed` becomes the number of bytes up to the end of the path, if that is not more than
-/// there are; or else how many there have to be to say more, and no path that begins with these bytes
-/// has fewer. `place` is where a node begins, 0 at first, and becomes the offset of the next one, so
-/// that no node is read twice. Refused, `place` becomes the offset of the bytes at fault, and `needed`
-/// stays. A place after the end of the bytes is `NO_END_NODE`. Reads no byte but these; takes no memory
-/// (UEFI Specification 2.10, section 10.3.1).
+/// At `OK`, `needed` becomes the size of the path if the bytes contain the whole path; otherwise it
+/// becomes the number of bytes needed to continue, and no path that begins with these bytes is
+/// shorter. `place` is the offset of a node, 0 at first, and becomes the offset of the next node,
+/// so that no node is read twice. If the call refuses, `place` becomes the offset of the bytes at
+/// fault, and `needed` is unchanged. A place after the end of the bytes is refused as
+/// `NO_END_NODE`. Reads only these bytes; does not allocate (UEFI Specification 2.10, section
+/// 10.3.1).
 #[unsafe(no_mangle)]
 pub extern "C" fn nard_device_path_needs(bytes: &[u8], place: &mut usize, needed: &mut usize) -> u32
     ensures extent { result ≡ OK → (extent : PathExtent) × HasExtent (drop place.old bytes.now) extent
@@ -96,18 +97,19 @@ pub struct DeviceNode {
     /// The offset of the data, which follow the header.
     pub start: usize,
 
-    /// How many bytes the data have.
+    /// The number of bytes of the data.
     pub length: usize,
 }
 
-/// The node that begins at a place in bytes: `OK` where it does not end the path, `END_OF_PATH` where it
-/// does, and else why none begins there.
+/// Reads the node at an offset of bytes. Returns `OK`, `END_OF_PATH` if the node ends the path, or
+/// the fault.
 ///
-/// At `OK` `node` becomes the node, and `place` the offset after it; at `END_OF_PATH` `place` becomes the
-/// offset after the node, where the next path of a list begins. Refused, `place` becomes the offset of the
-/// bytes that are at fault. But for `OK` `node` stays unchanged. The nodes that end an instance are among
-/// those that are `OK`. Any bytes and any place may be given: no node begins after the end of the bytes.
-/// Reads the node's header alone; takes no memory (UEFI Specification 2.10, section 10.3.1).
+/// At `OK` `node` becomes the node, and `place` the offset after it; at `END_OF_PATH` `place`
+/// becomes the offset after the node, where the next path of a list begins. If the call refuses,
+/// `place` becomes the offset of the bytes at fault. `node` is unchanged unless the call returns
+/// `OK`. Nodes that end an instance are `OK`. Any bytes and any place are allowed: no node begins
+/// after the end of the bytes. Reads only the node's header; does not allocate (UEFI Specification
+/// 2.10, section 10.3.1).
 #[unsafe(no_mangle)]
 pub extern "C" fn nard_device_path_next_node(
     bytes: &[u8],
@@ -164,12 +166,13 @@ pub extern "C" fn nard_device_path_next_node(
 /// Writes the file path of the device path that bytes begin with, as [`DevicePath::write_file_path`] does,
 /// into the first places of a buffer, and a NUL.
 ///
-/// Bytes that begin with no device path are refused as by [`nard_device_path_check`], and then a node
-/// that should name a file and has no name, where `place` becomes the offset of its data: `ODD_BYTES`
-/// where they end in half a unit, and else as by `nard_string_with_nul`. Else `place` becomes how many
-/// units the file path has, its NUL not counted, and a buffer of no more places is `BUFFER_TOO_SMALL`.
-/// Refused, the buffer stays unchanged; what stands after the NUL stays. Takes no memory (UEFI
-/// Specification 2.10, section 10.3.5.4).
+/// Bytes that do not begin with a device path are refused as by [`nard_device_path_check`], and
+/// then a node that should name a file and has no name, where `place` becomes the offset of its
+/// data: `ODD_BYTES` where they end in half a unit, and else as by `nard_string_with_nul`.
+/// Otherwise `place` becomes the number of units of the file path, without its NUL, and a buffer
+/// with at most that many places is refused as `BUFFER_TOO_SMALL`. If the call refuses, the buffer
+/// is unchanged. Units after the NUL are never changed. Does not allocate (UEFI Specification 2.10,
+/// section 10.3.5.4).
 #[unsafe(no_mangle)]
 pub extern "C" fn nard_device_path_file_path(
     bytes: &[u8],
@@ -198,10 +201,11 @@ pub extern "C" fn nard_device_path_file_path(
 /// Writes the device path that bytes begin with as people read it, which [`DevicePath::write_text`] does,
 /// into the first places of a buffer as UTF-16, and a NUL.
 ///
-/// Bytes that begin with no device path are refused as by [`nard_device_path_check`], and the buffer
-/// stays unchanged. Else `place` becomes how many units the text has, its NUL not counted, or at most
-/// `usize::MAX - 1`, and a buffer of no more places, and no other, is `BUFFER_TOO_SMALL`: it stays
-/// unchanged. What stands after the NUL stays. Takes no memory (UEFI Specification 2.10, section 10.6.1).
+/// Bytes that do not begin with a device path are refused as by [`nard_device_path_check`], and the
+/// buffer stays unchanged. Otherwise `place` becomes the number of units of the text, without its
+/// NUL, or at most `usize::MAX - 1`, and a buffer of no more places, and no other, is
+/// `BUFFER_TOO_SMALL`: it stays unchanged. What stands after the NUL stays. Does not allocate (UEFI
+/// Specification 2.10, section 10.6.1).
 #[unsafe(no_mangle)]
 pub extern "C" fn nard_device_path_text(
     bytes: &[u8],

@@ -21,13 +21,13 @@ use crate::reasons::{CHAR_REPLACED, OK, fat_name_reason};
 use uefi_fat::{FatBytes, check_fat_name, fat_to_str, is_short_name, same_fat_file, str_to_fat};
 use uefi_text::{BufferTooSmall, CStr16, Char16Slice};
 
-/// Whether the units begin with a string that a file on a FAT volume can have as its name: `OK`, or
-/// why not.
+/// Checks that the units begin with a string that a file on a FAT volume can have as its name.
+/// Returns `OK`, or the fault.
 ///
-/// Units that begin with no string are refused as by `nard_string_until_nul`, and then the name as by
-/// `check_fat_name`. `place` becomes what `nard_string_until_nul` says, which is the length of the text
-/// where only the name is refused. `character` becomes the character of `ILLEGAL_CHAR`, and 0 else. Takes
-/// no memory.
+/// Units that do not begin with a string are refused as by `nard_string_until_nul`, and then the
+/// name as by `check_fat_name`. `place` becomes what `nard_string_until_nul` says, which is the
+/// length of the text where only the name is refused. `character` becomes the character of
+/// `ILLEGAL_CHAR`, and 0 else. Does not allocate.
 #[unsafe(no_mangle)]
 pub extern "C" fn nard_fat_name_check(units: &[u16], place: &mut usize, character: &mut u16) -> u32
     ensures shows { ShowsNumber (when_read (read_string units.now) checked_name) place.old result place.new }
@@ -51,8 +51,8 @@ pub extern "C" fn nard_fat_name_check(units: &[u16], place: &mut usize, characte
     }
 }
 
-/// Whether both begin with a string, and these are names of one file on a FAT volume, as `same_fat_file`
-/// says. Takes no memory.
+/// Returns whether both begin with a string, and these are names of one file on a FAT volume, as
+/// `same_fat_file` says. Does not allocate.
 #[unsafe(no_mangle)]
 pub extern "C" fn nard_fat_name_equal(first: &[u16], second: &[u16]) -> bool
     ensures { IsTrue result ↔ (BeginsWithString first.now × BeginsWithString second.now
@@ -67,7 +67,8 @@ pub extern "C" fn nard_fat_name_equal(first: &[u16], second: &[u16]) -> bool
     same_fat_file(first.as_slice(), second.as_slice())
 }
 
-/// Whether the units begin with a string that is an 8.3 name, as `is_short_name` says. Takes no memory.
+/// Returns whether the units begin with a string that is an 8.3 name, as `is_short_name` says. Does
+/// not allocate.
 #[unsafe(no_mangle)]
 pub extern "C" fn nard_fat_name_is_short(units: &[u16]) -> bool
     ensures { IsTrue result ↔ (BeginsWithString units.now × IsShortName (text_until_nul units.now)) }
@@ -92,12 +93,11 @@ pub(crate) fn report_fat(written: FatBytes, place: &mut usize) -> u32
 }
 
 /// Writes the string that units begin with to the start of `bytes` in the characters of short
-/// names, as `str_to_fat` does: `OK`, or `CHAR_REPLACED` where one of them is `_` in place of
-/// another.
+/// names, as `str_to_fat` does: `OK`, or `CHAR_REPLACED` if one of them is `_` in place of another.
 ///
-/// `place` becomes how many bytes are written. What is after them stays, and no NUL is written. Units
-/// that begin with no string are refused as by `nard_string_until_nul`, whose `place` is reported, and
-/// the bytes stay unchanged. Takes no memory.
+/// `place` becomes how many bytes are written. What is after them stays, and no NUL is written.
+/// Units that do not begin with a string are refused as by `nard_string_until_nul`, whose `place`
+/// is reported, and the bytes stay unchanged. Does not allocate.
 #[unsafe(no_mangle)]
 pub extern "C" fn nard_fat_from_string(units: &[u16], bytes: &mut [u8], place: &mut usize) -> u32
     ensures refused { (refusal : Refusal) → read_string units.now ≡ Err refusal
@@ -112,11 +112,11 @@ pub extern "C" fn nard_fat_from_string(units: &[u16], bytes: &mut [u8], place: &
 }
 
 /// Writes the string of bytes in the characters of short names to the start of `buffer`, as
-/// `fat_to_str` does: a unit for each byte before the first NUL, or for each byte where there is
-/// none, and a NUL.
+/// `fat_to_str` does: a unit for each byte before the first NUL, or for each byte if there is none,
+/// and adds a NUL.
 ///
 /// `place` becomes how many units the text has. A buffer with no more places than these is
-/// `BUFFER_TOO_SMALL`, and stays unchanged. Takes no memory.
+/// `BUFFER_TOO_SMALL`, and stays unchanged. Does not allocate.
 #[unsafe(no_mangle)]
 pub extern "C" fn nard_string_from_fat(bytes: &[u8], buffer: &mut [u16], place: &mut usize) -> u32
     ensures shows { Shows (Text (fat_text bytes.now)) place.old buffer.old result place.new buffer.new }

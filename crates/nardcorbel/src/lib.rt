@@ -1,7 +1,8 @@
-//! The library for callers in C, and in whatever calls C: `include/nardcorbel.h` declares each call.
+//! The library for callers in C, and in any language that calls C: `include/nardcorbel.h` declares
+//! each call.
 //!
-//! Each call states the library's own clauses again, over slices and numbers. A slice crosses as a
-//! pointer and a length, and a reason as a number of [`reasons`]. No call takes memory.
+//! Each call states the library's clauses again, over slices and numbers. A slice is passed as a
+//! pointer and a length, and a reason as a number of [`reasons`]. No call allocates.
 #![tactic(auto)]
 
 pub mod boot_variables;

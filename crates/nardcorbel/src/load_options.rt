@@ -25,26 +25,26 @@ pub struct LoadOptionParts {
     /// The offset of the description.
     pub description_start: usize,
 
-    /// How many units the description has, its NUL not counted.
+    /// The number of units of the description, without its NUL.
     pub description_length: usize,
 
     /// The offset of the file path list.
     pub list_start: usize,
 
-    /// How many bytes the file path list has.
+    /// The number of bytes of the file path list.
     pub list_length: usize,
 
-    /// How many bytes the first device path of the list has, its end node among them.
+    /// The number of bytes of the first device path of the list, its end node included.
     pub path_length: usize,
 
     /// The offset of the optional data.
     pub optional_start: usize,
 
-    /// How many bytes the optional data have.
+    /// The number of bytes of the optional data.
     pub optional_length: usize,
 }
 
-/// How many bytes the first device path of a load option has.
+/// The number of bytes of the first device path of a load option.
 fn first_path_len(option: &LoadOption<'_>) -> usize
     ensures { (first : List Node) → (others : List (List Node)) → (entry_of option.now).paths ≡ first ∷ others
         → result ≡ length (path_bytes first) }
@@ -75,12 +75,13 @@ fn parts_of(option: &LoadOption<'_>) -> LoadOptionParts
     }
 }
 
-/// Reads a load option, the value of a variable `Boot####`: `OK`, or why the bytes are none.
+/// Reads a load option, the value of a variable `Boot####`. Returns `OK`, or the first fault of the
+/// bytes.
 ///
-/// At `OK` `option` becomes where its parts stand, and `place` becomes how many bytes there are. Refused
-/// as [`LoadOption::from_bytes`] refuses the bytes, for the first fault: `place` becomes its offset, and
-/// `option` stays unchanged. The description may hold surrogates. Takes no memory (UEFI Specification
-/// 2.10, section 3.1.3).
+/// At `OK`, `option` becomes the offsets and lengths of its parts, and `place` the number of bytes.
+/// The call refuses bytes as [`LoadOption::from_bytes`] does: `place` becomes the offset of the
+/// fault, and `option` is unchanged. The description may contain surrogates. Does not allocate
+/// (UEFI Specification 2.10, section 3.1.3).
 #[unsafe(no_mangle)]
 pub extern "C" fn nard_load_option_read(
     bytes: &[u8],

@@ -9,13 +9,14 @@ use crate::outcomes::report;
 use crate::strings::until_nul;
 use uefi_text::decode::write_lossy;
 
-/// Writes the units before the first NUL, or all of them where there is none, in UTF-8 and with a
-/// NUL to the start of `bytes`.
+/// Writes the units before the first NUL, or all units if there is no NUL, in UTF-8 with a NUL to
+/// the start of `bytes`.
 ///
-/// Each pair of surrogates is one character, and each surrogate without a partner becomes U+FFFD (Unicode
-/// Standard, section 3.9), so no unit is refused. `place` becomes how many bytes the text has, or at most
-/// `usize::MAX - 1`, and bytes with no more places than these are `BUFFER_TOO_SMALL`. Refused, the bytes
-/// stay unchanged; what is after the NUL stays. Takes no memory.
+/// Each pair of surrogates is one character, and each surrogate without a partner becomes U+FFFD
+/// (Unicode Standard, section 3.9), so no unit is refused. `place` becomes how many bytes the text
+/// has, or at most `usize::MAX - 1`, and bytes with no more places than these are
+/// `BUFFER_TOO_SMALL`. If the call refuses, the bytes are unchanged. Bytes after the NUL are never
+/// changed. Does not allocate.
 #[unsafe(no_mangle)]
 pub extern "C" fn nard_utf8_from_units_lossy(
     units: &[u16],

@@ -17,12 +17,12 @@ use uefi_device_path::{AllowShortcuts, DevicePathNode, DisplayOnly};
 /// Writes the text of the node that bytes begin with, as [`DevicePathNode::write_text`] does, into the first
 /// places of a buffer as UTF-16, and a NUL.
 ///
-/// Bytes that begin with no node are refused as by `nard_device_path_next_node` at place 0: `place`
-/// becomes the offset of the bytes that are at fault, and the buffer stays unchanged. The node may be one
-/// that ends the path or an instance. Else `place` becomes how many units the text has, its NUL not
-/// counted, or at most `usize::MAX - 1`, and a buffer of no more places, and no other, is
-/// `BUFFER_TOO_SMALL`: it stays unchanged. What stands after the NUL stays. What follows the node is not
-/// read. Takes no memory (UEFI Specification 2.10, section 10.6.1).
+/// Bytes that do not begin with a node are refused as by `nard_device_path_next_node` at place 0:
+/// `place` becomes the offset of the bytes that are at fault, and the buffer stays unchanged. The
+/// node may be one that ends the path or an instance. Otherwise `place` becomes the number of units
+/// of the text, without its NUL, or at most `usize::MAX - 1`, and a buffer of no more places, and
+/// no other, is `BUFFER_TOO_SMALL`: it stays unchanged. What stands after the NUL stays. The call
+/// does not read beyond the node. Does not allocate (UEFI Specification 2.10, section 10.6.1).
 #[unsafe(no_mangle)]
 pub extern "C" fn nard_node_text(
     bytes: &[u8],

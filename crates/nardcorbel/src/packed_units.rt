@@ -7,12 +7,12 @@ use crate::reasons::{BUFFER_TOO_SMALL, NO_NUL, ODD_BYTES, OK};
 use uefi_text::UnalignedSlice;
 use uefi_text::unaligned_slice::read_items;
 
-/// Copies the code units that bytes encode, two bytes each with the low one first, into the prefix of a
-/// buffer. The bytes may begin at any place of memory.
+/// Copies the code units that bytes encode, two bytes each, the low byte first, to the start of a
+/// buffer. The bytes may begin at any address.
 ///
-/// Bytes that are odd in number are `ODD_BYTES`, and then a buffer of fewer places than there are units
-/// is `BUFFER_TOO_SMALL`; either leaves the buffer unchanged. What stands after the units stays. `count`
-/// becomes how many units there are, refused or not. Takes no memory.
+/// An odd number of bytes is refused as `ODD_BYTES`, and then a buffer of fewer places than units
+/// as `BUFFER_TOO_SMALL`; the buffer is then unchanged. Places after the units are unchanged.
+/// `count` becomes the number of units in each case. Does not allocate.
 #[unsafe(no_mangle)]
 pub extern "C" fn nard_units_from_bytes(bytes: &[u8], buffer: &mut [u16], count: &mut usize) -> u32
     ensures ok { (result ≡ OK)
@@ -37,11 +37,11 @@ pub extern "C" fn nard_units_from_bytes(bytes: &[u8], buffer: &mut [u16], count:
     OK
 }
 
-/// How many units stand before the first NUL of those that bytes encode, wherever these begin: `OK`, or
-/// `NO_NUL` where none is a NUL. They may be surrogates.
+/// Counts the units before the first NUL in bytes that encode units, at any address. Returns `OK`,
+/// or `NO_NUL` if no unit is a NUL. The units may be surrogates.
 ///
-/// `count` becomes their number, and where no NUL is among the units that of all of them: a byte that is
-/// left at the end counts for nothing. Takes no memory.
+/// `count` becomes their number, or the number of all units if there is no NUL. An odd byte at the
+/// end is ignored. Does not allocate.
 #[unsafe(no_mangle)]
 pub extern "C" fn nard_packed_until_nul(bytes: &[u8], count: &mut usize) -> u32
     ensures accepts { (result ≡ OK)

@@ -45,12 +45,12 @@ fn judge(path: Path<'_>, place: &mut usize, character: &mut u16) -> u32
     }
 }
 
-/// Whether the units begin with a string whose path names a file: `OK`, or why not.
+/// Checks that the units begin with a string whose path names a file. Returns `OK`, or the fault.
 ///
-/// Units that begin with no string are refused as by [`nard_string_until_nul`], with its `place`, and
-/// then the path as by `validate_path_at`: `place` becomes where the component at fault begins. It
-/// becomes the length of the text if the result is `OK`. `character` becomes the character of
-/// `ILLEGAL_CHAR`, and 0 else. Takes no memory.
+/// Units that do not begin with a string are refused as by [`nard_string_until_nul`], with its
+/// `place`, and then the path as by `validate_path_at`: `place` becomes where the component at
+/// fault begins. It becomes the length of the text if the result is `OK`. `character` becomes the
+/// character of `ILLEGAL_CHAR`, and 0 else. Does not allocate.
 #[unsafe(no_mangle)]
 pub extern "C" fn nard_path_verdict(units: &[u16], place: &mut usize, character: &mut u16) -> u32
     ensures no_string { (refusal : Refusal) → read_string units.now ≡ Err refusal
@@ -68,8 +68,8 @@ pub extern "C" fn nard_path_verdict(units: &[u16], place: &mut usize, character:
     }
 }
 
-/// Whether both begin with a string, and the paths of these are equal: one leading separator says
-/// nothing. Takes no memory.
+/// Returns whether both begin with a string, and the paths of these are equal: one leading
+/// separator makes no difference. Does not allocate.
 #[unsafe(no_mangle)]
 pub extern "C" fn nard_path_equal(first: &[u16], second: &[u16]) -> bool
     ensures { IsTrue result ↔ (BeginsWithString first.now × BeginsWithString second.now
@@ -84,9 +84,9 @@ pub extern "C" fn nard_path_equal(first: &[u16], second: &[u16]) -> bool
     Path::new(first) == Path::new(second)
 }
 
-/// The order of two paths, which is that of their texts without one leading separator, by code unit: -1,
-/// 0 or 1 where the first is less, equal or greater, and `NO_ORDER` where one of them does not begin with
-/// a string. Takes no memory.
+/// Returns the order of two paths, by their texts without one leading separator, by code unit: -1,
+/// 0 or 1 if the first is less, equal or greater, and `NO_ORDER` if one of them does not begin with
+/// a string. Does not allocate.
 #[unsafe(no_mangle)]
 pub extern "C" fn nard_path_order(first: &[u16], second: &[u16]) -> i32
     ensures order { BeginsWithString first.now → BeginsWithString second.now
@@ -103,12 +103,13 @@ pub extern "C" fn nard_path_order(first: &[u16], second: &[u16]) -> i32
     order_number(Path::new(first).cmp(&Path::new(second)))
 }
 
-/// The next component of a path, from a place in its text on: whether there is one.
+/// Finds the next component of a path, from a place in its text on. Returns whether there is one.
 ///
-/// `text` are the units of the path without its NUL, any units. `place` is 0 at first. Where there is a
-/// component it is the `len` units from `start` on, which is `place`, but 1 where a separator begins the
-/// text and `place` is 0; and `place` becomes the place of the next one, after the separator that ends
-/// it. Else all three stay unchanged. An empty component is one, too. Takes no memory.
+/// `text` are the units of the path without its NUL, any units. `place` is 0 at first. If there is
+/// a component it is the `len` units from `start` on, which is `place`, but 1 where a separator
+/// begins the text and `place` is 0; and `place` becomes the place of the next one, after the
+/// separator that ends it. Else all three stay unchanged. An empty component is one, too. Does not
+/// allocate.
 #[unsafe(no_mangle)]
 pub extern "C" fn nard_path_next_component(
     text: &[u16],
@@ -135,11 +136,11 @@ pub extern "C" fn nard_path_next_component(
     true
 }
 
-/// The last component of a path: whether it has one.
+/// Finds the last component of a path. Returns whether it has one.
 ///
 /// `text` are the units of the path without its NUL, any units. `start` becomes the place where the
-/// component begins, which ends with the text, and stays unchanged where there is none. It may be empty.
-/// Takes no memory.
+/// component begins, which ends with the text, and stays unchanged if there is none. It may be
+/// empty. Does not allocate.
 #[unsafe(no_mangle)]
 pub extern "C" fn nard_path_file_name(text: &[u16], start: &mut usize) -> bool
     ensures name { IsTrue result
@@ -154,13 +155,13 @@ pub extern "C" fn nard_path_file_name(text: &[u16], start: &mut usize) -> bool
     true
 }
 
-/// How many units the parent of a path takes at the start of its text: whether it has a parent, which no
-/// path of at most one component has.
+/// Finds how many units at the start of a path's text are its parent. Returns whether it has a
+/// parent: a path of at most one component has none.
 ///
-/// `text` are the units of the path without its NUL, any units. `len` becomes the place of the separator
-/// before the last component: the units before it are a path of all components but the last. Of a valid
-/// path they are the parent, but for a separator at their start. It stays unchanged where there is no
-/// parent. Takes no memory.
+/// `text` is the units of the path without its NUL; any units are allowed. `len` becomes the place
+/// of the separator before the last component: the units before it are a path of all components but
+/// the last. For a valid path they are the parent, except for a separator at the start. `len` is
+/// unchanged if there is no parent. Does not allocate.
 #[unsafe(no_mangle)]
 pub extern "C" fn nard_path_parent_length(text: &[u16], parent_length: &mut usize) -> bool
     ensures parent { IsTrue result

@@ -162,7 +162,7 @@ pub fn numbers()
     ensures no_order { NO_ORDER ≡ negsuc 2147483647 }
 {}
 
-/// The reason why units are no string.
+/// The reason why units are not a string.
 pub(crate) fn with_nul_reason(error: FromSliceWithNulError) -> u32
     ensures { result ≡ with_nul_reason error }
 {
@@ -214,7 +214,7 @@ pub(crate) fn node_reason(error: NodeError) -> u32
     }
 }
 
-/// The reason why bytes are no load option.
+/// The reason why bytes are not a load option.
 pub(crate) fn option_reason(cause: LoadOptionCause) -> u32
     ensures { result ≡ option_reason cause }
 {

@@ -41,10 +41,11 @@ pub(crate) fn until_nul(units: &[u16]) -> &[u16]
     }
 }
 
-/// Whether all of the units are one string: `OK`, or why they are none.
+/// Checks that the units are exactly one string. Returns `OK`, or the fault.
 ///
-/// The first unit that is a NUL or a surrogate decides. `place` becomes the length of the text, the index
-/// of the unit that is refused, or the number of units where none is a NUL. Takes no memory.
+/// The first unit that is a NUL or a surrogate decides. `place` becomes the length of the text, the
+/// index of the unit that is refused, or the number of units where none is a NUL. Does not
+/// allocate.
 #[unsafe(no_mangle)]
 pub extern "C" fn nard_string_with_nul(units: &[u16], place: &mut usize) -> u32
     ensures shows { ShowsNumber (unless (with_nul_refusal units.now) (with_nul_refused units.now)
@@ -60,10 +61,10 @@ pub extern "C" fn nard_string_with_nul(units: &[u16], place: &mut usize) -> u32
     }
 }
 
-/// Whether the units begin with a string: `OK`, or why they do not. What follows the first NUL is not
-/// read.
+/// Checks that the units begin with a string. Returns `OK`, or the fault. The call does not read
+/// beyond the first NUL.
 ///
-/// `place` becomes what [`nard_string_with_nul`] says. Takes no memory.
+/// `place` becomes what [`nard_string_with_nul`] says. Does not allocate.
 #[unsafe(no_mangle)]
 pub extern "C" fn nard_string_until_nul(units: &[u16], place: &mut usize) -> u32
     ensures shows { ShowsNumber (when_read (read_string units.now) (λ text. Number (length text)))
@@ -79,7 +80,7 @@ pub extern "C" fn nard_string_until_nul(units: &[u16], place: &mut usize) -> u32
     }
 }
 
-/// Whether both begin with a string, and have the same text. Takes no memory.
+/// Returns whether both begin with a string, and have the same text. Does not allocate.
 #[unsafe(no_mangle)]
 pub extern "C" fn nard_string_equal(first: &[u16], second: &[u16]) -> bool
     ensures { IsTrue result ↔ (BeginsWithString first.now × BeginsWithString second.now
@@ -94,8 +95,8 @@ pub extern "C" fn nard_string_equal(first: &[u16], second: &[u16]) -> bool
     first.eq_cstr16(second)
 }
 
-/// The order of two strings, by code unit: -1, 0 or 1 where the first is less, equal or greater, and
-/// `NO_ORDER` where one of them does not begin with a string. Takes no memory.
+/// Returns the order of two strings, by code unit: -1, 0 or 1 if the first is less, equal or
+/// greater, and `NO_ORDER` if one of them does not begin with a string. Does not allocate.
 #[unsafe(no_mangle)]
 pub extern "C" fn nard_string_order(first: &[u16], second: &[u16]) -> i32
     ensures order { BeginsWithString first.now → BeginsWithString second.now
@@ -111,8 +112,8 @@ pub extern "C" fn nard_string_order(first: &[u16], second: &[u16]) -> i32
     order_number(first.cmp(&second))
 }
 
-/// Whether the units begin with a string, and each character of its text is one of ASCII. Takes no
-/// memory.
+/// Returns whether the units begin with a string, and each character of its text is ASCII. Does not
+/// allocate.
 #[unsafe(no_mangle)]
 pub extern "C" fn nard_string_is_ascii(units: &[u16]) -> bool
     ensures { IsTrue result ↔ (BeginsWithString units.now × IsAscii (text_until_nul units.now)) }

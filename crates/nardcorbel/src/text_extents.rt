@@ -26,10 +26,11 @@ fn find_extent(style: TextStyle, bytes: &[u8], scratch: &mut [u8], place: &mut u
 /// Reports how many bytes of a text, as people write it, are the path that it begins with, as
 /// [`lenient_text_extent`](uefi_device_path) does: programs print other data directly after a path.
 ///
-/// A `scratch` that is not longer than these bytes is refused as `SCRATCH_TOO_SMALL`, and `place` becomes how
-/// many bytes it needs; then a text that begins with no path as `NO_NODE`, and `place` becomes the byte of it
-/// that is wrong, or its length. Else `place` becomes how many bytes the path has. What follows these need
-/// not be UTF-8. `scratch` then holds anything. Takes no memory.
+/// A `scratch` that is not longer than these bytes is refused as `SCRATCH_TOO_SMALL`, and `place`
+/// becomes how many bytes it needs; then a text that does not begin with a path as `NO_NODE`, and
+/// `place` becomes the byte of it that is wrong, or its length. Otherwise `place` becomes the
+/// number of bytes of the path. What follows these need not be UTF-8. `scratch` then holds
+/// anything. Does not allocate.
 #[unsafe(no_mangle)]
 pub extern "C" fn nard_lenient_text_extent(
     bytes: &[u8],
@@ -41,7 +42,8 @@ pub extern "C" fn nard_lenient_text_extent(
     find_extent(TextStyle::Lenient, bytes, scratch, place)
 }
 
-/// The same of a text that libefivar prints, as `nard_device_path_push_libefivar_text` reads it.
+/// Reports how many bytes of a text that libefivar prints are the path at its start, as
+/// `nard_device_path_push_libefivar_text` reads it.
 #[unsafe(no_mangle)]
 pub extern "C" fn nard_libefivar_text_extent(
     bytes: &[u8],

@@ -84,11 +84,12 @@ fn write_fault(
 /// places of a buffer as UTF-16, and a NUL: for example `no node at offset 11: expected a number up to 0xFF
 /// at offset 20`. There are no words if the text is read.
 ///
-/// Bytes that are not UTF-8 are refused as `NOT_UTF8`, and `place` becomes how many bytes before the fault
-/// are; then a `scratch` that is not longer than these bytes as `SCRATCH_TOO_SMALL`, and `place` becomes how
-/// many bytes it needs; the buffer then stays unchanged. Else `place` becomes how many units the words have,
-/// their NUL not counted, and a buffer of no more places, and no other, is `BUFFER_TOO_SMALL`: it stays
-/// unchanged. What stands after the NUL stays; `scratch` then holds anything. Takes no memory.
+/// Bytes that are not UTF-8 are refused as `NOT_UTF8`, and `place` becomes how many bytes before
+/// the fault are; then a `scratch` that is not longer than these bytes as `SCRATCH_TOO_SMALL`, and
+/// `place` becomes how many bytes it needs; the buffer then stays unchanged. Otherwise `place`
+/// becomes how many units the words have, their NUL not counted, and a buffer of no more places,
+/// and no other, is `BUFFER_TOO_SMALL`: it stays unchanged. What stands after the NUL stays;
+/// `scratch` then holds anything. Does not allocate.
 #[unsafe(no_mangle)]
 pub extern "C" fn nard_lenient_text_fault(
     bytes: &[u8],

@@ -1,5 +1,6 @@
-//! Units that may hold surrogates, compared without case, matched and converted as the firmware's Unicode
-//! collation does (UEFI Specification 2.10, section 21.1): names on FAT volumes may be no strings.
+//! Units that may contain surrogates, compared without case, matched and converted as the
+//! firmware's Unicode collation does (UEFI Specification 2.10, section 21.1): names on FAT volumes
+//! may be no strings.
 //!
 //! The text of units is what is before their first NUL, or all of them if there is none. No call
 //! refuses a unit.
@@ -17,7 +18,7 @@ use uefi_fat::units_to_fat;
 use uefi_text::case::{cmp_ignore_case, eq_ignore_case, make_lowercase, make_uppercase};
 use uefi_text::patterns::matches;
 
-/// Whether the texts of both are the same without case. Takes no memory.
+/// Returns whether the texts of both are the same without case. Does not allocate.
 #[unsafe(no_mangle)]
 pub extern "C" fn nard_units_equal_ignore_case(first: &[u16], second: &[u16]) -> bool
     ensures { IsTrue result ↔ (uppers (text_until_nul first.now) ≡ uppers (text_until_nul second.now)) }
@@ -25,8 +26,8 @@ pub extern "C" fn nard_units_equal_ignore_case(first: &[u16], second: &[u16]) ->
     eq_ignore_case(until_nul(first), until_nul(second))
 }
 
-/// The order of both texts without case, as `StriColl` has it: -1, 0 or 1 if the first is less, equal
-/// or greater. Takes no memory.
+/// Returns the order of both texts without case, as `StriColl` has it: -1, 0 or 1 if the first is
+/// less, equal or greater. Does not allocate.
 #[unsafe(no_mangle)]
 pub extern "C" fn nard_units_order_ignore_case(first: &[u16], second: &[u16]) -> i32
     ensures { result
@@ -35,8 +36,8 @@ pub extern "C" fn nard_units_order_ignore_case(first: &[u16], second: &[u16]) ->
     order_number(cmp_ignore_case(until_nul(first), until_nul(second)))
 }
 
-/// Whether the text of the pattern matches the whole text of the units, as `MetaiMatch` does. Takes no
-/// memory.
+/// Returns whether the text of the pattern matches the whole text of the units, as `MetaiMatch`
+/// does. Does not allocate.
 #[unsafe(no_mangle)]
 pub extern "C" fn nard_units_matches(units: &[u16], pattern: &[u16]) -> bool
     ensures { IsTrue result ↔ Matches (text_until_nul pattern.now) (text_until_nul units.now) }
@@ -44,8 +45,8 @@ pub extern "C" fn nard_units_matches(units: &[u16], pattern: &[u16]) -> bool
     matches(until_nul(units), until_nul(pattern))
 }
 
-/// Puts the text in upper case, as `StrUpr` does, and returns its length. What follows it is unchanged.
-/// Takes no memory.
+/// Puts the text in upper case, as `StrUpr` does, and returns its length. The rest of the buffer is
+/// unchanged. Does not allocate.
 #[unsafe(no_mangle)]
 pub extern "C" fn nard_units_make_uppercase(buffer: &mut [u16]) -> usize
     ensures length { result ≡ length (text_until_nul buffer.old) }
@@ -57,8 +58,8 @@ pub extern "C" fn nard_units_make_uppercase(buffer: &mut [u16]) -> usize
     len
 }
 
-/// Puts the text in lower case, as `StrLwr` does, and returns its length. What follows it is unchanged.
-/// Takes no memory.
+/// Puts the text in lower case, as `StrLwr` does, and returns its length. The rest of the buffer is
+/// unchanged. Does not allocate.
 #[unsafe(no_mangle)]
 pub extern "C" fn nard_units_make_lowercase(buffer: &mut [u16]) -> usize
     ensures length { result ≡ length (text_until_nul buffer.old) }
@@ -73,8 +74,8 @@ pub extern "C" fn nard_units_make_lowercase(buffer: &mut [u16]) -> usize
 /// Writes the text to the start of `bytes` in the characters of short names, as `StrToFat` and
 /// `units_to_fat` do: `OK`, or `CHAR_REPLACED` if one of them is `_` in place of another unit.
 ///
-/// `place` becomes how many bytes are written. What follows them is unchanged, and no NUL is written.
-/// Takes no memory.
+/// `place` becomes how many bytes are written. What follows them is unchanged, and no NUL is
+/// written. Does not allocate.
 #[unsafe(no_mangle)]
 pub extern "C" fn nard_fat_from_units(units: &[u16], bytes: &mut [u8], place: &mut usize) -> u32
     ensures { ShowsFat (text_until_nul units.now) bytes.old result place.new bytes.new }

@@ -17,8 +17,8 @@ use crate::reasons::{BUFFER_TOO_SMALL, INTERIOR_NUL, INVALID_CHAR, OK};
 use uefi_text::decode::write_lossy;
 use uefi_text::{CStr16, EqStrUntilNul, is_latin1, text_len};
 
-/// Why a text is no string, or `OK`; and the number of characters before the first that no string can
-/// have, or of all characters if there is none. Characters are decoded only to find that first one.
+/// The reason why a text is not a string, or `OK`; and the number of characters before the first that no
+/// string can have, or of all characters if there is none. Decodes characters only to find that first one.
 fn judge_text(text: &str) -> (u32, usize)
     ensures reason { result.0 ≡ character_reason (find is_deciding_char (chars text.now)) }
     ensures place { result.1 ≡ position_or_len is_deciding_char (chars text.now) }
@@ -39,11 +39,12 @@ fn judge_text(text: &str) -> (u32, usize)
 
 /// Writes a text in UTF-8 as a string to the start of a buffer.
 ///
-/// Bytes that are not UTF-8 are `NOT_UTF8`, and `place` becomes how many bytes before the fault are. Then
-/// a text is refused for its first character that is NUL or above U+FFFF, as `INTERIOR_NUL` or
-/// `INVALID_CHAR`, and `place` becomes how many characters are before it. Else `place` becomes the length
-/// of the text, and a buffer of no more places is `BUFFER_TOO_SMALL`. Refused, the buffer stays
-/// unchanged; what is after the NUL stays. Takes no memory.
+/// Bytes that are not UTF-8 are `NOT_UTF8`, and `place` becomes how many bytes before the fault
+/// are. Then a text is refused for its first character that is NUL or above U+FFFF, as
+/// `INTERIOR_NUL` or `INVALID_CHAR`, and `place` becomes how many characters are before it.
+/// Otherwise `place` becomes the length of the text, and a buffer with at most that many places is
+/// refused as `BUFFER_TOO_SMALL`. If the call refuses, the buffer is unchanged. Units after the NUL
+/// are never changed. Does not allocate.
 #[unsafe(no_mangle)]
 pub extern "C" fn nard_string_from_utf8(bytes: &[u8], buffer: &mut [u16], place: &mut usize) -> u32
     ensures shows { Shows (string_of_utf8 bytes.now) place.old buffer.old result place.new buffer.new }
@@ -79,9 +80,9 @@ fn write_judged(text: &str, buffer: &mut [u16]) -> u32
     }
 }
 
-/// Whether the units begin with a string, the bytes are UTF-8, and the two count as equal up to the first
-/// NUL: the string's text, or what the bytes encode before their first NUL, is a prefix of the other of
-/// these. Takes no memory.
+/// Returns whether the units begin with a string, the bytes are UTF-8, and the two count as equal
+/// up to the first NUL: the string's text, or what the bytes encode before their first NUL, is a
+/// prefix of the other of these. Does not allocate.
 #[unsafe(no_mangle)]
 pub extern "C" fn nard_string_equal_until_nul(units: &[u16], bytes: &[u8]) -> bool
     ensures { IsTrue result ↔ (BeginsWithString units.now × IsUtf8 bytes.now
@@ -96,7 +97,8 @@ pub extern "C" fn nard_string_equal_until_nul(units: &[u16], bytes: &[u8]) -> bo
     }
 }
 
-/// Whether the bytes are UTF-8, and each character that they encode is one of Latin-1. Takes no memory.
+/// Returns whether the bytes are UTF-8, and each character that they encode is Latin-1. Does not
+/// allocate.
 #[unsafe(no_mangle)]
 pub extern "C" fn nard_utf8_is_latin1(bytes: &[u8]) -> bool
     ensures { IsTrue result ↔ (IsUtf8 bytes.now × IsLatin1 (chars bytes.now)) }
@@ -110,10 +112,10 @@ pub extern "C" fn nard_utf8_is_latin1(bytes: &[u8]) -> bool
 /// Writes the text of the string that units begin with, in UTF-8 and with a NUL, into the first
 /// places of `bytes`.
 ///
-/// Units that begin with no string are refused as by `nard_string_until_nul`, with its `place`. Else
-/// `place` becomes how many bytes the text has, or at most `usize::MAX - 1`, and bytes with no more
-/// places than these are `BUFFER_TOO_SMALL`. Refused, the bytes stay unchanged; what stands after the NUL
-/// stays. Takes no memory.
+/// Units that do not begin with a string are refused as by `nard_string_until_nul`, with its
+/// `place`. Otherwise `place` becomes the number of bytes of the text, or at most `usize::MAX - 1`,
+/// and bytes with no more places than these are `BUFFER_TOO_SMALL`. Refused, the bytes stay
+/// unchanged; what stands after the NUL stays. Does not allocate.
 #[unsafe(no_mangle)]
 pub extern "C" fn nard_utf8_from_string(units: &[u16], bytes: &mut [u8], place: &mut usize) -> u32
     ensures { Shows (when_read (read_string units.now) (λ text. Text (encode_utf8_all text)))

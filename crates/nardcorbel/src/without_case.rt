@@ -18,9 +18,9 @@ use uefi_path::Path;
 use uefi_text::CStr16;
 use uefi_text::case::{make_lowercase, make_uppercase};
 
-/// Puts the text of the string that units begin with in upper case, as `StrUpr` does. Units that begin
-/// with no string are refused as by `nard_string_until_nul`, whose `place` is reported, and stay
-/// unchanged; what follows the text stays. Takes no memory.
+/// Puts the text of the string that units begin with in upper case, as `StrUpr` does. Units that do
+/// not begin with a string are refused as by `nard_string_until_nul`, whose `place` is reported,
+/// and stay unchanged; what follows the text stays. Does not allocate.
 #[unsafe(no_mangle)]
 pub extern "C" fn nard_string_make_uppercase(buffer: &mut [u16], place: &mut usize) -> u32
     ensures shows { ShowsNumber (when_read (read_string buffer.old) (λ text. Number (length text)))
@@ -52,7 +52,8 @@ pub extern "C" fn nard_string_make_lowercase(buffer: &mut [u16], place: &mut usi
     OK
 }
 
-/// Whether both begin with a string, and have the same text without case. Takes no memory.
+/// Returns whether both begin with a string, and have the same text without case. Does not
+/// allocate.
 #[unsafe(no_mangle)]
 pub extern "C" fn nard_string_equal_ignore_case(first: &[u16], second: &[u16]) -> bool
     ensures { IsTrue result ↔ (BeginsWithString first.now × BeginsWithString second.now
@@ -67,9 +68,9 @@ pub extern "C" fn nard_string_equal_ignore_case(first: &[u16], second: &[u16]) -
     first.eq_ignore_case(second)
 }
 
-/// The order of two strings without case, which is that of their units in upper case: -1, 0 or 1 where
-/// the first is less, equal or greater, and `NO_ORDER` where one of them does not begin with a string.
-/// Takes no memory.
+/// Returns the order of two strings without case, by their units in upper case: -1, 0 or 1 if the
+/// first is less, equal or greater, and `NO_ORDER` if one of them does not begin with a string.
+/// Does not allocate.
 #[unsafe(no_mangle)]
 pub extern "C" fn nard_string_order_ignore_case(first: &[u16], second: &[u16]) -> i32
     ensures order { BeginsWithString first.now → BeginsWithString second.now
@@ -85,9 +86,9 @@ pub extern "C" fn nard_string_order_ignore_case(first: &[u16], second: &[u16]) -
     order_number(first.cmp_ignore_case(second))
 }
 
-/// Whether both begin with a string, and the pattern matches the whole text of the other, without case.
-/// For p units of the pattern's text and t of the other, `CountedReader::matches` reads fewer than (p +
-/// 1) * (t + 1) units of each. Takes no memory.
+/// Returns whether both begin with a string, and the pattern matches the whole text of the other,
+/// without case. For p units of the pattern's text and t of the other, `CountedReader::matches`
+/// reads fewer than (p + 1) * (t + 1) units of each. Does not allocate.
 #[unsafe(no_mangle)]
 pub extern "C" fn nard_string_matches(units: &[u16], pattern: &[u16]) -> bool
     ensures { IsTrue result ↔ (BeginsWithString units.now × BeginsWithString pattern.now
@@ -102,8 +103,8 @@ pub extern "C" fn nard_string_matches(units: &[u16], pattern: &[u16]) -> bool
     string.matches(pattern)
 }
 
-/// Whether both begin with a string, and the paths of these are equal without case: one leading separator
-/// says nothing. Takes no memory.
+/// Returns whether both begin with a string, and the paths of these are equal without case: one
+/// leading separator makes no difference. Does not allocate.
 #[unsafe(no_mangle)]
 pub extern "C" fn nard_path_equal_ignore_case(first: &[u16], second: &[u16]) -> bool
     ensures { IsTrue result ↔ (BeginsWithString first.now × BeginsWithString second.now
@@ -118,8 +119,8 @@ pub extern "C" fn nard_path_equal_ignore_case(first: &[u16], second: &[u16]) -> 
     Path::new(first).eq_ignore_case(Path::new(second))
 }
 
-/// Whether both begin with a string, and each component of the pattern matches the component of the path at
-/// the same place, of which both have as many. Takes no memory.
+/// Returns whether both begin with a string, and each component of the pattern matches the
+/// component of the path at the same place, of which both have as many. Does not allocate.
 #[unsafe(no_mangle)]
 pub extern "C" fn nard_path_matches(path: &[u16], pattern: &[u16]) -> bool
     ensures { IsTrue result ↔ (BeginsWithString path.now × BeginsWithString pattern.now

@@ -372,7 +372,7 @@ impl Shown {
         Ok(Some(offset))
     }
 
-    /// Adds what is well in bytes that are no load option, and then what is malformed.
+    /// Adds what is well in bytes that are not a load option, and then what is malformed.
     fn add_parts(&mut self, alloc: Global, parts: LoadOptionParts<'_>) -> fmt::Result {
         if let Some(attributes) = parts.attributes() {
             self.set_attributes(attributes);
@@ -408,8 +408,7 @@ impl Shown {
         Ok(())
     }
 
-    /// What an entry says, up to the most bytes that a variable has; or an error where memory was
-    /// refused.
+    /// What an entry says, up to the most bytes that a variable has; or an error if memory ran out.
     pub(crate) fn of_entry(alloc: Global, bytes: &[u8]) -> Result<Shown, fmt::Error> {
         if MOST_BYTES < bytes.len() {
             let reason = "the entry is longer than a variable";

@@ -34,7 +34,7 @@ fn attributes_of(bytes: &[u8]) -> Result<u32, LoadOptionError>
     }
 }
 
-/// The plan that makes an entry active or not.
+/// Returns the plan that makes an entry active or not.
 ///
 /// Returns `MalformedEntry` if its bytes are not a load option, and then `OutOfMemory` if memory runs
 /// out.
@@ -81,7 +81,7 @@ fn described(
     }
 }
 
-/// The plan that gives an entry another description.
+/// Returns the plan that gives an entry another description.
 ///
 /// Fails as [`set_active`] does.
 pub fn rename(

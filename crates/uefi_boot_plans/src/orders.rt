@@ -12,7 +12,7 @@ use uefi_boot_variables::order_edits;
 use uefi_text::UnalignedSlice;
 use uefi_text::scan::split;
 
-/// The bytes of numbers, two for each and the low one first.
+/// The bytes of numbers, two for each and the low byte first.
 fn bytes_of(alloc: Global, numbers: &[u16]) -> Result<Vec<u8>, AllocError>
     ensures { IfOk result (λ bytes. bytes.items ≡ unit_bytes numbers.now) }
 {
@@ -34,7 +34,7 @@ fn numbers_of(alloc: Global, order: &[u8]) -> Result<Vec<u16>, PlanError>
     }
 }
 
-/// The least number that is not used.
+/// Returns the least number that is not used.
 pub fn free_number(used: &[u16]) -> Option<u16>
     ensures free { IfSome result (λ number. Contains used.now number → ⊥) }
     ensures least { IfSome result (λ number. (less : ℕ) → less < number → Contains used.now less) }
@@ -99,8 +99,8 @@ fn order_step(alloc: Global, numbers: &[u16]) -> Result<Step, AllocError>
     Ok(Step::write(Variable::Order, bytes_of(alloc, numbers)?))
 }
 
-/// The plan that adds an entry, in front of the others: first the entry is written, and then the order
-/// that names it.
+/// Returns the plan that adds an entry, in front of the others: first the entry is written, and
+/// then the order that names it.
 ///
 /// Returns `MalformedOrder` if the order has an odd number of bytes, and then `OutOfMemory` if memory
 /// runs out.
@@ -123,7 +123,7 @@ pub fn create(
     Ok(plan)
 }
 
-/// The plan that moves an entry to the front of the order, or puts it there.
+/// Returns the plan that moves an entry to the front of the order, or puts it there.
 ///
 /// Fails as [`create`] does.
 pub fn first(alloc: Global, order: &[u8], number: u16) -> Result<Vec<Step>, PlanError>
@@ -137,9 +137,9 @@ pub fn first(alloc: Global, order: &[u8], number: u16) -> Result<Vec<Step>, Plan
     Ok(Step::write(Variable::Order, order).alone(alloc)?)
 }
 
-/// The plan that deletes an entry: first the order without it is written, or deleted if no number
-/// is left, if the entry stands in the order; then `BootNext` is deleted, if it names the entry;
-/// then the entry is deleted.
+/// Returns the plan that deletes an entry: first the order without it is written, or deleted if no
+/// number is left, if the entry stands in the order; then `BootNext` is deleted, if it names the
+/// entry; then the entry is deleted.
 ///
 /// Fails as [`create`] does.
 pub fn delete(
@@ -164,14 +164,14 @@ pub fn delete(
     Ok(plan)
 }
 
-/// The plan that makes numbers the order.
+/// Returns the plan that makes numbers the order.
 pub fn order(alloc: Global, numbers: &[u16]) -> Result<Vec<Step>, AllocError>
     ensures { IfOk result (λ plan. changes_of plan.items ≡ ordered numbers.now ∷ []) }
 {
     order_step(alloc, numbers)?.alone(alloc)
 }
 
-/// The plan that makes an entry the one that the machine boots once.
+/// Returns the plan that makes an entry the one that the machine boots once.
 pub fn next(alloc: Global, number: u16) -> Result<Vec<Step>, AllocError>
     ensures { IfOk result (λ plan. changes_of plan.items
         ≡ written Variable.Next (unit_bytes (number ∷ [])) ∷ []) }
@@ -179,14 +179,14 @@ pub fn next(alloc: Global, number: u16) -> Result<Vec<Step>, AllocError>
     Step::write(Variable::Next, bytes_of(alloc, &[number])?).alone(alloc)
 }
 
-/// The plan that makes the machine boot by its order.
+/// Returns the plan that makes the machine boot by its order.
 pub fn clear_next(alloc: Global) -> Result<Vec<Step>, AllocError>
     ensures { IfOk result (λ plan. changes_of plan.items ≡ deleted Variable.Next ∷ []) }
 {
     Step::delete(Variable::Next).alone(alloc)
 }
 
-/// The plan that makes the firmware wait for a number of seconds before it boots.
+/// Returns the plan that makes the firmware wait for a number of seconds before it boots.
 pub fn timeout(alloc: Global, seconds: u16) -> Result<Vec<Step>, AllocError>
     ensures { IfOk result (λ plan. changes_of plan.items
         ≡ written Variable.Timeout (unit_bytes (seconds ∷ [])) ∷ []) }

@@ -96,7 +96,7 @@ impl Step {
         }
     }
 
-    /// The plan of one step.
+    /// Returns the plan of one step.
     pub fn alone(self, alloc: Global) -> Result<Vec<Step>, AllocError>
         ensures { IfOk result (λ plan. plan.items ≡ self ∷ []) }
     {

@@ -2,32 +2,33 @@
 use Rattle.std.specs.Prelude.{ℕ, Bool, true, ◌&&◌, ◌==◌, not, if◌then◌else◌, List, [], ◌∷◌, ◌++◌, drop, filter, insert, length}
 use Rattle.std.specs.List.{list_any}
 
--- the test whether a number stands in a list
+-- the test whether a list contains a number
 abbrev pub stands_in : ℕ → List ℕ → Bool
 stands_in number numbers = list_any (λ other. other == number) numbers
 
--- a list without a number, wherever it stands; the others keep their order
+-- a list without any occurrence of a number; the others keep their order
 abbrev pub without : ℕ → List ℕ → List ℕ
 without number numbers = filter (λ other. not (other == number)) numbers
 
--- a list with each number where it stands first, and nowhere else
+-- a list that keeps only the first occurrence of each number
 abbrev pub once_each : List ℕ → List ℕ
 once_each [] = []
 once_each (number ∷ numbers) = number ∷ without number (once_each numbers)
 
--- the test that no number stands twice
+-- the test that no number occurs twice
 abbrev pub no_twice : List ℕ → Bool
 no_twice [] = true
 no_twice (number ∷ numbers) = not (stands_in number numbers) && no_twice numbers
 
--- a list with a number at a place among the others, which keep their order; a place beyond the end is the end
+-- a list with a number inserted at an index among the others, which keep their order; an index
+-- beyond the end is the end
 abbrev pub with_at : ℕ → ℕ → List ℕ → List ℕ
 with_at place number numbers = insert (without number numbers) place number
 
--- a list with a number that stands in it moved to the front, or as it is where the number does not
+-- a list with a number moved to the front, or unchanged if it does not contain the number
 abbrev pub with_front : ℕ → List ℕ → List ℕ
 with_front number numbers = if stands_in number numbers then number ∷ without number numbers else numbers
 
--- places whose first ones hold numbers, and whose others hold what they held
+-- places that begin with these numbers, and keep their content after them
 abbrev pub over : List ℕ → List ℕ → List ℕ
 over numbers places = numbers ++ drop (length numbers) places

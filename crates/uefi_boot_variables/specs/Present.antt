@@ -14,10 +14,10 @@ bytes_for number (variable ∷ variables) =
 abbrev pub option_of : List (ℕ × Bor (List ℕ)) → ℕ → Option (ℕ × List ℕ)
 option_of variables number = option_map (λ bytes. (number, bytes)) (bytes_for number variables)
 
--- the numbers whose variables are there, with their bytes, in order
+-- the numbers whose variables exist, with their bytes, in order
 abbrev pub present_options : List (ℕ × Bor (List ℕ)) → List ℕ → List (ℕ × List ℕ)
 present_options variables numbers = filter_map (option_of variables) numbers
 
--- a number and the bytes that go with it
+-- a number and its bytes
 abbrev pub shown : ℕ × Bor (List ℕ) → ℕ × List ℕ
 shown item = (item.0, item.1.now)

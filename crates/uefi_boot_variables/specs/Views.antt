@@ -11,22 +11,22 @@ use Rattle.uefi_boot_variables.specs.declared.order_buffer.OrderBuffer.{OrderBuf
 unfoldable pub numbers_of : LoadOrder → List ℕ
 numbers_of order = items_of order.numbers
 
--- the numbers of an order that is edited in memory of the caller
+-- the numbers of an order that is edited in the caller's memory
 unfoldable pub numbers_in : OrderBuffer → List ℕ
 numbers_in buffer = take buffer.len buffer.places.now
 
--- what all places of that memory hold
+-- the content of all places of the caller's memory
 unfoldable pub order_places : OrderBuffer → List ℕ
 order_places buffer = buffer.places.now
 
--- how many numbers that memory has room for
+-- the number of places in the caller's memory
 abbrev pub room_of : OrderBuffer → ℕ
 room_of buffer = length (order_places buffer)
 
--- the slice that is that memory
+-- the slice that the caller gave
 unfoldable pub memory_of : OrderBuffer → GName
 memory_of buffer = buffer.places.ghost_name
 
--- the options whose variables are there that are still to come
+-- the remaining options whose variables exist
 unfoldable pub options_left : PresentOptions → List (ℕ × List ℕ)
 options_left options = present_options options.variables.now (items_left options.order)

@@ -10,8 +10,8 @@ pub fn names_once()
     ensures texts { NamesAreTexts }
 {}
 
-/// What the tests say by which contracts of edits speak: that a number stands in a list, and that no
-/// number of a list stands twice.
+/// What the tests say by which contracts of edits speak: that a number stands in a list, and that
+/// no number of a list occurs twice.
 pub fn order_tests()
     ensures stands { StandsIsContains }
     ensures apart { NoTwiceIsApart }

@@ -1,4 +1,4 @@
-//! Orders that are edited in memory of the caller.
+//! Orders that are edited in the caller's memory.
 //!
 //! The memory is a slice of numbers, as firmware keeps an order once it has read it: `SetVariable` takes
 //! the address of these numbers, and twice their count as the size. Where bytes are wanted instead,
@@ -12,7 +12,7 @@ ghost use Rattle.uefi_text.specs.UnitBytes.{unit_bytes};
 use crate::order_edits::{OrderFull, copy, insert, move_to_front, put, remove};
 use crate::orders::LoadOrder;
 
-/// An order in memory of the caller, in which no number stands twice. No call allocates memory.
+/// An order in the caller's memory, in which no number occurs twice. No call allocates memory.
 ///
 /// A contract sees the list of its numbers (`numbers_in`), and what all places of the caller's memory hold
 /// (`order_places`): the numbers come first, and no call changes the places after them. Once the order is no
@@ -76,7 +76,7 @@ impl<'a> OrderBuffer<'a> {
         Ok(())
     }
 
-    /// The numbers in order.
+    /// Returns the numbers in order.
     pub fn as_slice(&self) -> &[u16]
         ensures numbers { result.now ≡ numbers_in self.now }
         ensures once { no_twice result.now ≡ true }
@@ -84,21 +84,21 @@ impl<'a> OrderBuffer<'a> {
         &self.places[..self.len]
     }
 
-    /// How many numbers there are.
+    /// Returns how many numbers there are.
     pub fn len(&self) -> usize
         ensures { result ≡ length (numbers_in self.now) }
     {
         self.len
     }
 
-    /// Whether there are no numbers.
+    /// Returns whether there are no numbers.
     pub fn is_empty(&self) -> bool
         ensures { IsTrue result ↔ (numbers_in self.now ≡ []) }
     {
         self.len == 0
     }
 
-    /// Whether a number stands in the order.
+    /// Returns whether a number stands in the order.
     pub fn contains(&self, number: u16) -> bool
         ensures { result ≡ stands_in number (numbers_in self.now) }
     {
@@ -119,7 +119,7 @@ impl<'a> OrderBuffer<'a> {
         self.len += 1;
     }
 
-    /// Puts a number at the end, unless it stands in the order already. Refused exactly where it does
+    /// Puts a number at the end, unless it stands in the order already. Refused exactly if it does
     /// not, and there is no room; the order is then unchanged.
     ///
     /// ```rust
@@ -170,9 +170,9 @@ impl<'a> OrderBuffer<'a> {
         stood
     }
 
-    /// Puts a number at a place among the others, which keep their order: where it stands in the order
-    /// already, it moves. A place beyond the end is the end. Refused exactly where the number does not
-    /// stand in the order, and there is no room; the order is then unchanged.
+    /// Puts a number at a place among the others, which keep their order: where it stands in the
+    /// order already, it moves. A place beyond the end is the end. Refused exactly if the number
+    /// does not stand in the order, and there is no room; the order is then unchanged.
     ///
     /// ```rust
     /// let mut places = [0; 3];
@@ -219,9 +219,9 @@ impl<'a> OrderBuffer<'a> {
         stood
     }
 
-    /// Writes the bytes of the variable, two for each number and the low one first, at the start of a
-    /// buffer, and returns their count. Refused exactly where the buffer has fewer places; it is then
-    /// unchanged. What follows the bytes is unchanged.
+    /// Writes the bytes of the variable, two for each number and the low byte first, at the start
+    /// of a buffer, and returns their count. Refused exactly if the buffer has fewer places; it is
+    /// then unchanged. What follows the bytes is unchanged.
     ///
     /// ```rust
     /// let mut places = [0; 4];
@@ -246,7 +246,7 @@ impl<'a> OrderBuffer<'a> {
     }
 }
 
-/// Writes numbers, two bytes for each and the low one first.
+/// Writes numbers, two bytes for each and the low byte first.
 fn put_bytes(numbers: &[u16], dest: &mut [u8])
     requires { length dest.old ≡ 2 * length numbers.now }
     ensures { dest.new ≡ unit_bytes numbers.now }

@@ -1,8 +1,8 @@
 //! Edits of an order that lies in the first places of a slice.
 //!
-//! `len` says how many numbers the order has; where there are fewer places, it has as many as
-//! these. A number may stand twice in such an order, and no edit leaves the number that it is about
-//! there twice. The places after the order are unchanged. No call takes memory.
+//! `len` says how many numbers the order has; if there are fewer places, it has as many as these. A
+//! number may stand twice in such an order, and no edit leaves the number that it is about there
+//! twice. The places after the order are unchanged. No call allocates.
 #![tactic(auto)]
 
 ghost use Rattle.std.specs.Prelude.{◌≡◌, ◌+◌, ◌-◌, ◌<◌, ◌≤◌, ◌↔◌, false, insert, length, take, IfOk, IsErr, OnErr, OnOk, Some};
@@ -28,7 +28,7 @@ impl Printed for OrderFull {
     }
 }
 
-/// Prints the same.
+/// Prints the same text.
 impl fmt::Display for OrderFull {
     ghost output = { λ _. Some order_full_text };
 
@@ -39,7 +39,7 @@ impl fmt::Display for OrderFull {
 
 impl Error for OrderFull {}
 
-/// Whether a number stands in an order.
+/// Returns whether a number stands in an order.
 ///
 /// ```rust
 /// assert!(rt; order_edits::contains(&[3, 0, 9], 2, 0));
@@ -98,8 +98,8 @@ pub(crate) fn put(places: &mut [u16], len: usize, place: usize, number: u16)
 
 /// Puts a number at a place among the others, which keep their order, and returns how many numbers
 /// there are then: where it stands in the order already, it moves. A place beyond the end is the
-/// end. Refused exactly where the number does not stand in the order, and there is no room; the
-/// places are then unchanged.
+/// end. Refused exactly if the number does not stand in the order, and there is no room; the places
+/// are then unchanged.
 ///
 /// ```rust
 /// let mut places = [3, 0, 1, 9];

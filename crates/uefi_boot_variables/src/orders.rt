@@ -30,7 +30,7 @@ impl Printed for OddLength {
     }
 }
 
-/// Prints the same.
+/// Prints the same text.
 impl fmt::Display for OddLength {
     ghost output = { λ _. Some odd_length_text };
 
@@ -54,7 +54,7 @@ impl Printed for NotTwoBytes {
     }
 }
 
-/// Prints the same.
+/// Prints the same text.
 impl fmt::Display for NotTwoBytes {
     ghost output = { λ error. Some (not_two_bytes_text error) };
 
@@ -65,8 +65,8 @@ impl fmt::Display for NotTwoBytes {
 
 impl Error for NotTwoBytes {}
 
-/// The number that the two bytes of `BootNext` or `BootCurrent` are, the low one first. Refused exactly
-/// where there are fewer or more than two. Takes no memory.
+/// Reads the number in the two bytes of `BootNext` or `BootCurrent`, the low byte first. Refused
+/// exactly if there are fewer or more than two. Does not allocate.
 ///
 /// ```rust
 /// assert_eq!(rt; read_number(&[0x1f, 0x02]), Ok(0x21f));
@@ -84,7 +84,7 @@ pub fn read_number(bytes: &[u8]) -> Result<u16, NotTwoBytes>
 }
 
 /// An order: numbers of load options that lie in the bytes of a variable, wherever these begin. A
-/// contract sees it as `numbers_of` it. No call takes memory.
+/// contract sees it as `numbers_of` it. No call allocates.
 ///
 /// ```rust
 /// let order = LoadOrder::from_bytes(&[3, 0, 0, 0, 0x1f, 0])?;
@@ -99,8 +99,8 @@ pub struct LoadOrder<'a> {
 }
 
 impl<'a> LoadOrder<'a> {
-    /// The order that the bytes of a variable are, two for each number and the low one first. Refused
-    /// exactly where the bytes are odd in number.
+    /// Reads the order in the bytes of a variable, two for each number, the low byte first. Refused
+    /// exactly if the number of bytes is odd.
     ///
     /// ```rust
     /// assert_eq!(rt; LoadOrder::from_bytes(&[3, 0, 1, 0])?.get(1), Some(1));
@@ -117,28 +117,28 @@ impl<'a> LoadOrder<'a> {
         }
     }
 
-    /// How many numbers there are; one that stands twice counts twice.
+    /// Returns how many numbers there are; a number that occurs twice counts twice.
     pub fn len(&self) -> usize
         ensures { result ≡ length (numbers_of self.now) }
     {
         self.numbers.len()
     }
 
-    /// Whether there are no numbers.
+    /// Returns whether there are no numbers.
     pub fn is_empty(&self) -> bool
         ensures { IsTrue result ↔ (numbers_of self.now ≡ []) }
     {
         self.numbers.is_empty()
     }
 
-    /// The number at a place, or `None` from the length on.
+    /// Returns the number at a place, or `None` from the length on.
     pub fn get(&self, place: usize) -> Option<u16>
         ensures { result ≡ slice_get (numbers_of self.now) place }
     {
         self.numbers.get(place)
     }
 
-    /// The number at a place where there is one.
+    /// The number at a place if there is one.
     pub(crate) fn number(&self, place: usize) -> u16
         requires { place < length (numbers_of self.now) }
         ensures { result ≡ slice_index (numbers_of self.now) place }
@@ -146,7 +146,7 @@ impl<'a> LoadOrder<'a> {
         self.numbers.get(place).unwrap()
     }
 
-    /// The numbers in order, and then `None` for ever.
+    /// Returns the numbers in order, and then `None` for ever.
     pub fn iter(&self) -> UnalignedSliceIter<'a, u16>
         ensures same { items_left result ≡ numbers_of self.now }
         ensures bound { length (items_left result) < 2 ^ 64 }
@@ -155,7 +155,7 @@ impl<'a> LoadOrder<'a> {
         self.numbers.iter()
     }
 
-    /// The first place of a number, or `None` where it does not stand in the order.
+    /// Returns the first place of a number, or `None` if it does not stand in the order.
     pub fn position(&self, number: u16) -> Option<usize>
         ensures { result ≡ position (λ other. other == number) (numbers_of self.now) }
     {
@@ -193,7 +193,7 @@ impl<'a> LoadOrder<'a> {
         count
     }
 
-    /// Whether a number stands in the order.
+    /// Returns whether a number stands in the order.
     pub fn contains(&self, number: u16) -> bool
         ensures { IsTrue result ↔ Contains (numbers_of self.now) number }
     {

@@ -23,8 +23,8 @@ fn bytes_for<'a>(variables: &'a [(u16, &'a [u8])], number: u16) -> Option<&'a [u
     None
 }
 
-/// The options of an order whose variables are there, in its order: the number and the bytes of each. A
-/// contract sees it as `options_left` of it: what is still to come. It takes no memory.
+/// The options of an order whose variables are there, in its order: the number and the bytes of
+/// each. A contract sees it as `options_left` of it: what remains. It does not allocate.
 #[derive(Drop)]
 pub struct PresentOptions<'a> {
     order: UnalignedSliceIter<'a, u16>,
@@ -32,9 +32,9 @@ pub struct PresentOptions<'a> {
 }
 
 impl<'a> LoadOrder<'a> {
-    /// The options whose variables are among those that are given as number and bytes: for each number of
-    /// the order, in order, the first variable with this number, and nothing where there is none. A number
-    /// that stands twice in the order comes twice. Each step looks through the variables.
+    /// Returns the options of the order whose variables exist. For each number of the order, in
+    /// order, it gives the first of the given variables with this number, if there is one. A number
+    /// that occurs twice is given twice. Each step searches the variables.
     ///
     /// ```rust
     /// let order = LoadOrder::from_bytes(&[2, 0, 7, 0, 1, 0])?;

@@ -188,7 +188,7 @@ fn put_name(word: &str, number: u16, places: &mut [u16])
 }
 
 impl LoadOptionKind {
-    /// The word that the names of its options begin with.
+    /// Returns the word that the names of its options begin with.
     ///
     /// ```rust
     /// assert_eq!(rt; LoadOptionKind::Driver.word(), "Driver");
@@ -207,9 +207,9 @@ impl LoadOptionKind {
 }
 
 impl LoadOptionName {
-    /// The name that a Rust text is, from its first character to its last. `None` exactly where it is no
-    /// name: digits in lower case, fewer or more than four, and other words in another case are none.
-    /// Takes no memory.
+    /// Reads a whole Rust text as a name. Returns `None` exactly if it is not a name, for example
+    /// with lower-case digits, fewer or more than four digits, or a word in another case. Does not
+    /// allocate.
     ///
     /// ```rust
     /// let name = LoadOptionName { kind: LoadOptionKind::Boot, number: 0x1f };
@@ -224,7 +224,8 @@ impl LoadOptionName {
         read_name(text.as_bytes())
     }
 
-    /// The name that a string is, as [`LoadOptionName::from_text`] reads one. Takes no memory.
+    /// Returns the name that a string is, as [`LoadOptionName::from_text`] reads one. Does not
+    /// allocate.
     ///
     /// ```rust
     /// let text = CString16::try_from_str(rt.alloc(), "SysPrep000A")?;
@@ -240,10 +241,10 @@ impl LoadOptionName {
         read_name(string.to_u16_slice())
     }
 
-    /// Writes the name as a string to the start of a buffer, and returns its length without the NUL. What
-    /// follows the NUL is unchanged.
+    /// Writes the name as a string to the start of a buffer, and returns its length without the
+    /// NUL. The rest of the buffer is unchanged.
     ///
-    /// Fails only if the buffer is too small, and then leaves it unchanged. Takes no memory.
+    /// Fails only if the buffer is too small, and then leaves it unchanged. Does not allocate.
     ///
     /// ```rust
     /// let name = LoadOptionName { kind: LoadOptionKind::Boot, number: 0x1f };

@@ -29,13 +29,14 @@ abbrev pub room_refusal : ℕ → ℕ → Option BuildError → Option BuildErro
 room_refusal len room (Some fault) = Some fault
 room_refusal len room None = if nat_lt room len then Some (BufferTooSmall len) else None
 
--- why a node is not added to a path of these nodes in a buffer of `room` bytes, or none: what is wrong
--- with the node comes first
+-- why a node cannot be added to a path of these nodes in a buffer of `room` bytes, or none: a fault
+-- of the node comes first
 abbrev pub push_refusal : List Node → Node → ℕ → Option BuildError
 push_refusal nodes node room =
     room_refusal (length (path_bytes nodes) + node_length node) room (build_refusal node)
 
--- why the nodes of another path are not added to a path of these nodes in a buffer of `room` bytes, or none
+-- why the nodes of another path cannot be added to a path of these nodes in a buffer of `room`
+-- bytes, or none
 abbrev pub append_refusal : List Node → List Node → ℕ → Option BuildError
 append_refusal nodes others room = room_refusal (length (path_bytes (nodes ++ others))) room None
 
@@ -48,7 +49,8 @@ grow_refusal (Some error) = Some (Build error)
 abbrev pub path_length : List Node → ℕ
 path_length nodes = min (length (path_bytes nodes)) (2 ^ 64 - 1)
 
--- why the nodes that a text has are not added to a path of these nodes in a buffer of `room` bytes, or none
+-- why the nodes of a text cannot be added to a path of these nodes in a buffer of `room` bytes, or
+-- none
 abbrev pub text_refusal : List Node → List Node → ℕ → Option PushTextError
 text_refusal nodes told room =
     if nat_lt room (path_length (nodes ++ told))

@@ -23,11 +23,11 @@ use Rattle.uefi_device_path.specs.declared.errors.OptionBuildError.TheVariants a
 use Rattle.uefi_device_path.specs.declared.path_reader.PathTextError.{PathTextError}
 use Rattle.uefi_device_path.specs.declared.path_reader.PathTextError.TheVariants as read
 
--- what is printed of the refusal of a device path
+-- the text of an error for a refused device path
 abbrev pub device_path_error_text : DevicePathError → List ℕ
 device_path_error_text error = node_error_text error.cause ++ codes " at offset " ++ decimal error.offset
 
--- what is printed of what is wrong with a load option
+-- the text of a fault of a load option
 abbrev pub load_option_cause_text : LoadOptionCause → List ℕ
 load_option_cause_text option.TooShort = codes "the load option ends before its description"
 load_option_cause_text option.DescriptionWithoutEnd = codes "no NUL ends the description"
@@ -36,12 +36,12 @@ load_option_cause_text option.ListBeyondEnd =
 load_option_cause_text option.EmptyList = codes "the file path list is empty"
 load_option_cause_text (option.FilePathList cause) = node_error_text cause
 
--- what is printed of the refusal of a load option
+-- the text of an error for a refused load option
 abbrev pub load_option_error_text : LoadOptionError → List ℕ
 load_option_error_text error =
     load_option_cause_text error.cause ++ codes " at offset " ++ decimal error.offset
 
--- what is printed where a node is not added to a device path
+-- the text of an error for a node that is not added to a device path
 abbrev pub build_error_text : BuildError → List ℕ
 build_error_text build.EndNode = codes "an end node may not stand before the end of a device path"
 build_error_text build.NodeTooLong = codes "the node is longer than its header can state"
@@ -49,22 +49,22 @@ build_error_text (build.BufferTooSmall needed) =
     codes "buffer too small: the device path needs " ++ decimal needed ++ codes " bytes"
 build_error_text build.OutOfMemory = codes "out of memory"
 
--- what is printed where nothing is added to the path that a buffer begins with
+-- the text of an error if nothing is added to the path that a buffer begins with
 abbrev pub grow_error_text : GrowError → List ℕ
 grow_error_text (grow.Path error) = device_path_error_text error
 grow_error_text (grow.Build error) = build_error_text error
 
--- what is printed where a node has no name
+-- the text of an error for a node without a name
 abbrev pub file_path_cause_text : FilePathCause → List ℕ
 file_path_cause_text file.HalfUnit = codes "file path: odd number of bytes"
 file_path_cause_text (file.Text error) = codes "file path: " ++ from_slice_with_nul_error_text error
 file_path_cause_text file.OutOfMemory = codes "out of memory"
 
--- what is printed where nodes have no file path
+-- the text of an error for nodes without a file path
 abbrev pub file_path_error_text : FilePathError → List ℕ
 file_path_error_text error = file_path_cause_text error.cause ++ codes " at offset " ++ decimal error.offset
 
--- what is printed where a load option is not written
+-- the text of an error for a load option that is not written
 abbrev pub option_build_error_text : OptionBuildError → List ℕ
 option_build_error_text (written.NulInDescription place) =
     codes "description: interior null character at index " ++ decimal place
@@ -76,18 +76,18 @@ option_build_error_text (written.BufferTooSmall needed) =
     codes "buffer too small: the load option needs " ++ decimal needed ++ codes " bytes"
 option_build_error_text written.OutOfMemory = codes "out of memory"
 
--- what is printed where a file path is not written into a buffer
+-- the text of an error for a file path that is not written into a buffer
 abbrev pub file_path_write_error_text : FilePathWriteError → List ℕ
 file_path_write_error_text (in_buffer.Name error) = file_path_error_text error
 file_path_write_error_text (in_buffer.BufferTooSmall needed) =
     codes "buffer too small: the file path needs " ++ decimal needed ++ codes " units"
 
--- the text of the reason why a text is no path
+-- the text of an error for a text that is not a path
 abbrev pub path_text_error_text : PathTextError → List ℕ
 path_text_error_text (read.NoNode place) = codes "no node at offset " ++ decimal place
 path_text_error_text read.OutOfMemory = codes "out of memory"
 
--- what is printed where the nodes of a text are not added to the path that a buffer begins with
+-- the text of an error if the nodes of a text are not added to the path that a buffer begins with
 abbrev pub push_text_error_text : PushTextError → List ℕ
 push_text_error_text (push_text.Path error) = device_path_error_text error
 push_text_error_text (push_text.NoNode place) = path_text_error_text (read.NoNode place)

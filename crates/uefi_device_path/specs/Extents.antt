@@ -13,7 +13,7 @@ use Rattle.uefi_device_path.specs.declared.extent.PathExtent.TheVariants.{Whole,
 abbrev pub begun_length : List ℕ → ℕ
 begun_length bytes = if nat_lt (length bytes) 4 then 4 else stated_length bytes
 
--- the test for a cause that more bytes may take away: a node that is not all there
+-- the test for a fault that more bytes may remove: a node that is not complete
 abbrev pub is_cut_short : NodeError → Bool
 is_cut_short Missing = true
 is_cut_short TruncatedHeader = true
@@ -33,7 +33,7 @@ pub record IsCut (bytes : List ℕ) (cut : PathCut) : Type 0 where
   pub least : (after : List ℕ) (nodes : List Node) → BeginWithPath (bytes ++ after) nodes
       → cut.needed ≤ length (path_bytes nodes)
 
--- bytes go so far: they begin with a path of this length, or end before it does
+-- the bytes begin with a path of this length, or end before such a path does
 abbrev pub HasExtent : List ℕ → PathExtent → Type 0
 HasExtent bytes (Whole len) =
     (nodes : List Node) × BeginWithPath bytes nodes × (len ≡ length (path_bytes nodes))
@@ -43,7 +43,7 @@ HasExtent bytes (Cut cut) = IsCut bytes cut
 abbrev pub BeginNoPath : List ℕ → Type 0
 BeginNoPath bytes = (after : List ℕ) (nodes : List Node) → BeginWithPath (bytes ++ after) nodes → ⊥
 
--- where that ends: with the path, or with the bytes that there have to be
+-- the end of the extent: the end of the path, or of the bytes that it needs
 abbrev pub extent_end : PathExtent → ℕ
 extent_end (Whole len) = len
 extent_end (Cut cut) = cut.needed

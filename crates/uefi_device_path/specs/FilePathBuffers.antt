@@ -13,7 +13,8 @@ pub record IsWritten (path : List ℕ) (written : Written) (old buffer : List �
   pub sunk : AreSunk path old buffer written.len
   pub missing : written.is_missing ≡ needs_separator path
 
--- nodes have no file path that is written into `room` places, for this error: a malformed name comes first
+-- no file path of these nodes is written into `room` places, for this error: a malformed name comes
+-- first
 abbrev pub WriteRefusedFor : List Node → ℕ → FilePathWriteError → Type 0
 WriteRefusedFor nodes room (Name error) = FileRefusedFor nodes error
 WriteRefusedFor nodes room (BufferTooSmall needed) =

@@ -10,17 +10,17 @@ use Rattle.uefi_device_path.specs.declared.lenient_errors.PushLenientTextError.{
 use Rattle.uefi_device_path.specs.declared.lenient_errors.PushLenientTextError.TheVariants as push
 use Rattle.uefi_device_path.specs.declared.lenient_errors.TextFault.{TextFault}
 
--- what is printed of the place where no node is read
+-- the text of an error for the place where no node is read
 abbrev pub text_fault_text : TextFault → List ℕ
 text_fault_text fault = codes "no node at offset " ++ decimal fault.node ++ codes ": expected "
     ++ expected_text fault.expected ++ codes " at offset " ++ decimal fault.byte
 
--- what is printed where a text is no path
+-- the text of an error for a text that is not a path
 abbrev pub lenient_text_error_text : LenientTextError → List ℕ
 lenient_text_error_text (read.NoNode fault) = text_fault_text fault
 lenient_text_error_text read.OutOfMemory = codes "out of memory"
 
--- what is printed where the nodes of a text are not added to the path that a buffer begins with
+-- the text of an error if the nodes of a text are not added to the path that a buffer begins with
 abbrev pub push_lenient_text_error_text : PushLenientTextError → List ℕ
 push_lenient_text_error_text (push.Path error) = device_path_error_text error
 push_lenient_text_error_text (push.ScratchTooSmall needed) =

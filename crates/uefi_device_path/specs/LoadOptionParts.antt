@@ -56,6 +56,6 @@ AreWellBefore bytes parts (FilePathList cause) =
     (description : List ℕ) × (rest : List ℕ) × HasHead bytes parts description rest
     × BreaksAfter (take (stated_list_length bytes) rest) parts.paths parts.nodes cause
 
--- the parts are what is well in bytes before their first fault
+-- the parts are the well-formed parts of bytes before their first fault
 abbrev pub AreWell : List ℕ → Parts → Type 0
 AreWell bytes parts = AreWellBefore bytes parts parts.error.cause

@@ -11,8 +11,8 @@ use Rattle.uefi_device_path.specs.declared.errors.LoadOptionCause.{LoadOptionCau
 use Rattle.uefi_device_path.specs.declared.errors.LoadOptionCause.TheVariants.{TooShort, DescriptionWithoutEnd, ListBeyondEnd, EmptyList, FilePathList}
 use Rattle.uefi_device_path.specs.declared.errors.LoadOptionError.{LoadOptionError}
 
--- what a load option says: its attributes, the units of its description, its device paths, and what
--- follows them
+-- the content of a load option: its attributes, the units of its description, its device paths, and
+-- the optional data
 pub record Entry : Type 0 where
   pub attributes : ℕ
   pub description : List ℕ
@@ -29,7 +29,7 @@ entry_with attributes units list optional = record {
   optional = optional;
 }
 
--- a load option has a description without NUL, and a device path or more
+-- a load option has a description without NUL, and at least one device path
 pub record IsEntry (entry : Entry) : Type 0 where
   pub no_nul : All (λ unit. unit ≢ 0) entry.description
   pub are_paths : ArePaths entry.paths
@@ -48,8 +48,8 @@ entry_bytes entry =
     four_bytes entry.attributes ++ (two_bytes (length (list_bytes entry.paths))
     ++ (unit_bytes (nul_terminated entry.description) ++ (list_bytes entry.paths ++ entry.optional)))
 
--- what units are in UTF-8: each pair of surrogates is one character, and U+FFFD stands for each surrogate
--- that has no partner
+-- units in UTF-8: each pair of surrogates is one character, and U+FFFD stands for each surrogate
+-- without a partner
 abbrev pub lossy_utf8 : List ℕ → List ℕ
 lossy_utf8 units = encode_utf8_all (utf16_lossy_chars units)
 
@@ -87,11 +87,12 @@ IsWrong bytes (FilePathList cause) offset = (description : List ℕ) × (rest : 
     × (inside : DevicePathError)
     × RefusesPaths bytes description rest (record { cause = cause; offset = offset }) inside
 
--- bytes are no load option, for this error
+-- the bytes are not a load option, for this error
 abbrev pub EntryRefusedFor : List ℕ → LoadOptionError → Type 0
 EntryRefusedFor bytes error = IsWrong bytes error.cause error.offset
 
--- what reading the load option that bytes are gives: it, which is the only one, or the only refusal
+-- the result of reading bytes as a load option: the only load option that they are, or the only
+-- refusal
 abbrev pub GivesOption : {O : Type 0} → (O → Entry) → List ℕ → Result O LoadOptionError → Type 0
 GivesOption entry_of bytes result =
     IfOk result (λ option. IsEntry (entry_of option) × (bytes ≡ entry_bytes (entry_of option)))

@@ -16,17 +16,17 @@ fields_fault_at entry None =
     else if nat_lt 0xffffffffffffffff (length (entry_bytes entry)) then Some TooLong
     else None
 
--- why fields are no load option that can be written: the first of these that holds, or none
+-- why fields cannot be written as a load option, or none: the first fault that holds
 abbrev pub fields_fault : Entry → Option OptionBuildError
 fields_fault entry = fields_fault_at entry (position is_nul entry.description)
 
--- why these bytes are not written into this room: what is wrong with the fields comes first
+-- why these bytes are not written into this room: a fault of the fields comes first
 abbrev pub room_fault : List ℕ → ℕ → Option OptionBuildError → Option OptionBuildError
 room_fault bytes room (Some error) = Some error
 room_fault bytes room None = if nat_lt room (length bytes) then Some (BufferTooSmall (length bytes)) else None
 
--- why a load option is not written to a buffer of `room` bytes, or none: what is wrong with its fields comes
--- first
+-- why a load option is not written to a buffer of `room` bytes, or none: a fault of its fields
+-- comes first
 abbrev pub write_fault : Entry → ℕ → Option OptionBuildError
 write_fault entry room = room_fault (entry_bytes entry) room (fields_fault entry)
 
@@ -35,6 +35,6 @@ abbrev pub written_where : List ℕ → List ℕ → Option OptionBuildError →
 written_where bytes buffer (Some error) = buffer
 written_where bytes buffer None = with_prefix bytes buffer
 
--- what a buffer holds then: it begins with the load option, or is unchanged
+-- the buffer afterwards: it begins with the load option, or is unchanged
 abbrev pub option_over : Entry → List ℕ → List ℕ
 option_over entry buffer = written_where (entry_bytes entry) buffer (fields_fault entry)

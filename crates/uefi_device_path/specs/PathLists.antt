@@ -12,7 +12,7 @@ use Rattle.uefi_device_nodes.specs.declared.errors.NodeError.{NodeError}
 abbrev pub list_bytes : List (List Node) → List ℕ
 list_bytes paths = flat_map path_bytes paths
 
--- the nodes of each are such as may stand before its end
+-- device paths whose nodes may all stand before an end
 abbrev pub ArePaths : List (List Node) → Type 0
 ArePaths paths = All (All IsInner) paths
 
@@ -40,7 +40,7 @@ pub record ArePacked (bytes : List ℕ) : Type 0 where
   pub are_paths : ArePaths (paths_in bytes)
   pub join : bytes ≡ list_bytes (paths_in bytes)
 
--- bytes are one device path or more, and nothing else
+-- the bytes are one or more device paths, and nothing else
 pub record IsPathList (bytes : List ℕ) : Type 0 where
   pub packed : ArePacked bytes
   pub some : paths_in bytes ≢ []
@@ -54,7 +54,7 @@ pub record RefusesList (bytes : List ℕ) (error : DevicePathError) (paths : Lis
   pub cause : error.cause ≡ inside.cause
   pub offset : error.offset ≡ length (list_bytes paths) + inside.offset
 
--- bytes are refused as device paths for this error
+-- the bytes are refused as device paths for this error
 abbrev pub ListRefusedFor : List ℕ → DevicePathError → Type 0
 ListRefusedFor bytes error =
     (paths : List (List Node)) × (rest : List ℕ) × (inside : DevicePathError)

@@ -15,7 +15,7 @@ use Rattle.uefi_node_reader.specs.NamedFiles.{IsTold, is_after_node}
 abbrev pub end_instance : Node
 end_instance = node_with 0x7f 0x01 []
 
--- nodes whose texts hold all that they hold, and ends of instances
+-- nodes whose texts determine all of their bytes, and nodes that end an instance
 abbrev pub AreTold : List Node → Type 0
 AreTold nodes = All (λ node. IsTold node ⊎ (node ≡ end_instance)) nodes
 
@@ -53,21 +53,22 @@ pub record Stops (text : List ℕ) (place : ℕ) (nodes : List Node) (rest : Lis
   pub not_empty : starts_instance (last_or None nodes) ≡ true → is_after_instance rest ≡ false
   pub offset : place ≡ length (text_before nodes)
 
--- the place where a text stops being that of nodes of which the text tells all
+-- the place where a text stops being the text of nodes whose bytes it determines
 abbrev pub StopsAt : List ℕ → ℕ → Type 0
 StopsAt text place = (nodes : List Node) × (rest : List ℕ) × Stops text place nodes rest
 
--- a text is that of a path of which it tells all
+-- a text determines all bytes of a path, and is the path's text
 abbrev pub HasPath : List ℕ → Type 0
 HasPath text = (nodes : List Node) × AreTold nodes × (nodes_text false false nodes ≡ text)
 
--- why no path was read: memory was refused for that of this text, or the text stops being that of one
+-- why no path was read: memory ran out for the path of this text, or the text stops being the text
+-- of a path
 abbrev pub IsReadError : List ℕ → PathTextError → Type 0
 IsReadError text OutOfMemory = HasPath text
 IsReadError text (NoNode place) = StopsAt text place
 
--- why the nodes of a text are not added to the path that a buffer begins with: there is no path, the text
--- stops being that of one, or there is no room for it
+-- why the nodes of a text are not added to the path that a buffer begins with: there is no path,
+-- the text stops being the text of a path, or there is no room for it
 abbrev pub IsPushTextError : List ℕ → List ℕ → PushTextError → Type 0
 IsPushTextError buffer text (push_text.Path error) = RefusedFor buffer error
 IsPushTextError buffer text (push_text.NoNode place) = StopsAt text place

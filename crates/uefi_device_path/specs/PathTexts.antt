@@ -12,7 +12,7 @@ use Rattle.uefi_device_path.specs.declared.path_text.Form.TheVariants.{Specified
 unfoldable pub instance_text : Bool → Bool → List Node → List ℕ
 instance_text display_only shortcuts nodes = join_by (node_text display_only shortcuts) (codes "/") nodes
 
--- a path: the texts of its instances, with a comma between each two
+-- the text of a path: the texts of its instances, with a comma between each two
 unfoldable pub nodes_text : Bool → Bool → List Node → List ℕ
 nodes_text display_only shortcuts nodes =
     join_by (instance_text display_only shortcuts) (codes ",") (instances nodes)

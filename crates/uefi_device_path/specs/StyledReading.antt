@@ -123,7 +123,7 @@ pub record Holds (old : List ℕ) (nodes : List Node) (new : List ℕ) (end : �
   pub same : length new ≡ length old
   pub rest : drop end new ≡ drop end old
 
--- what comes back is what a text is read as, or its fault, unless memory was refused
+-- the result is the path that a text is read as, or the text's fault, unless memory ran out
 abbrev pub GivesText : Result (List Node) LenientTextError → Result (List Node) TextFault → Type 0
 GivesText (Ok path) read = read ≡ Ok path
 GivesText (Err (NoNode fault)) read = read ≡ Err fault
@@ -142,19 +142,19 @@ extent_by style text (Err fault) =
     if is_end fault.expected && is_ok (path_read style (take fault.byte text))
     then Ok fault.byte else Err fault
 
--- how many bytes of a text are the path that it begins with, or why it begins with none
+-- the number of bytes of the path at the start of a text, or why the text begins with none
 unfoldable pub text_extent : TextStyle → List ℕ → Result ℕ TextFault
 text_extent style text = extent_by style text (path_read style text)
 
--- what comes back is how far the path of a text goes, or its fault, unless memory was refused
+-- the result is the length of the path at the start of a text, or its fault, unless memory ran out
 abbrev pub GivesExtent : Result ℕ LenientTextError → Result ℕ TextFault → Type 0
 GivesExtent (Ok end) read = read ≡ Ok end
 GivesExtent (Err (NoNode fault)) read = read ≡ Err fault
 GivesExtent (Err OutOfMemory) read = Unit {0}
 
--- why the nodes that a text is read as are not added to the path that a buffer begins with: there is no
--- path, the second buffer is not longer than the text that is copied, the text has this fault, or there
--- is no room for them
+-- why the nodes of a text are not added to the path that a buffer begins with: there is no path,
+-- the second buffer is not longer than the copied text, the text has this fault, or there is no
+-- room for the nodes
 abbrev pub IsPushLenientError : TextStyle → List ℕ → List ℕ → PushLenientTextError → Type 0
 IsPushLenientError style buffer text (push.Path error) = RefusedFor buffer error
 IsPushLenientError style buffer text (push.ScratchTooSmall needed) =
@@ -169,7 +169,7 @@ text_error (push.ScratchTooSmall needed) = push_text.BufferTooSmall needed
 text_error (push.NoNode fault) = push_text.NoNode fault.node
 text_error (push.BufferTooSmall needed) = push_text.BufferTooSmall needed
 
--- why the nodes that a text is read as are not added to a path of these nodes in a buffer of `room` bytes, or
+-- why the nodes of a text cannot be added to a path of these nodes in a buffer of `room` bytes, or
 -- none
 abbrev pub lenient_refusal : List Node → List Node → ℕ → Option PushLenientTextError
 lenient_refusal nodes read room =

@@ -23,8 +23,8 @@ pub use uefi_device_nodes::{
 use uefi_device_nodes::{DeviceSubType, DeviceType};
 use uefi_path::Path;
 
-/// A device path in memory of its own, which grows. A contract sees it as the list of its nodes, without
-/// the one that ends it.
+/// A device path in its own memory, which grows. A contract sees it as the list of its nodes,
+/// without the one that ends it.
 #[derive(Drop)]
 pub struct DevicePathBuf<A: Allocator = Global> {
     bytes: Vec<u8, A>,
@@ -42,7 +42,7 @@ impl<A: Allocator> Model for DevicePathBuf<A> {
     ghost invariant = { λ path. IsPath path.bytes.items };
 }
 
-/// This many bytes, which begin with the device path without nodes. One request for memory.
+/// This many bytes, which begin with the device path without nodes. One allocation.
 pub(crate) fn empty_path<A: Allocator>(alloc: A, len: usize) -> Result<Vec<u8, A>, AllocError>
     requires { 4 ≤ len }
     ensures begins { IfOk result (λ bytes. take 4 bytes.items ≡ node_bytes end_entire) }
@@ -113,7 +113,7 @@ pub(crate) fn node_header<N: BuildNode>(node: &N) -> [u8; 4]
 }
 
 impl<A: Allocator> DevicePathBuf<A> {
-    /// The device path without nodes, or `AllocError`. One request for memory.
+    /// Returns the device path without nodes, or `AllocError`. One allocation.
     ///
     /// ```rust
     /// let path = DevicePathBuf::new(rt.alloc())?;
@@ -135,9 +135,10 @@ impl<A: Allocator> DevicePathBuf<A> {
         DevicePathBuf { bytes }
     }
 
-    /// Adds a node before the end: one that was built, or that another path has. Refused as `EndNode` for a
-    /// node of type End that does not end an instance, as `NodeTooLong` for more than 65,531 bytes of data,
-    /// and then as `OutOfMemory`; the path is then unchanged. Takes memory where it has no room.
+    /// Adds a node before the end: a built node, or a node of another path. Fails with `EndNode`
+    /// for a node of type End that does not end an instance, with `NodeTooLong` for more than
+    /// 65,531 bytes of data, and then with `OutOfMemory`; the path is then unchanged. Allocates if
+    /// the path has no room.
     ///
     /// ```rust
     /// let mut path = DevicePathBuf::new(rt.alloc())?;
@@ -214,8 +215,8 @@ impl<A: Allocator> DevicePathBuf<A> {
         })
     }
 
-    /// Adds all nodes of another path before the end, as EDK II's `AppendDevicePath` does. Fails with
-    /// `OutOfMemory` alone; the path is then unchanged. Allocates where it has no room, once.
+    /// Adds all nodes of another path before the end, as EDK II's `AppendDevicePath` does. Fails
+    /// only with `OutOfMemory`; the path is then unchanged. Allocates where it has no room, once.
     ///
     /// ```rust
     /// let mut path = DevicePathBuf::from_text(rt.alloc(), "PciRoot(0x0)")?;
@@ -237,7 +238,7 @@ impl<A: Allocator> DevicePathBuf<A> {
         Ok(())
     }
 
-    /// The path, borrowed.
+    /// Returns the path, borrowed.
     ///
     /// See [`DevicePathBuf::new`].
     pub fn as_device_path(&self) -> DevicePath<'_>

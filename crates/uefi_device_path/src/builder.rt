@@ -28,8 +28,8 @@ pub struct DevicePathBuilder<'a> {
 impl<'a> DevicePathBuilder<'a> {
     ghost use Rattle.uefi_device_path.specs.Views.{builder_nodes, builder_room, nodes_of};
 
-    /// The device path without nodes, at the start of a buffer. Refused as `BufferTooSmall` where the
-    /// buffer has no four bytes for its end; the buffer is then unchanged. Takes no memory.
+    /// Returns the device path without nodes, at the start of a buffer. Fails with `BufferTooSmall`
+    /// if the buffer has fewer than four bytes; the buffer is then unchanged. Does not allocate.
     ///
     /// ```rust
     /// let mut buffer = [0; 4];
@@ -54,10 +54,10 @@ impl<'a> DevicePathBuilder<'a> {
         })
     }
 
-    /// Adds a node before the end: one that was built, or that another path has. Refused as `EndNode` for a
-    /// node of type End that does not end an instance, as `NodeTooLong` for more than 65,531 bytes of data,
-    /// and then as `BufferTooSmall`, with the count of bytes that the path then needs; the path is then
-    /// unchanged. Takes no memory.
+    /// Adds a node before the end: a built node, or a node of another path. Fails with `EndNode`
+    /// for a node of type End that does not end an instance, with `NodeTooLong` for more than
+    /// 65,531 bytes of data, and then with `BufferTooSmall` and the number of bytes that the path
+    /// needs; the path is then unchanged. Does not allocate.
     ///
     /// ```rust
     /// let mut buffer = [0; 10];
@@ -136,8 +136,9 @@ impl<'a> DevicePathBuilder<'a> {
         })
     }
 
-    /// Adds all nodes of another path before the end. Fails with `BufferTooSmall` and the count of bytes that
-    /// the path then needs, if the buffer has fewer; the path is then unchanged. Allocates nothing.
+    /// Adds all nodes of another path before the end. Fails with `BufferTooSmall` and the number of
+    /// bytes that the path then needs, if the buffer has fewer; the path is then unchanged.
+    /// Allocates nothing.
     ///
     /// ```rust
     /// let card = DevicePathBuf::from_text(rt.alloc(), "SD(0x1)")?;
@@ -163,7 +164,7 @@ impl<'a> DevicePathBuilder<'a> {
         }
     }
 
-    /// The path, borrowed from the builder.
+    /// Returns the path, borrowed from the builder.
     ///
     /// See [`DevicePathBuilder::with_buf`].
     pub fn as_device_path(&self) -> DevicePath<'_>
@@ -172,7 +173,7 @@ impl<'a> DevicePathBuilder<'a> {
         DevicePath::of_path(&self.buffer[..self.len])
     }
 
-    /// The path, borrowed from the buffer.
+    /// Returns the path, borrowed from the buffer.
     ///
     /// See [`DevicePathBuilder::push_node`].
     pub fn finalize(self) -> DevicePath<'a>

@@ -28,8 +28,8 @@ enum Progress {
 }
 
 /// The nodes of the device path that bytes begin with, each tested as it comes. A contract sees it
-/// as `checked_left` of it, what is still to come; as `checked_bytes` of it, all of the bytes; and
-/// as `rest_of` it, the bytes after the path once its end was reached.
+/// as `checked_left` of it, what remains; as `checked_bytes` of it, all of the bytes; and as
+/// `rest_of` it, the bytes after the path once its end was reached.
 #[derive(Drop)]
 pub struct CheckedNodes<'a> {
     bytes: &'a [u8],

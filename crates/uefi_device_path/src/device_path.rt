@@ -85,8 +85,8 @@ impl<'a> DevicePath<'a> {
         }
     }
 
-    /// The device path that bytes begin with, and the bytes after it, where they begin with one: no header is
-    /// tested again.
+    /// The device path that bytes begin with, and the bytes after it, if they begin with one: no
+    /// header is tested again.
     pub(crate) fn take_first(bytes: &'a [u8]) -> (Self, &'a [u8])
         requires { (nodes : List Node) × BeginWithPath bytes.now nodes }
         ensures { BeginWith bytes.now (nodes_of result.0) (node_bytes end_entire ++ result.1.now) }
@@ -104,9 +104,9 @@ impl<'a> DevicePath<'a> {
         }
     }
 
-    /// The device path that bytes begin with, and the bytes after it. Refused for the first node that is
-    /// none: for what is wrong with it first in the order of its bytes, at the offset of those bytes.
-    /// Takes no memory.
+    /// Returns the device path that bytes begin with, and the bytes after it. Fails on the first
+    /// malformed node, with its first fault in the order of its bytes and the offset of these
+    /// bytes. Does not allocate.
     ///
     /// ```rust
     /// let bytes = [1, 1, 6, 0, 2, 0x1f, 0x7f, 0xff, 4, 0, 9];
@@ -133,8 +133,8 @@ impl<'a> DevicePath<'a> {
         }
     }
 
-    /// The device path that bytes begin with, whatever follows it. Refused as
-    /// [`DevicePath::split_first`] refuses them.
+    /// Returns the device path that bytes begin with, whatever follows it. Fails as
+    /// [`DevicePath::split_first`] does.
     ///
     /// ```rust
     /// let bytes = [1, 1, 6, 0, 2, 0x1f, 0x7f, 0xff, 4, 0];
@@ -158,7 +158,7 @@ impl<'a> DevicePath<'a> {
         }
     }
 
-    /// All bytes of the path, those of the node that ends it among them.
+    /// All bytes of the path, its end node included.
     ///
     /// ```rust
     /// let path = DevicePath::from_bytes(&[0x7f, 0xff, 4, 0, 9, 9])?;
@@ -171,7 +171,7 @@ impl<'a> DevicePath<'a> {
         self.bytes
     }
 
-    /// The nodes of the path in order, without the one that ends it.
+    /// Returns the nodes of the path in order, without the one that ends it.
     ///
     /// ```rust
     /// let path = DevicePathBuf::from_text(rt.alloc(), "PciRoot(0x0)/Pci(0x1F,0x2)")?;
@@ -189,12 +189,13 @@ impl<'a> DevicePath<'a> {
         DevicePathNodeIterator::of(&self.bytes[..self.bytes.len() - 4])
     }
 
-    /// Joins the names of all nodes that name files, of all instances: one separator stands between two
-    /// names, also where both bring one, and each slash is replaced (UEFI Specification 2.10, section
+    /// Joins the names of all nodes that name files, in all instances. One separator joins two
+    /// names, even if both bring one, and each slash is replaced (UEFI Specification 2.10, section
     /// 10.3.5.4).
     ///
-    /// All names are looked at first: the first node whose data is no string is refused. Then the call
-    /// allocates once for the text, and once for the places of its separators if it has any.
+    /// The call checks all names first, and fails on the first node whose data is not a string.
+    /// Then it allocates once for the text, and once more for the places of its separators, if
+    /// there are any.
     ///
     /// ```rust
     /// let path = DevicePathBuf::from_text(rt.alloc(), r"SD(0x1)/\efi\boot/\a.efi")?;
@@ -212,11 +213,11 @@ impl<'a> DevicePath<'a> {
         file_path_in(alloc, &self.bytes[..self.bytes.len() - 4])
     }
 
-    /// Writes the file path, which [`DevicePath::file_path`] makes, to the start of a buffer, with a NUL
-    /// after it, and returns its length without the NUL. What follows the NUL is unchanged.
+    /// Writes the file path, which [`DevicePath::file_path`] makes, to the start of a buffer, with
+    /// a NUL, and returns its length without the NUL. The rest of the buffer is unchanged.
     ///
-    /// Fails with `Name` if that call refuses a name, for the same node, or else if the buffer is too
-    /// small. The buffer is then unchanged. Takes no memory.
+    /// Fails with `Name` if that call refuses a name, for the same node, or else if the buffer is
+    /// too small. The buffer is then unchanged. Does not allocate.
     ///
     /// ```rust
     /// let path = DevicePathBuf::from_text(rt.alloc(), r"SD(0x1)/\a\b")?;
@@ -240,8 +241,8 @@ impl<'a> DevicePath<'a> {
         write_file_path_in(&self.bytes[..self.bytes.len() - 4], buffer)
     }
 
-    /// The file path, written to the start of a buffer and borrowed from there as a string.
-    /// Fails as [`DevicePath::write_file_path`] does.
+    /// Writes the file path to the start of a buffer, and borrows it from there as a string. Fails
+    /// as [`DevicePath::write_file_path`] does.
     ///
     /// ```rust
     /// let path = DevicePathBuf::from_text(rt.alloc(), r"SD(0x1)/\efi\a.efi")?;
@@ -262,9 +263,10 @@ impl<'a> DevicePath<'a> {
         }
     }
 
-    /// What is printed of the path, for a `{}` of a format (UEFI Specification 2.10, section 10.6.1):
-    /// the texts of its nodes, which [`DevicePathNode::display`] gives, with a slash between each two
-    /// of an instance, and a comma between each two instances. Takes no memory.
+    /// Returns a value that prints the path, for a `{}` of a format (UEFI Specification 2.10,
+    /// section 10.6.1): the texts of its nodes, which [`DevicePathNode::display`] gives, with a
+    /// slash between each two of an instance, and a comma between each two instances. Does not
+    /// allocate.
     ///
     /// ```rust
     /// let path = DevicePathBuf::from_text(rt.alloc(), "CDROM(0x1,0x2D,0x800)")?;
@@ -287,12 +289,12 @@ impl<'a> DevicePath<'a> {
         )
     }
 
-    /// Writes what is printed of the path, which [`DevicePath::display`] gives, to the start of a buffer
-    /// as UTF-16, with a NUL after it, and returns its length without the NUL. What follows the NUL is
-    /// unchanged.
+    /// Writes what is printed of the path, which [`DevicePath::display`] gives, to the start of a
+    /// buffer as UTF-16, with a NUL, and returns its length without the NUL. The rest of the buffer
+    /// is unchanged.
     ///
-    /// Fails only if the buffer is too small, and then leaves it unchanged. Makes the text twice: once to
-    /// count its units, and once to write them. Takes no memory.
+    /// Fails only if the buffer is too small, and then leaves it unchanged. Makes the text twice:
+    /// once to count its units, and once to write them. Does not allocate.
     ///
     /// ```rust
     /// let path = DevicePathBuf::from_text(rt.alloc(), "SD(0x1)")?;
@@ -316,8 +318,8 @@ impl<'a> DevicePath<'a> {
         write_units(buffer, &self.display(display_only, allow_shortcuts))
     }
 
-    /// The same text, written to the start of a buffer and borrowed from there with its NUL.
-    /// Fails as [`DevicePath::write_text`] does.
+    /// Writes this text to the start of a buffer, and borrows it from there with its NUL. Fails as
+    /// [`DevicePath::write_text`] does.
     ///
     /// ```rust
     /// let path = DevicePathBuf::from_text(rt.alloc(), "SD(0x1)")?;
@@ -343,9 +345,9 @@ impl<'a> DevicePath<'a> {
         Ok(&buf[..len + 1])
     }
 
-    /// What libefivar prints of the path, and efibootmgr with it, for a `{}` of a format: the text that
-    /// [`DevicePath::display`] gives, but with `File(..)` around the name of a file, and with the numbers of
-    /// a partition in lower case after its kind. Takes no memory.
+    /// Returns a value that prints the path as libefivar and efibootmgr do, for a `{}` of a format:
+    /// the text that [`DevicePath::display`] gives, but with `File(..)` around the name of a file,
+    /// and with the numbers of a partition in lower case after its kind. Does not allocate.
     ///
     /// ```rust
     /// let path = DevicePathBuf::from_text(rt.alloc(), r"HD(1,MBR,0x000000AB,0x3F,0xC8)/\a.efi")?;
@@ -375,7 +377,8 @@ impl<'a> DevicePath<'a> {
         write_units(buffer, &self.display_libefivar())
     }
 
-    /// The instances of the path, in order: what stands between the nodes that end one.
+    /// Returns the instances of the path, in order: the parts between the nodes that end an
+    /// instance.
     ///
     /// ```rust
     /// let path = DevicePathBuf::from_text(rt.alloc(), "Uart(9600,8,N,1),SD(0x1)/Unit(0x2)")?;

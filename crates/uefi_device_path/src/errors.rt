@@ -1,4 +1,4 @@
-//! Why bytes are no device path and no load option, and why a node is not added.
+//! Why bytes are not a device path and no load option, and why a node is not added.
 #![tactic(auto, using(uefi_text::proofs::Puts::puts))]
 
 ghost use Rattle.uefi_device_path.specs.ErrorTexts.{device_path_error_text, file_path_cause_text, file_path_error_text, file_path_write_error_text, load_option_cause_text, load_option_error_text, build_error_text, grow_error_text, push_text_error_text, option_build_error_text};
@@ -32,7 +32,7 @@ impl Printed for DevicePathError {
     }
 }
 
-/// Prints the same.
+/// Prints the same text.
 impl fmt::Display for DevicePathError {
     ghost output = { λ error. Some (device_path_error_text error) };
 
@@ -48,9 +48,9 @@ impl Error for DevicePathError {}
 pub enum FilePathCause {
     /// Its data end in half a unit.
     HalfUnit,
-    /// The units of its data are no string.
+    /// The units of its data are not a string.
     Text(FromSliceWithNulError),
-    /// Memory was refused.
+    /// Memory ran out.
     OutOfMemory,
 }
 
@@ -70,7 +70,7 @@ impl Printed for FilePathCause {
     }
 }
 
-/// Prints the same.
+/// Prints the same text.
 impl fmt::Display for FilePathCause {
     ghost output = { λ cause. Some (file_path_cause_text cause) };
 
@@ -101,7 +101,7 @@ impl Printed for FilePathError {
     }
 }
 
-/// Prints the same.
+/// Prints the same text.
 impl fmt::Display for FilePathError {
     ghost output = { λ error. Some (file_path_error_text error) };
 
@@ -140,7 +140,7 @@ impl Printed for FilePathWriteError {
     }
 }
 
-/// Prints the same.
+/// Prints the same text.
 impl fmt::Display for FilePathWriteError {
     ghost output = { λ error. Some (file_path_write_error_text error) };
 
@@ -151,7 +151,7 @@ impl fmt::Display for FilePathWriteError {
 
 impl Error for FilePathWriteError {}
 
-/// What is wrong with bytes that are no load option.
+/// What is wrong with bytes that are not a load option.
 #[derive(Clone, Copy, Debug, PartialEq, Eq)]
 pub enum LoadOptionCause {
     /// There are fewer bytes than the attributes and the length of the list take.
@@ -183,7 +183,7 @@ impl Printed for LoadOptionCause {
     }
 }
 
-/// Prints the same.
+/// Prints the same text.
 impl fmt::Display for LoadOptionCause {
     ghost output = { λ cause. Some (load_option_cause_text cause) };
 
@@ -192,7 +192,7 @@ impl fmt::Display for LoadOptionCause {
     }
 }
 
-/// Why bytes are no load option.
+/// Why bytes are not a load option.
 #[derive(Clone, Copy, Debug, PartialEq, Eq)]
 pub struct LoadOptionError {
     /// What is wrong.
@@ -213,7 +213,7 @@ impl Printed for LoadOptionError {
     }
 }
 
-/// Prints the same.
+/// Prints the same text.
 impl fmt::Display for LoadOptionError {
     ghost output = { λ error. Some (load_option_error_text error) };
 
@@ -235,7 +235,7 @@ pub enum BuildError {
     NodeTooLong,
     /// The buffer has fewer bytes than the path with the node and its end, which has this many.
     BufferTooSmall(usize),
-    /// Memory was refused.
+    /// Memory ran out.
     OutOfMemory,
 }
 
@@ -262,7 +262,7 @@ impl Printed for BuildError {
     }
 }
 
-/// Prints the same.
+/// Prints the same text.
 impl fmt::Display for BuildError {
     ghost output = { λ error. Some (build_error_text error) };
 
@@ -276,7 +276,7 @@ impl Error for BuildError {}
 /// Why nothing is added to the device path that a buffer begins with.
 #[derive(Clone, Copy, Debug, PartialEq, Eq)]
 pub enum GrowError {
-    /// The buffer begins with no device path.
+    /// The buffer does not begin with a device path.
     Path(DevicePathError),
     /// The nodes may not stand there, or the buffer is too small.
     Build(BuildError),
@@ -294,7 +294,7 @@ impl Printed for GrowError {
     }
 }
 
-/// Prints the same.
+/// Prints the same text.
 impl fmt::Display for GrowError {
     ghost output = { λ error. Some (grow_error_text error) };
 
@@ -308,7 +308,7 @@ impl Error for GrowError {}
 /// Why the nodes of a text are not added to the device path that a buffer begins with.
 #[derive(Clone, Copy, Debug, PartialEq, Eq)]
 pub enum PushTextError {
-    /// The buffer begins with no device path.
+    /// The buffer does not begin with a device path.
     Path(DevicePathError),
     /// A node has to begin at this byte of the text, and none does, as in
     /// [`PathTextError::NoNode`](crate::PathTextError).
@@ -338,7 +338,7 @@ impl Printed for PushTextError {
     }
 }
 
-/// Prints the same.
+/// Prints the same text.
 impl fmt::Display for PushTextError {
     ghost output = { λ error. Some (push_text_error_text error) };
 
@@ -362,7 +362,7 @@ pub enum OptionBuildError {
     TooLong,
     /// The buffer has fewer bytes than the load option, which has this many.
     BufferTooSmall(usize),
-    /// Memory was refused.
+    /// Memory ran out.
     OutOfMemory,
 }
 
@@ -395,7 +395,7 @@ impl Printed for OptionBuildError {
     }
 }
 
-/// Prints the same.
+/// Prints the same text.
 impl fmt::Display for OptionBuildError {
     ghost output = { λ error. Some (option_build_error_text error) };
 

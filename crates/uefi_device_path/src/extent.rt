@@ -15,9 +15,9 @@ use uefi_device_nodes::node::{DevicePathNode, fault_place};
 /// A device path whose bytes end before it does.
 #[derive(Clone, Copy, Debug, PartialEq, Eq)]
 pub struct PathCut {
-    /// How many bytes the whole nodes have that come first: the next node begins there.
+    /// The number of bytes of the whole nodes that come first: the next node begins there.
     pub passed: usize,
-    /// How many bytes there have to be to go on: up to the end of the next node's header, or of the
+    /// The number of bytes needed to continue: up to the end of the next node's header, or of the
     /// node if its header is there.
     pub needed: usize,
 }
@@ -55,10 +55,10 @@ fn is_cut_short(cause: NodeError) -> bool
 impl DevicePath<'_> {
     /// Returns how many bytes the device path has that bytes begin with, or how many there have to be to say.
     ///
-    /// So a caller who has an address and no length gives four bytes first, and then as many as are needed,
-    /// until the path is whole. No device path that begins with the bytes has fewer than that. Bytes with
-    /// which no device path begins, whatever follows them, are refused as by [`DevicePath::from_bytes`].
-    /// Takes no memory (UEFI Specification 2.10, section 10.3.1).
+    /// So a caller who has an address and no length gives four bytes first, and then as many as are
+    /// needed, until the path is whole. No device path that begins with the bytes has fewer than
+    /// that. Bytes with which no device path begins, whatever follows them, are refused as by
+    /// [`DevicePath::from_bytes`]. Does not allocate (UEFI Specification 2.10, section 10.3.1).
     ///
     /// ```rust
     /// let bytes = [1, 1, 6, 0, 0, 0x1f, 0x7f, 0xff, 4, 0, 9];

@@ -1,5 +1,5 @@
-//! The file path of a path: the names of its nodes that name files, one after the other, in memory of
-//! its own or in a caller's buffer.
+//! The file path of a path: the names of its nodes that name files, one after the other, in its own
+//! memory or in a caller's buffer.
 #![tactic(auto)]
 
 ghost use Rattle.std.specs.Prelude.{◌≡◌, ℕ, ◌+◌, ◌<◌, ◌≤◌, ◌^◌, ◌∷◌, ◌++◌, [], ◌&&◌, ◌==◌, List, All, drop, length, if◌then◌else◌, IfOk, IfErr, OnErr, OnOk, Some, true};
@@ -154,8 +154,8 @@ fn put_node(
     }
 }
 
-/// How many units the file path of the nodes has that bytes are. Writes it to the start of a buffer, where
-/// this has room.
+/// The number of units of the file path of the nodes that bytes are. Writes it to the start of a
+/// buffer, where this has room.
 fn put_file_path(buffer: &mut [u16], bytes: &[u8]) -> Result<usize, FilePathError>
     requires { AreNodes bytes.now }
     ensures len { IfOk result (λ len. len ≡ length (file_path (nodes_in bytes.now))) }
@@ -226,7 +226,7 @@ pub(crate) fn write_file_path_in(
     Ok(len)
 }
 
-/// The file path of the nodes that bytes are, which has this many units, in memory of its own.
+/// The file path of the nodes that bytes are, which has this many units, in its own memory.
 fn copy_file_path<A: Allocator + Copy>(
     alloc: A,
     bytes: &[u8],
@@ -249,7 +249,7 @@ fn copy_file_path<A: Allocator + Copy>(
     }
 }
 
-/// The file path of the nodes that bytes are, in memory of its own, which is asked for once each name
+/// The file path of the nodes that bytes are, in its own memory, which is asked for once each name
 /// is known to be one.
 pub(crate) fn file_path_in<A: Allocator + Copy>(
     alloc: A,

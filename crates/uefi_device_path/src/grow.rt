@@ -47,8 +47,8 @@ pub(crate) fn put_at<N: BuildNode>(buffer: &mut [u8], len: usize, node: &N) -> u
     end
 }
 
-/// The same where there is room for the node; else the buffer is unchanged. Returns how many bytes the path
-/// then has or needs, as far as a `usize` counts.
+/// Adds a node in this way if there is room for it; otherwise the buffer is unchanged. Returns how
+/// many bytes the path then has or needs, as far as a `usize` counts.
 pub(crate) fn put_if_room<N: BuildNode>(buffer: &mut [u8], len: usize, node: &N) -> usize
     requires is_path { len ≤ length buffer.now → IsPath (take len buffer.now) }
     requires unrefused { build_refusal (N.node node.now) ≡ None }
@@ -122,7 +122,7 @@ pub(crate) fn append_at(
     Ok(end)
 }
 
-/// How many bytes the path has that a buffer begins with.
+/// The number of bytes of the path that a buffer begins with.
 pub(crate) fn path_len(buffer: &[u8]) -> Result<usize, DevicePathError>
     ensures within { IfOk result (λ len. len ≤ length buffer.now) }
     ensures is_path { IfOk result (λ len. IsPath (take len buffer.now)) }
@@ -139,10 +139,10 @@ pub(crate) fn path_len(buffer: &[u8]) -> Result<usize, DevicePathError>
     }
 }
 
-/// Adds a node before the end of the device path that a buffer begins with, and returns how many bytes the
-/// path then has. What follows it is unchanged.
+/// Adds a node before the end of the device path that a buffer begins with, and returns how many
+/// bytes the path then has. The rest of the buffer is unchanged.
 ///
-/// Fails with `Path` if the buffer begins with no device path, and then as
+/// Fails with `Path` if the buffer does not begin with a device path, and then as
 /// [`DevicePathBuilder::push_node`](crate::DevicePathBuilder::push_node) does; the buffer is then
 /// unchanged. Allocates nothing.
 ///

@@ -17,15 +17,17 @@ use crate::grow_styled_text::push_styled_text_in_buf;
 use crate::lenient_errors::PushLenientTextError;
 use uefi_node_reader::styles::TextStyle;
 
-/// Adds the nodes of a text, as people write it, to the device path that a buffer begins with, before its
-/// end, and returns how many bytes the path then has. What follows it is unchanged.
+/// Adds the nodes of a text, as people write it, to the device path that a buffer begins with,
+/// before its end, and returns how many bytes the path then has. The rest of the buffer is
+/// unchanged.
 ///
-/// The text is read as [`DevicePathBuf::from_lenient_text`](crate::DevicePathBuf) reads it; a comma in it
-/// ends an instance. Copies of its calls and names go into `scratch`, which has to be longer than the
-/// text, and then holds anything. Fails with `Path` if the buffer begins with no device path, then with
-/// `ScratchTooSmall` and the count of bytes that it needs, then with `NoNode` and the first node that
-/// can't be read, its first wrong byte and what has to stand there, and then with `BufferTooSmall` and
-/// the count of bytes that the path then needs; the buffer is then unchanged. Allocates nothing.
+/// The text is read as [`DevicePathBuf::from_lenient_text`](crate::DevicePathBuf) reads it; a comma
+/// in it ends an instance. Copies of its calls and names go into `scratch`, which has to be longer
+/// than the text, and then holds anything. Fails with `Path` if the buffer does not begin with a
+/// device path, then with `ScratchTooSmall` and the number of bytes that it needs, then with
+/// `NoNode` and the first node that can't be read, its first wrong byte and what has to stand
+/// there, and then with `BufferTooSmall` and the number of bytes that the path then needs; the
+/// buffer is then unchanged. Allocates nothing.
 ///
 /// ```rust
 /// let mut buffer = [0x7f, 0xff, 4, 0, 0, 0, 0, 0, 0, 0];
@@ -63,9 +65,9 @@ pub fn push_lenient_text_in_buf(
     push_styled_text_in_buf(TextStyle::Lenient, buffer, text, scratch)
 }
 
-/// Adds the nodes of a text that libefivar prints, and efibootmgr with it, to the device path that a
-/// buffer begins with, before its end, and returns how many bytes the path then has. What follows it is
-/// unchanged.
+/// Adds the nodes of a text that libefivar and efibootmgr print to the device path that a buffer
+/// begins with, before its end, and returns how many bytes the path then has. The rest of the
+/// buffer is unchanged.
 ///
 /// The text is read as [`DevicePathBuf::from_libefivar_text`](crate::DevicePathBuf) reads it. It fails as
 /// [`push_lenient_text_in_buf`] does.

@@ -21,7 +21,8 @@ use crate::styled_reader::put_text;
 use uefi_node_reader::styles::{TextStyle, is_copied};
 
 /// Adds the nodes that a text is read as in a style to the device path that a buffer begins with,
-/// before its end, and returns how many bytes the path then has. What follows it is unchanged.
+/// before its end, and returns how many bytes the path then has. The rest of the buffer is
+/// unchanged.
 ///
 /// Hidden: the library for C calls it in each style, and nothing promises that it stays. Other callers have
 /// [`crate::push_text_in_buf`], [`crate::push_lenient_text_in_buf`] and

@@ -32,13 +32,14 @@ fn text_error(error: PushLenientTextError) -> PushTextError
     }
 }
 
-/// Adds the nodes of a text to the device path that a buffer begins with, before its end, and returns how
-/// many bytes the path then has. What follows it is unchanged.
+/// Adds the nodes of a text to the device path that a buffer begins with, before its end, and
+/// returns how many bytes the path then has. The rest of the buffer is unchanged.
 ///
-/// The text is read as [`DevicePathBuf::from_text`](crate::DevicePathBuf) reads it; a comma in it ends an
-/// instance. Fails with `Path` if the buffer begins with no device path, then with `NoNode` and the byte
-/// at which the text stops being that of a path, and then with `BufferTooSmall` and the count of bytes
-/// that the path then needs; the buffer is then unchanged. Allocates nothing.
+/// The text is read as [`DevicePathBuf::from_text`](crate::DevicePathBuf) reads it; a comma in it
+/// ends an instance. Fails with `Path` if the buffer does not begin with a device path, then with
+/// `NoNode` and the byte at which the text stops being that of a path, and then with
+/// `BufferTooSmall` and the number of bytes that the path then needs; the buffer is then unchanged.
+/// Allocates nothing.
 ///
 /// ```rust
 /// let mut buffer = [0x7f, 0xff, 4, 0, 0, 0, 0, 0, 0];

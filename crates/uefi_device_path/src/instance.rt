@@ -41,8 +41,8 @@ pub struct DevicePathInstance<'a> {
     pub ghost are_nodes: { AreNodes bytes.now },
 }
 
-/// The instances of a device path, in order. A contract sees it as `instances_left` of it: what is still
-/// to come.
+/// The instances of a device path, in order. A contract sees it as `instances_left` of it: what
+/// remains.
 #[derive(Drop)]
 pub struct DevicePathInstanceIterator<'a> {
     /// What is left to cut; `None` after the last instance.
@@ -50,7 +50,7 @@ pub struct DevicePathInstanceIterator<'a> {
     pub ghost are_nodes: { ForSome rest (λ bytes. AreNodes bytes.now) },
 }
 
-/// The bytes of the first instance, and those after the node that ends it, where there is one.
+/// The bytes of the first instance, and those after the node that ends it, if there is one.
 pub(crate) fn cut_instance(bytes: &[u8]) -> (&[u8], Option<&[u8]>)
     requires { AreNodes bytes.now }
     ensures first { AreNodes result.0.now }
@@ -71,7 +71,7 @@ pub(crate) fn cut_instance(bytes: &[u8]) -> (&[u8], Option<&[u8]>)
 impl<'a> DevicePathInstance<'a> {
     ghost use Rattle.uefi_device_path.specs.Views.{instance_nodes, nodes_left};
 
-    /// The bytes of the nodes.
+    /// Returns the bytes of the nodes.
     pub fn as_bytes(&self) -> &'a [u8]
         ensures bytes { result.now ≡ nodes_bytes (instance_nodes self.now) }
         ensures inner { All IsInner (instance_nodes self.now) }
@@ -79,7 +79,7 @@ impl<'a> DevicePathInstance<'a> {
         self.bytes
     }
 
-    /// The nodes of the instance, in order.
+    /// Returns the nodes of the instance, in order.
     pub fn node_iter(&self) -> DevicePathNodeIterator<'a>
         ensures same { nodes_left result ≡ instance_nodes self.now }
         ensures bound { length (nodes_left result) < 2 ^ 64 }
@@ -104,11 +104,12 @@ impl<'a> DevicePathInstance<'a> {
         file_path_in(alloc, self.bytes)
     }
 
-    /// Writes the file path, which [`DevicePathInstance::file_path`] makes, to the start of a buffer, with
-    /// a NUL after it, and returns its length without the NUL. What follows the NUL is unchanged.
+    /// Writes the file path, which [`DevicePathInstance::file_path`] makes, to the start of a
+    /// buffer, with a NUL, and returns its length without the NUL. The rest of the buffer is
+    /// unchanged.
     ///
-    /// Fails with `Name` if that call refuses a name, for the same node, or else if the buffer is too
-    /// small. The buffer is then unchanged. Takes no memory.
+    /// Fails with `Name` if that call refuses a name, for the same node, or else if the buffer is
+    /// too small. The buffer is then unchanged. Does not allocate.
     ///
     /// ```rust
     /// let path = DevicePathBuf::from_text(rt.alloc(), r"\a\b,SD(0x1)")?;
@@ -131,8 +132,8 @@ impl<'a> DevicePathInstance<'a> {
         write_file_path_in(self.bytes, buffer)
     }
 
-    /// The file path, written to the start of a buffer and borrowed from there as a string.
-    /// Fails as [`DevicePathInstance::write_file_path`] does.
+    /// Writes the file path to the start of a buffer, and borrows it from there as a string. Fails
+    /// as [`DevicePathInstance::write_file_path`] does.
     ///
     /// ```rust
     /// let path = DevicePathBuf::from_text(rt.alloc(), r"\a\b,SD(0x1)")?;

@@ -16,9 +16,9 @@ use uefi_text::text_sink::print;
 use uefi_text::unit_sink::{BufferTooSmall, write_units};
 
 impl<'a> DevicePathInstance<'a> {
-    /// What is printed of the instance, for a `{}` of a format (UEFI Specification 2.10, section 10.6.1):
-    /// the texts of its nodes, which [`DevicePathNode::display`] gives, with a slash between each two. Takes
-    /// no memory.
+    /// Returns a value that prints the instance, for a `{}` of a format (UEFI Specification 2.10,
+    /// section 10.6.1): the texts of its nodes, which [`DevicePathNode::display`] gives, with a
+    /// slash between each two. Does not allocate.
     ///
     /// ```rust
     /// let path = DevicePathBuf::from_text(rt.alloc(), "CDROM(0x1,0x2D,0x800),SD(0x1)")?;

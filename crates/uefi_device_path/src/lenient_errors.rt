@@ -37,7 +37,7 @@ impl Printed for TextFault {
     }
 }
 
-/// Prints the same.
+/// Prints the same text.
 impl fmt::Display for TextFault {
     ghost output = { λ fault. Some (text_fault_text fault) };
 
@@ -53,7 +53,7 @@ impl Error for TextFault {}
 pub enum LenientTextError {
     /// A node has to begin at a byte of the text, and none can be read there.
     NoNode(TextFault),
-    /// Memory was refused.
+    /// Memory ran out.
     OutOfMemory,
 }
 
@@ -69,7 +69,7 @@ impl Printed for LenientTextError {
     }
 }
 
-/// Prints the same.
+/// Prints the same text.
 impl fmt::Display for LenientTextError {
     ghost output = { λ error. Some (lenient_text_error_text error) };
 
@@ -83,7 +83,7 @@ impl Error for LenientTextError {}
 /// Why the nodes of a text, as people write it, are not added to the device path that a buffer begins with.
 #[derive(Clone, Copy, Debug, PartialEq, Eq)]
 pub enum PushLenientTextError {
-    /// The buffer begins with no device path.
+    /// The buffer does not begin with a device path.
     Path(DevicePathError),
     /// The second buffer has fewer bytes than this: one more than the text.
     ScratchTooSmall(usize),
@@ -118,7 +118,7 @@ impl Printed for PushLenientTextError {
     }
 }
 
-/// Prints the same.
+/// Prints the same text.
 impl fmt::Display for PushLenientTextError {
     ghost output = { λ error. Some (push_lenient_text_error_text error) };
 

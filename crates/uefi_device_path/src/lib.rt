@@ -19,10 +19,10 @@
 //! [`DevicePathNode::as_enum`] gives the view of a node's kind, with a call for each field, and
 //! [`build`] has a struct for each kind of node that can be pushed on a path.
 //!
-//! A contract sees a node as `node_of` it, a record of its type, its sub-type and its data; a path as
-//! `nodes_of` it, the list of its nodes without the one that ends it; and a load option as `entry_of` it.
-//! A refusal says what is wrong and at which offset, and is the only one that holds of the bytes. No call
-//! takes memory but those that say so.
+//! A contract sees a node as `node_of` it, a record of its type, its sub-type and its data; a path
+//! as `nodes_of` it, the list of its nodes without the one that ends it; and a load option as
+//! `entry_of` it. A refusal says what is wrong and at which offset, and is the only one that holds
+//! of the bytes. No call allocates but those that say so.
 #![tactic(auto)]
 
 pub mod build;

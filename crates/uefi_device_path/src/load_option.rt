@@ -49,9 +49,9 @@ pub struct LoadOption<'a> {
 impl<'a> LoadOption<'a> {
     ghost use Rattle.uefi_device_path.specs.Views.{entry_of, nodes_of, parts_of, paths_left};
 
-    /// The load option that the bytes are. Refused for the first of these that is wrong: fewer than six
-    /// bytes, a description without NUL, a file path list beyond the end or of no bytes, and a node of
-    /// the list. Takes no memory.
+    /// Reads the bytes as a load option. Fails for the first of these faults: fewer than six bytes,
+    /// a description without NUL, a file path list beyond the end or of no bytes, and a node of the
+    /// list. Does not allocate.
     ///
     /// ```rust
     /// let option = LoadOption::from_bytes(b"\x01\0\0\0\x04\0a\0\0\0\x7f\xff\x04\0")?;
@@ -75,9 +75,9 @@ impl<'a> LoadOption<'a> {
         }
     }
 
-    /// The load option that the bytes are, or what is well in them up to the first fault: the attributes,
-    /// the description, the device paths before the fault and the nodes before it. What is refused, and
-    /// for what, is as [`LoadOption::from_bytes`] has it. Allocates nothing.
+    /// Returns the load option that the bytes are, or what is well in them up to the first fault:
+    /// the attributes, the description, the device paths before the fault and the nodes before it.
+    /// What is refused, and for what, is as [`LoadOption::from_bytes`] has it. Allocates nothing.
     ///
     /// Firmware such as EDK II boots an entry whose first path is whole, whatever follows that path in the
     /// list: of such an entry the first of [`LoadOptionParts::device_paths`] is that path.
@@ -155,43 +155,46 @@ impl<'a> LoadOption<'a> {
         self.bytes
     }
 
-    /// The attributes.
+    /// Returns the attributes.
     pub fn attributes(&self) -> u32
         ensures { result ≡ (entry_of self.now).attributes }
     {
         self.attributes
     }
 
-    /// Whether firmware tries the option by itself: `LOAD_OPTION_ACTIVE`.
+    /// Returns whether firmware tries the option by itself: `LOAD_OPTION_ACTIVE`.
     pub fn is_active(&self) -> bool
         ensures { IsTrue result ↔ ((entry_of self.now).attributes % 2 ≡ 1) }
     {
         self.attributes % 2 == 1
     }
 
-    /// Whether connecting a driver makes firmware connect all devices anew: `LOAD_OPTION_FORCE_RECONNECT`.
+    /// Returns whether connecting a driver makes firmware connect all devices anew:
+    /// `LOAD_OPTION_FORCE_RECONNECT`.
     pub fn is_force_reconnect(&self) -> bool
         ensures { IsTrue result ↔ ((entry_of self.now).attributes / 2 % 2 ≡ 1) }
     {
         self.attributes / 2 % 2 == 1
     }
 
-    /// Whether a menu leaves the option out: `LOAD_OPTION_HIDDEN`.
+    /// Returns whether a menu omits the option: `LOAD_OPTION_HIDDEN`.
     pub fn is_hidden(&self) -> bool
         ensures { IsTrue result ↔ ((entry_of self.now).attributes / 8 % 2 ≡ 1) }
     {
         self.attributes / 8 % 2 == 1
     }
 
-    /// The category, `LOAD_OPTION_CATEGORY` as a number: 0 is an option to boot, 1 an application.
+    /// Returns the category, `LOAD_OPTION_CATEGORY` as a number: 0 is an option to boot, 1 an
+    /// application.
     pub fn category(&self) -> u32
         ensures { result ≡ (entry_of self.now).attributes / 256 % 32 }
     {
         self.attributes / 256 % 32
     }
 
-    /// The description as a string in memory of its own. Refused as [`UnalignedSlice::to_cstring16`]
-    /// refuses its units: where it holds a surrogate, and then as `OutOfMemory`. One request for memory.
+    /// Returns the description as a string in its own memory. Refused as
+    /// [`UnalignedSlice::to_cstring16`] refuses its units: if it holds a surrogate, and then as
+    /// `OutOfMemory`. One allocation.
     ///
     /// ```rust
     /// let option = LoadOption::from_bytes(b"\x01\0\0\0\x04\0a\0\0\0\x7f\xff\x04\0")?;
@@ -211,9 +214,9 @@ impl<'a> LoadOption<'a> {
         self.description_units().to_cstring16(alloc)
     }
 
-    /// The description in UTF-8: each pair of surrogates is one character, and U+FFFD stands for each
-    /// surrogate that has no partner (Unicode Standard, section 3.9), so that nothing is refused but
-    /// memory. Takes memory for the units, and for the text as it grows.
+    /// Returns the description in UTF-8: each pair of surrogates is one character, and U+FFFD
+    /// stands for each surrogate without a partner (Unicode Standard, section 3.9), so that nothing
+    /// is refused but memory. Takes memory for the units, and for the text as it grows.
     ///
     /// ```rust
     /// let option = LoadOption::from_bytes(b"\x01\0\0\0\x04\0a\0\0\xd8\0\0\x7f\xff\x04\0")?;
@@ -226,8 +229,9 @@ impl<'a> LoadOption<'a> {
         String::from_utf16_lossy(alloc, &units[..units.len() - 1])
     }
 
-    /// The code units of the description, its NUL included, wherever they lie. They may hold
-    /// surrogates: [`UnalignedSlice::to_cstr16`] and its neighbours say whether they are a string.
+    /// Returns the code units of the description, its NUL included, wherever they lie. They may
+    /// contain surrogates: [`UnalignedSlice::to_cstr16`] and its neighbours say whether they are a
+    /// string.
     ///
     /// ```rust
     /// let option = LoadOption::from_bytes(b"\x01\0\0\0\x04\0a\0\0\0\x7f\xff\x04\0")?;
@@ -240,14 +244,14 @@ impl<'a> LoadOption<'a> {
         self.description
     }
 
-    /// The bytes of the file path list.
+    /// Returns the bytes of the file path list.
     pub fn file_path_list(&self) -> &'a [u8]
         ensures { result.now ≡ list_bytes (entry_of self.now).paths }
     {
         self.list
     }
 
-    /// The device paths of the file path list, in order.
+    /// Returns the device paths of the file path list, in order.
     ///
     /// ```rust
     /// let option = LoadOption::from_bytes(b"\x01\0\0\0\x09\0a\0\0\0\x03\x1a\x05\0\x01\x7f\xff\x04\0")?;
@@ -262,16 +266,16 @@ impl<'a> LoadOption<'a> {
         DevicePaths::of(self.list)
     }
 
-    /// The bytes after the file path list.
+    /// Returns the bytes after the file path list.
     pub fn optional_data(&self) -> &'a [u8]
         ensures { result.now ≡ (entry_of self.now).optional }
     {
         self.optional
     }
 
-    /// The code units that the bytes after the file path list encode, two bytes for each, the low one
-    /// first: a command line, where the loader takes one. `None` exactly where the bytes are odd in number.
-    /// The units may hold NULs and surrogates.
+    /// Returns the code units that the bytes after the file path list encode, two bytes for each,
+    /// the low byte first: a command line, where the loader takes one. `None` exactly if the number
+    /// of bytes is odd. The units may hold NULs and surrogates.
     ///
     /// ```rust
     /// let option = LoadOption::from_bytes(b"\x01\0\0\0\x04\0a\0\0\0\x7f\xff\x04\0q\0\0\0")?;

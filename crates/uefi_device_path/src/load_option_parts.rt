@@ -127,21 +127,22 @@ impl<'a> LoadOptionParts<'a> {
         }
     }
 
-    /// What is wrong first, and where.
+    /// Returns what is wrong first, and where.
     pub fn error(&self) -> LoadOptionError
         ensures { result ≡ (parts_of self.now).error }
     {
         self.error
     }
 
-    /// The attributes, if the bytes have the whole header.
+    /// Returns the attributes, if the bytes have the whole header.
     pub fn attributes(&self) -> Option<u32>
         ensures { result ≡ (parts_of self.now).attributes }
     {
         self.attributes
     }
 
-    /// The code units of the description and its NUL, if it has one. They may hold surrogates.
+    /// Returns the code units of the description and its NUL, if it has one. They may contain
+    /// surrogates.
     pub fn description_units(&self) -> Option<UnalignedSlice<'a, u16>>
         ensures units { MatchOption result ((parts_of self.now).description ≡ None) (λ units.
             (parts_of self.now).description ≡ Some (without_nul (items_of units))) }
@@ -150,7 +151,7 @@ impl<'a> LoadOptionParts<'a> {
         self.description
     }
 
-    /// The whole device paths before the fault.
+    /// Returns the whole device paths before the fault.
     pub fn device_paths(&self) -> DevicePaths<'a>
         ensures same { paths_left result ≡ (parts_of self.now).paths }
         ensures are_paths { ArePaths (paths_left result) }
@@ -160,7 +161,7 @@ impl<'a> LoadOptionParts<'a> {
         DevicePaths::of(self.paths)
     }
 
-    /// The nodes before the fault, of the device path in which it lies.
+    /// Returns the nodes before the fault, of the device path in which it lies.
     pub fn node_iter(&self) -> DevicePathNodeIterator<'a>
         ensures same { nodes_left result ≡ (parts_of self.now).nodes }
         ensures inner { All IsInner (nodes_left result) }
@@ -170,7 +171,8 @@ impl<'a> LoadOptionParts<'a> {
         DevicePathNodeIterator::of(self.nodes)
     }
 
-    /// What is printed of these nodes, as [`DevicePath::display`](crate::DevicePath::display) prints a path.
+    /// Returns what is printed of these nodes, as
+    /// [`DevicePath::display`](crate::DevicePath::display) prints a path.
     ///
     /// ```rust
     /// let bytes = b"\x01\0\0\0\x05\0a\0\0\0\x03\x1a\x05\0\x01";

@@ -79,7 +79,7 @@ fn is_named(first: DevicePathNode<'_>, node: DevicePathNode<'_>) -> bool
 }
 
 impl<'a> DevicePath<'a> {
-    /// The first node and the path of the others, or `None` for a path without nodes.
+    /// Returns the first node and the path of the others, or `None` for a path without nodes.
     ///
     /// ```rust
     /// let path = DevicePathBuf::from_text(rt.alloc(), "PciRoot(0x0)/Pci(0x1F,0x2)")?;
@@ -98,7 +98,8 @@ impl<'a> DevicePath<'a> {
         Some((node, DevicePath::of_path(rest)))
     }
 
-    /// The path without the nodes of another at its start, or `None` if it does not begin with them.
+    /// Returns the path without the nodes of another at its start, or `None` if it does not begin
+    /// with them.
     ///
     /// ```rust
     /// let path = DevicePathBuf::from_text(rt.alloc(), "PciRoot(0x0)/Pci(0x1F,0x2)")?;
@@ -119,7 +120,7 @@ impl<'a> DevicePath<'a> {
         }
     }
 
-    /// Whether the path begins with the nodes of another.
+    /// Returns whether the path begins with the nodes of another.
     ///
     /// ```rust
     /// let path = DevicePathBuf::from_text(rt.alloc(), "PciRoot(0x0)/Pci(0x1F,0x2)")?;
@@ -133,7 +134,7 @@ impl<'a> DevicePath<'a> {
         self.strip_prefix(prefix).is_some()
     }
 
-    /// The short form that the path has, by its first node, or `None` for any other path.
+    /// Returns the short form that the path has, by its first node, or `None` for any other path.
     ///
     /// ```rust
     /// let path = DevicePathBuf::from_text(rt.alloc(), r"\efi\a.efi")?;
@@ -148,8 +149,8 @@ impl<'a> DevicePath<'a> {
         form_of(first)
     }
 
-    /// Whether this full path is one that a short form stands for: nodes that say where the device is, then
-    /// a node that the first one of the short form names, and then the same nodes.
+    /// Returns whether this full path is one that a short form stands for: nodes that say where the
+    /// device is, then a node that the first one of the short form names, and then the same nodes.
     ///
     /// A partition is named by its number, the type of its signature and its signature; a file and a URI by
     /// an equal node. No path is the expansion of a short form of a USB device: its nodes don't say which

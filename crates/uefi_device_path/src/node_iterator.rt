@@ -9,8 +9,8 @@ ghost use Rattle.std.specs.Iterator.{YieldsFirstBy, item_count};
 
 use uefi_device_nodes::DevicePathNode;
 
-/// The nodes of a device path or an instance, in order. A contract sees it as `nodes_left` of it: what
-/// is still to come.
+/// The nodes of a device path or an instance, in order. A contract sees it as `nodes_left` of it:
+/// what remains.
 #[derive(Drop)]
 pub struct DevicePathNodeIterator<'a> {
     rest: &'a [u8],

@@ -19,7 +19,7 @@ use uefi_text::scan::{find_nul, split};
 /// The longest file path list that the header of a load option can state.
 const LONGEST_LIST: usize = 0xffff;
 
-/// How many bytes device paths have together, or `None` where these are more than a header can state.
+/// How many bytes device paths have together, or `None` if these are more than a header can state.
 fn list_length(paths: &[DevicePath<'_>]) -> Option<usize>
     ensures len { IfSome result (λ len. len ≡ length (list_bytes (map nodes_of paths.now))) }
     ensures within { IfSome result (λ len. len ≤ 0xffff) }
@@ -86,7 +86,7 @@ pub struct LoadOptionBuilder<'a> {
     optional: &'a [u8],
 }
 
-/// How many bytes the file path list and the whole load option have.
+/// The number of bytes of the file path list and the whole load option.
 #[derive(Clone, Copy)]
 struct Lengths {
     list: usize,
@@ -163,13 +163,14 @@ impl<'a> LoadOptionBuilder<'a> {
         copy_bytes(optional, self.optional);
     }
 
-    /// Writes the load option to the start of a buffer, and returns how many bytes it has. What follows
-    /// it is unchanged. [`LoadOption::from_bytes`](crate::LoadOption::from_bytes) of these bytes gives the
-    /// same fields, and the fields of what it gave are written as the same bytes.
+    /// Writes the load option to the start of a buffer, and returns how many bytes it has. The rest
+    /// of the buffer is unchanged. [`LoadOption::from_bytes`](crate::LoadOption::from_bytes) of
+    /// these bytes gives the same fields, and the fields of what it gave are written as the same
+    /// bytes.
     ///
-    /// Refused for the first of these: a NUL in the description, no device path, a file path list of more
-    /// than 65,535 bytes, a length that is no `usize`, and a buffer of fewer bytes, with the length that it
-    /// needs. The buffer is then unchanged. Takes no memory.
+    /// Refused for the first of these: a NUL in the description, no device path, a file path list
+    /// of more than 65,535 bytes, a length that is no `usize`, and a buffer of fewer bytes, with
+    /// the length that it needs. The buffer is then unchanged. Does not allocate.
     ///
     /// ```rust
     /// let path = DevicePathBuf::new(rt.alloc())?;
@@ -196,9 +197,9 @@ impl<'a> LoadOptionBuilder<'a> {
         Ok(lengths.whole)
     }
 
-    /// The bytes of the load option, in memory of their own. Refused as [`LoadOptionBuilder::write`]
-    /// refuses the fields, and then as `OutOfMemory`. One request for memory, of the size of the load
-    /// option.
+    /// Returns the bytes of the load option, in their own memory. Refused as
+    /// [`LoadOptionBuilder::write`] refuses the fields, and then as `OutOfMemory`. One allocation,
+    /// of the size of the load option.
     ///
     /// ```rust
     /// let path = DevicePathBuf::from_text(rt.alloc(), "SD(0x1)")?;

@@ -99,7 +99,7 @@ impl<'a> LoadOption<'a> {
         rest
     }
 
-    /// How many bytes the load option has with another description.
+    /// The number of bytes of the load option with another description.
     fn described_len(&self, units: &[u16]) -> usize
         ensures { result ≡ length (entry_bytes (with_description units.now (entry_of self.now))) }
     {

@@ -59,7 +59,7 @@ pub(crate) fn find_fault(bytes: &[u8]) -> Result<(), ListFault<'_>>
 /// Whether bytes are one device path or more, and nothing else.
 ///
 /// Fails at the first path that is malformed with the error of [`DevicePath::split_first`], whose
-/// offset counts from the first byte of all. Takes no memory.
+/// offset counts from the first byte of all. Does not allocate.
 ///
 /// ```rust
 /// assert_eq!(rt; check_paths(&[0x7f, 0xff, 4, 0, 0x7f, 0xff, 4, 0]), Ok(()));
@@ -80,8 +80,7 @@ pub fn check_paths(bytes: &[u8]) -> Result<(), DevicePathError>
     }
 }
 
-/// Device paths that lie packed, in order. A contract sees it as `paths_left` of it: what is still to
-/// come.
+/// Device paths that lie packed, in order. A contract sees it as `paths_left` of it: what remains.
 #[derive(Drop)]
 pub struct DevicePaths<'a> {
     rest: &'a [u8],

@@ -26,7 +26,7 @@ pub enum PathTextError {
     /// A node has to begin at this byte, and none does: no text of a node stands here that `/`, `,` or the
     /// end of the text follows.
     NoNode(usize),
-    /// Memory was refused.
+    /// Memory ran out.
     OutOfMemory,
 }
 
@@ -42,7 +42,7 @@ impl Printed for PathTextError {
     }
 }
 
-/// Prints the same.
+/// Prints the same text.
 impl fmt::Display for PathTextError {
     ghost output = { λ error. Some (path_text_error_text error) };
 

@@ -22,8 +22,8 @@ fn is_end(expected: Expected) -> bool
     }
 }
 
-/// How many bytes of a text are the path that it begins with, read in a style, or the fault of the text. The
-/// buffer then holds anything.
+/// Returns how many bytes of a text are the path that it begins with, read in a style, or the fault
+/// of the text. The buffer then holds anything.
 ///
 /// Hidden: the library for C calls it, and nothing promises that it stays. Other callers have
 /// [`lenient_text_extent`] and [`libefivar_text_extent`].
@@ -69,8 +69,9 @@ fn extent_in<A: Allocator + Copy>(
     }
 }
 
-/// How many bytes of a text are the path that it begins with, as people write it, where something else may
-/// follow: programs such as efibootmgr print optional data directly after the last node.
+/// Returns how many bytes of a text are the path that it begins with, as people write it, where
+/// other text may follow: programs such as efibootmgr print optional data directly after the last
+/// node.
 ///
 /// The path is all of the text if [`DevicePathBuf::from_lenient_text`](crate::DevicePathBuf) reads that. If
 /// the call refuses the text at a byte where a node should end, the path is what stands before this byte.
@@ -91,7 +92,7 @@ pub fn lenient_text_extent<A: Allocator + Copy>(
     extent_in(TextStyle::Lenient, alloc, text)
 }
 
-/// The same of a text that libefivar prints, and efibootmgr with it, as
+/// The same of a text that libefivar and efibootmgr print, as
 /// [`DevicePathBuf::from_libefivar_text`](crate::DevicePathBuf) reads it.
 ///
 /// ```rust

@@ -4,7 +4,7 @@ use Rattle.std.specs.Fmt.{decimal}
 use Rattle.uefi_fat.specs.declared.long_names.FatNameError.{FatNameError}
 use Rattle.uefi_fat.specs.declared.long_names.FatNameError.TheVariants.{Empty, IllegalChar, TooLong}
 
--- what is printed of the refusal of a name
+-- the text of an error for a refused name
 abbrev pub fat_name_error_text : FatNameError → List ℕ
 fat_name_error_text Empty = codes "name is empty without spaces and dots"
 fat_name_error_text TooLong = codes "name has more than 255 characters"

@@ -11,8 +11,8 @@ use Rattle.uefi_fat.specs.declared.long_names.FatNameError.TheVariants.{Empty, I
 abbrev pub is_illegal : ℕ → Bool
 is_illegal unit = nat_lt unit 0x20 || list_any (λ other. other == unit) denied_characters
 
--- a name of a file on a FAT volume: what is left of it when it is trimmed is not empty, has at most
--- 255 units, and holds no illegal one
+-- a name of a file on a FAT volume: the trimmed name is not empty, has at most 255 units, and
+-- contains no illegal unit
 pub record IsFatName (name : List ℕ) : Type 0 where
   pub not_empty : trimmed name ≢ []
   pub within : length (trimmed name) ≤ 255
@@ -27,6 +27,6 @@ trimmed_refusal (unit ∷ units) =
     then Some TooLong
     else option_map IllegalChar (find is_illegal (unit ∷ units))
 
--- why a name is refused, if it is
+-- why a name is refused, or none
 abbrev pub name_refusal : List ℕ → Option FatNameError
 name_refusal name = trimmed_refusal (trimmed name)

@@ -1,5 +1,5 @@
-//! The laws by which users of names reason. They speak of the definitions that the contracts of the
-//! working calls cite. Each law is a function that does nothing: its contract is the law.
+//! The laws of names, for proofs of callers. They are about the definitions that other contracts
+//! cite. Each law is a function that does nothing: its contract is the law.
 ghost use Rattle.uefi_fat.specs.Laws.{FatNamesOfOneFile, IsBetweenTrimmed, NeitherEndIsTrimmed, SameFileAsTrimmed, SameFileIsEquivalence, SameFileWhereTrimmedSame, SameFileWithoutCase, ShortNamesAreFatNames, TrimmedOnce};
 
 /// What is trimmed off a name are spaces before it, and spaces and dots after it, and all of them; and

@@ -1,6 +1,6 @@
 //! Names of files on FAT volumes, as UEFI firmware's file system takes them (UEFI Specification
-//! 2.10, sections 13.3 and 21.1, and Microsoft's FAT specification, which it cites). No call takes
-//! memory.
+//! 2.10, sections 13.3 and 21.1, and Microsoft's FAT specification, which it cites). No call
+//! allocates.
 //!
 //! The file system trims a name before it looks for the file: spaces at the start, and spaces and
 //! dots at the end. It compares names without case. So `BOOT`, `boot.` and ` Boot ` name one file,

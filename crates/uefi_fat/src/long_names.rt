@@ -49,7 +49,7 @@ impl Printed for FatNameError {
     }
 }
 
-/// Prints the same.
+/// Prints the same text.
 impl fmt::Display for FatNameError {
     ghost output = { λ error. Some (fat_name_error_text error) };
 
@@ -92,8 +92,8 @@ fn without_ends_after<'a>(name: Char16Slice<'a>) -> Char16Slice<'a>
     name.part(0, name.len() - ends_after(name.units()))
 }
 
-/// The part of a name that a FAT volume keeps: without the spaces at its start, and without the spaces
-/// and dots at its end.
+/// Returns the part of a name that a FAT volume keeps: without the spaces at its start, and without
+/// the spaces and dots at its end.
 ///
 /// ```rust
 /// let name = CString16::try_from_str(rt.alloc(), " boot.efi. ")?;
@@ -142,11 +142,11 @@ fn judge(name: Char16Slice<'_>) -> Option<FatNameError>
     find_illegal(part).map(FatNameError::IllegalChar)
 }
 
-/// Whether a file on a FAT volume can have a name: `Ok`, or why not.
+/// Checks whether a file on a FAT volume can have a name. Returns `Ok`, or the fault.
 ///
-/// The trimmed name decides. It is refused as `Empty` where it has no character, so that `.` and `..` are
-/// refused: these name folders, and the file system looks for them before it trims a name. It is refused
-/// as `TooLong` where it has more than 255 characters, and as `IllegalChar` of the first character that
+/// The trimmed name decides. It is refused as `Empty` if it has no character, as for `.` and `..`,
+/// which name folders: the file system looks for these before it trims a name. It is refused as
+/// `TooLong` if it has more than 255 characters, and as `IllegalChar` for the first character that
 /// is below U+0020 or one of `" * / : < > ? \ |`.
 ///
 /// ```rust
@@ -166,7 +166,7 @@ pub fn check_fat_name(name: Char16Slice<'_>) -> Result<(), FatNameError>
     }
 }
 
-/// Whether a file on a FAT volume can have a name, as [`check_fat_name`] says.
+/// Returns whether a file on a FAT volume can have a name, as [`check_fat_name`] says.
 ///
 /// ```rust
 /// let name = CString16::try_from_str(rt.alloc(), "[1] my file.txt")?;
@@ -180,7 +180,8 @@ pub fn is_fat_name(name: Char16Slice<'_>) -> bool
     check_fat_name(name).is_ok()
 }
 
-/// Whether two names are of one file on a FAT volume: their trimmed parts are the same without case.
+/// Returns whether two names mean one file on a FAT volume: their trimmed parts are equal without
+/// case.
 ///
 /// A file may also have a short name that somebody made up for it, such as `LONGNA~1.TXT`. No name
 /// says which.

@@ -48,8 +48,8 @@ fn fat_byte(unit: u16) -> u8
     }
 }
 
-/// Writes units to the start of a buffer in the characters of short names, as [`str_to_fat`] writes a
-/// name. The units may hold surrogates, as names on FAT volumes may: no short name takes one.
+/// Writes units to the start of a buffer in the characters of short names, as [`str_to_fat`] writes
+/// a name. The units may contain surrogates, as names on FAT volumes may: no short name takes one.
 ///
 /// ```rust
 /// let mut buffer = [0; 3];
@@ -111,7 +111,7 @@ fn widen(places: &mut [u16], bytes: &[u8])
     }
 }
 
-/// How many bytes are before the first NUL, or how many there are where there is none.
+/// How many bytes are before the first NUL, or how many there are if there is none.
 fn text_len(bytes: &[u8]) -> usize
     ensures len { result ≡ position_or_len is_nul bytes.now }
     ensures within { result ≤ length bytes.now }
@@ -120,8 +120,8 @@ fn text_len(bytes: &[u8]) -> usize
 }
 
 /// Writes the string of bytes in the characters of short names to the start of a buffer, as
-/// `FatToStr` does: a unit for each byte before the first NUL, or for each byte if there is none, and a NUL.
-/// Returns its length without the NUL. What follows the NUL is unchanged.
+/// `FatToStr` does: a unit for each byte before the first NUL, or for each byte if there is none,
+/// and adds a NUL. Returns its length without the NUL. The rest of the buffer is unchanged.
 ///
 /// Fails only if the buffer is too small, and then leaves it unchanged. Two passes.
 ///

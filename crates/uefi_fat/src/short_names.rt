@@ -84,8 +84,8 @@ fn first_dot(units: &[u16]) -> Option<usize>
     units.iter().position(|unit| *unit == DOT)
 }
 
-/// Whether a name is an 8.3 name, as it stands in a directory entry: 1 to 8 characters, and then
-/// maybe a dot and 1 to 3 more.
+/// Returns whether a name is an 8.3 name, as it stands in a directory entry: 1 to 8 characters, and
+/// then maybe a dot and 1 to 3 more.
 ///
 /// The characters are capital letters, digits and the marks ``! # $ % & ' ( ) - @ ^ _ ` { } ~``. The
 /// letters are those that have a case: `A` to `Z`, and U+00C0 to U+00DE but U+00D7.

@@ -75,7 +75,7 @@ abbrev pub is_reordering : ℕ → Bool
 is_reordering c = (c == 0x61c) || ((nat_le 0x200e c && nat_lt c 0x2010)
     || ((nat_le 0x2028 c && nat_lt c 0x202f) || (nat_le 0x2066 c && nat_lt c 0x206a)))
 
--- the test for a character that no text prints as it is
+-- the test for a character that no text prints unchanged
 abbrev pub is_escaped : ℕ → Bool
 is_escaped c = is_control c || is_reordering c
 
@@ -104,15 +104,15 @@ vendor_name first second =
     else if (first == 0x41ec3858eba4e8d2) && (second == 0xd06096ba472681a2) then codes "DebugPort()"
     else []
 
--- the strings of a device that ACPI names by strings, which lie as _HID, _UID, _CID
+-- the string of _HID; the strings of an ACPI device are stored in the order _HID, _UID, _CID
 abbrev pub hid_string : List ℕ → List ℕ
 hid_string bytes = until_nul bytes
 
--- that of _UID
+-- the string of _UID
 abbrev pub uid_string : List ℕ → List ℕ
 uid_string bytes = until_nul (after_nul bytes)
 
--- that of _CID
+-- the string of _CID
 abbrev pub cid_string : List ℕ → List ℕ
 cid_string bytes = until_nul (after_nul (after_nul bytes))
 

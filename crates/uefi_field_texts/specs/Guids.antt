@@ -9,7 +9,7 @@ use Rattle.uefi_field_texts.specs.ShownTexts.{IsShown}
 abbrev pub IsGuid : List ℕ → Type 0
 IsGuid bytes = (length bytes ≡ 16) × All IsByte bytes
 
--- the text of a GUID: three numbers, which lie with the low byte first, and then bytes in order
+-- the text of a GUID: three numbers, stored with the low byte first, and then bytes in order
 unfoldable pub guid_text : List ℕ → List ℕ
 guid_text bytes = hex_back (slice_range bytes 0 4)
     ++ (codes "-" ++ (hex_back (slice_range bytes 4 6)
@@ -17,7 +17,7 @@ guid_text bytes = hex_back (slice_range bytes 0 4)
     ++ (codes "-" ++ (hex_bytes (slice_range bytes 8 10)
     ++ (codes "-" ++ hex_bytes (slice_range bytes 10 16))))))))
 
--- a text is that of a GUID, in either case
+-- a text of a GUID, in either case
 abbrev pub IsGuidText : List ℕ → List ℕ → Type 0
 IsGuidText text bytes = map to_ascii_uppercase text ≡ guid_text bytes
 

@@ -10,7 +10,7 @@ use Rattle.uefi_path.specs.declared.ancestors.Ancestors.{Ancestors}
 abbrev pub beginnings : List (List ℕ) → List (List ℕ)
 beginnings pieces = prefixes (length pieces) pieces
 
--- those of a path that are still to come
+-- the remaining ancestors of a path
 unfoldable pub ancestors_left : Ancestors → List (List ℕ)
 ancestors_left ancestors = beginnings (pieces_left ancestors.rest)
 

@@ -6,7 +6,7 @@ use Rattle.uefi_path.specs.Components.{joined}
 use Rattle.uefi_path.specs.Views.{components_left}
 use Rattle.uefi_path.specs.declared.component_indices.ComponentIndices.{ComponentIndices}
 
--- an item: the place, and the units of the component
+-- an item: the place and the units of the component
 abbrev pub indexed_units : ℕ × Char16Slice → ℕ × List ℕ
 indexed_units item = (item.0, units_of item.1)
 
@@ -15,11 +15,11 @@ abbrev pub placed_from : ℕ → List (List ℕ) → List (ℕ × List ℕ)
 placed_from place [] = []
 placed_from place (piece ∷ pieces) = (place, piece) ∷ placed_from (place + length piece + 1) pieces
 
--- the components that are still to come
+-- the remaining components
 unfoldable pub indices_left : ComponentIndices → List (ℕ × List ℕ)
 indices_left indices = placed_from indices.place (components_left indices.components)
 
--- from each place on, the text is the component there and those after it, joined
+-- from each place on, the text is the component there and the later components, joined
 abbrev pub BeginAtPlaces : List ℕ → List (ℕ × List ℕ) → Type 0
 BeginAtPlaces text [] = Unit {0}
 BeginAtPlaces text ((place, piece) ∷ after) =

@@ -4,8 +4,8 @@ use Rattle.std.specs.List.{slice_split}
 use Rattle.uefi_path.specs.Components.{components_of}
 use Rattle.uefi_path.specs.Separators.{is_separator}
 
--- the components that are still to come from a place on: all of them at the start of the text, and those
--- between the separators from the place on after it. None are left after the end of the text
+-- the remaining components from a place on: all components at the start of the text, none after its
+-- end, and otherwise those between the separators from the place on
 abbrev pub components_from : List ℕ → ℕ → List (List ℕ)
 components_from text zero = components_of text
 components_from text (suc before) =
@@ -16,7 +16,8 @@ abbrev pub canonical_start : List ℕ → ℕ
 canonical_start [] = 0
 canonical_start (unit ∷ units) = if is_separator unit then 1 else 0
 
--- where the next component from a place on begins: there, but after a separator at the start of the text
+-- where the next component begins, from a place on: at the place, except after a separator at the
+-- start of the text
 abbrev pub component_place : List ℕ → ℕ → ℕ
 component_place text zero = canonical_start text
 component_place text (suc before) = suc before

@@ -7,7 +7,7 @@ use Rattle.uefi_path.specs.Separators.{separator, is_separator, canonical}
 abbrev pub joined : List (List ℕ) → List ℕ
 joined pieces = join_with_byte separator pieces
 
--- a piece: no separator in it
+-- a piece: it contains no separator
 abbrev pub IsPiece : List ℕ → Type 0
 IsPiece piece = All (λ unit. unit ≢ separator) piece
 
@@ -26,13 +26,13 @@ pieces_between (unit ∷ units) = slice_split is_separator (unit ∷ units)
 abbrev pub components_of : List ℕ → List (List ℕ)
 components_of text = pieces_between (canonical text)
 
--- a path starts with a base: its components are those of the base, and then some
+-- a path starts with a base: its first components are those of the base
 abbrev pub StartsWith : List ℕ → List ℕ → Type 0
 StartsWith text base =
     (rest : List (List ℕ)) × (components_of text ≡ components_of base ++ rest)
 
--- bounds on how many pieces there are, by how many units they join to: one at least, unless there are
--- none, and at most one more than units
+-- bounds on the number of pieces that join to a number of units: at least one, unless there are no
+-- pieces, and at most one more than the units
 abbrev pub hint_of_pieces : List (List ℕ) → ℕ × Option ℕ
 hint_of_pieces [] = (0, Some 0)
 hint_of_pieces (piece ∷ pieces) = (1, Some (length (joined (piece ∷ pieces)) + 1))

@@ -17,7 +17,7 @@ pub record IsFirstFault (text : List ℕ) (place : ℕ) (error : PathError) : Ty
   pub within : place ≤ length text
   pub begins : drop place text ≡ joined (component ∷ after)
 
--- why a path is refused, and where: the empty text has no component, and is refused at its start
+-- why and where a path is refused: the empty text has no component, and is refused at its start
 pub record IsRefusedAt (text : List ℕ) (fault : PathFault) : Type 0 where
   pub error : verdict text ≡ Some fault.error
   pub place : ((text ≡ []) × (fault.place ≡ 0)) ⊎ IsFirstFault text fault.place fault.error

@@ -28,20 +28,20 @@ pub record IsNamed (name stem extension : List ℕ) : Type 0 where
   pub last_dot : HasNoDot extension
   pub other : name ≢ dot_dot
 
--- what is after the last dot of a name, if that has an extension; of no name, nothing
+-- the text after the last dot of a name that has an extension; empty if there is no name
 abbrev pub IsExtension : Option (List ℕ) → Option (List ℕ) → Type 0
 IsExtension None extension = extension ≡ None
 IsExtension (Some name) None = HasNoExtension name
 IsExtension (Some name) (Some extension) = (stem : List ℕ) × IsNamed name stem extension
 
--- what is before that dot, or the whole name; of no name, nothing
+-- the name before that dot, or the whole name; empty if there is no name
 abbrev pub IsStem : Option (List ℕ) → Option (List ℕ) → Type 0
 IsStem None stem = stem ≡ None
 IsStem (Some name) None = ⊥
 IsStem (Some name) (Some stem) =
     (HasNoExtension name × (stem ≡ name)) ⊎ ((extension : List ℕ) × IsNamed name stem extension)
 
--- a path ends with another: its components are some, and then those of the other
+-- a path ends with another path: its last components are those of the other
 abbrev pub EndsWith : List ℕ → List ℕ → Type 0
 EndsWith text child = (front : List (List ℕ)) × (components_of text ≡ front ++ components_of child)
 

@@ -51,7 +51,7 @@ Rewrites old new = (count : ℕ) × Steps count old new
 abbrev pub IsNormal : List (List ℕ) → Type 0
 IsNormal pieces = (others : List (List ℕ)) → ¬ Step pieces others
 
--- the normal form of pieces: steps lead to it, and no further
+-- the normal form of pieces: steps lead to it, and no step leads further
 abbrev pub NormalForm : List (List ℕ) → List (List ℕ) → Type 0
 NormalForm pieces normal = Rewrites pieces normal × IsNormal normal
 
@@ -80,7 +80,7 @@ abbrev pub normal_of : List (List ℕ) → List (List ℕ)
 normal_of [] = []
 normal_of (piece ∷ pieces) = before_normal (kind piece) piece (normal_of pieces)
 
--- the text of normal pieces: they are joined, and none are the lone separator
+-- the text of normal pieces: the pieces joined, or a lone separator if there are none
 abbrev pub normal_text : List (List ℕ) → List ℕ
 normal_text [] = separator ∷ []
 normal_text (piece ∷ pieces) = joined (piece ∷ pieces)

@@ -40,6 +40,6 @@ parent_of_components (piece ∷ []) = None
 parent_of_components (piece ∷ next ∷ pieces) =
     Some (with_separators (rejoined (all_but_last (piece ∷ next ∷ pieces))))
 
--- the parent of a path, which none of at most one component has
+-- the parent of a path; a path of at most one component has none
 abbrev pub parent_text : List ℕ → Option (List ℕ)
 parent_text text = parent_of_components (components_of text)

@@ -8,7 +8,7 @@ use Rattle.uefi_path.specs.declared.written.NormalWriteError.TheVariants as writ
 use Rattle.uefi_path.specs.declared.validation.PathError.{PathError}
 use Rattle.uefi_path.specs.declared.validation.PathError.TheVariants.{ClimbsAboveRoot, Empty, EmptyComponent, IllegalChar}
 
--- what is printed of the refusal of a path
+-- the text of an error for a refused path
 abbrev pub path_error_text : PathError → List ℕ
 path_error_text Empty = codes "path is empty"
 path_error_text EmptyComponent = codes "path contains an empty component"
@@ -16,12 +16,12 @@ path_error_text (IllegalChar character) =
     codes "path contains an illegal character (value " ++ decimal character ++ codes ")"
 path_error_text ClimbsAboveRoot = codes "path climbs above the root"
 
--- what is printed where a path has no normal path
+-- the text of an error for a path without a normal path
 abbrev pub normalize_error_text : NormalizeError → List ℕ
 normalize_error_text (Invalid error) = path_error_text error
 normalize_error_text OutOfMemory = codes "out of memory"
 
--- and where it is not written into a buffer
+-- the text of an error for a normal path that is not written into a buffer
 abbrev pub normal_write_error_text : NormalWriteError → List ℕ
 normal_write_error_text (write.Invalid error) = path_error_text error
 normal_write_error_text (write.BufferTooSmall needed) =

@@ -14,7 +14,7 @@ needs_separator (unit ∷ units) = not (is_separator (slice_index (unit ∷ unit
 abbrev pub appended : List ℕ → List ℕ → List ℕ
 appended text part = if needs_separator text then text ++ separator ∷ part else text ++ part
 
--- a path after another, its slashes replaced; the empty path changes nothing
+-- a path pushed onto another, with its slashes replaced; the empty path changes nothing
 abbrev pub pushed : List ℕ → List ℕ → List ℕ
 pushed text [] = text
 pushed text (unit ∷ units) = appended text (with_separators (unit ∷ units))

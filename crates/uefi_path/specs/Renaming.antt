@@ -10,7 +10,7 @@ pub record EndsInName (text front name : List ℕ) : Type 0 where
   pub whole : text ≡ front ++ name
   pub last : last_or None (components_of text) ≡ Some name
 
--- the name took the place of the last component, or stands after a path that has none; its slashes were
+-- the name replaced the last component, or follows a path without components; its slashes were
 -- replaced
 abbrev pub IsRenamed : List ℕ → List ℕ → List ℕ → Type 0
 IsRenamed old new name =
@@ -28,7 +28,8 @@ abbrev pub dotted : List ℕ → List ℕ
 dotted [] = []
 dotted (unit ∷ units) = full_stop ∷ unit ∷ units
 
--- after the stem of the last component stands another extension, its slashes replaced, or none
+-- the stem of the last component is followed by another extension, with its slashes replaced, or by
+-- none
 pub record IsExtended (old new extension : List ℕ) : Type 0 where
   pub front : List ℕ
   pub name : List ℕ

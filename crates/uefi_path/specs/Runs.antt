@@ -6,7 +6,7 @@ use Rattle.uefi_text.specs.Views.{units_of}
 use Rattle.uefi_path.specs.Views.{components_left}
 use Rattle.uefi_path.specs.declared.components.Components.{Components}
 
--- no run of calls from here gives a component with a NUL in it
+-- no run of calls from here gives a component that contains a NUL
 abbrev pub GivesNoNulIn : Components → Type 0
 GivesNoNulIn here =
     EachRunFrom (YieldsFirstBy units_of components_left) here

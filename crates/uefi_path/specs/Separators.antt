@@ -31,7 +31,7 @@ with_separators text = map (replaced slash separator) text
 abbrev pub becomes_separator : ℕ → Bool
 becomes_separator unit = is_separator (replaced slash separator unit)
 
--- a plain text: no slash in it
+-- a plain text: it contains no slash
 abbrev pub IsPlain : List ℕ → Type 0
 IsPlain text = All (λ unit. unit ≢ slash) text
 

@@ -3,8 +3,8 @@ use Rattle.std.specs.Prelude.{◌≡◌, ℕ, zero, suc, ◌-◌, List, [], ◌�
 use Rattle.uefi_path.specs.Components.{components_of, joined}
 use Rattle.uefi_path.specs.Parents.{parent_text}
 
--- the first list is the parent of the text, each other the parent of the one before it, and the last
--- has none
+-- the first list is the parent of the text, each other list the parent of the one before it, and
+-- the last has no parent
 abbrev pub AreParents : List ℕ → List (List ℕ) → Type 0
 AreParents text [] = parent_text text ≡ None
 AreParents text (parent ∷ parents) = (parent_text text ≡ Some parent) × AreParents parent parents
@@ -30,7 +30,7 @@ prefixes zero components = []
 prefixes (suc count) components =
     joined (take (suc count) components) ∷ prefixes count components
 
--- the shorter prefixes of a path that are not empty, the longest first: its components but the last,
--- but the last two, and so on down to the first alone, each joined
+-- the shorter non-empty prefixes of a path, the longest first: its components without the last,
+-- without the last two, and so on down to the first alone, each joined
 abbrev pub shorter_prefixes : List ℕ → List (List ℕ)
 shorter_prefixes text = prefixes (length (components_of text) - 1) (components_of text)

@@ -20,8 +20,8 @@ pub record IsFileName (component : List ℕ) : Type 0 where
   pub not_empty : component ≢ []
   pub none_denied : All (λ unit. ¬ Contains denied unit) component
 
--- a valid path: its text is not empty, each of its components is a name that a file may have, and none
--- climbs above where the path starts
+-- a valid path: its text is not empty, each of its components is a name that a file may have, and
+-- none climbs above the start of the path
 pub record IsValid (text : List ℕ) : Type 0 where
   pub not_empty : text ≢ []
   pub file_names : All IsFileName (components_of text)
@@ -51,7 +51,7 @@ first_fault [] left = None
 first_fault (component ∷ components) left =
     option_or (fault component) (fault_at (depth_after (kind component) left) (first_fault components))
 
--- why a path is refused, if it is
+-- why a path is refused, or none
 abbrev pub verdict : List ℕ → Option PathError
 verdict [] = Some Empty
 verdict (unit ∷ units) = first_fault (components_of (unit ∷ units)) 0

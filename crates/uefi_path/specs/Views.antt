@@ -21,7 +21,7 @@ abbrev pub pieces_of_rest : Option Rest → List (List ℕ)
 pieces_of_rest None = []
 pieces_of_rest (Some rest) = slice_split is_separator (uncut_units rest)
 
--- the components that are still to come
+-- the remaining components
 unfoldable pub components_left : Components → List (List ℕ)
 components_left components = pieces_of_rest components.rest
 
@@ -29,6 +29,6 @@ components_left components = pieces_of_rest components.rest
 unfoldable pub counted_text : CountedUnits → List ℕ
 counted_text units = read_units units.reader
 
--- how many units were read
+-- the number of units that were read
 unfoldable pub reads_of : CountedUnits → ℕ
 reads_of units = read_count units.reader

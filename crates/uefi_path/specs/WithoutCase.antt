@@ -8,7 +8,7 @@ use Rattle.uefi_path.specs.Components.{components_of}
 abbrev pub capital_pieces : List (List ℕ) → List (List ℕ)
 capital_pieces pieces = map uppers pieces
 
--- a path starts with a base without case: its components are the same as those of the base, and then some
+-- a path starts with a base without case: its first components equal those of the base without case
 abbrev pub StartsWithoutCase : List ℕ → List ℕ → Type 0
 StartsWithoutCase text base =
     (rest : List (List ℕ))

@@ -19,23 +19,23 @@ abbrev pub normal_where : Option PathError → List (List ℕ) → Option (List 
 normal_where None normal = Some (normal_text normal)
 normal_where (Some error) normal = None
 
--- the normal path of a text, where the text is not refused
+-- the normal path of a text that is not refused
 abbrev pub normal_path : List ℕ → Option (List ℕ)
 normal_path text = normal_where (verdict text) (normal_of (components_of text))
 
--- what is returned where a normal path is written, by the verdict on its text
+-- the result of writing a normal path, by the verdict on its text
 abbrev pub normal_written : Option PathError → List ℕ → List ℕ → Result ℕ NormalWriteError
 normal_written (Some error) normal buffer = Err (Invalid error)
 normal_written None normal buffer = if nat_lt (length normal) (length buffer)
     then Ok (length normal) else Err (BufferTooSmall (places_needed normal))
 
--- what is returned where a path is written, if there is one
+-- the result of writing a path, if there is one
 abbrev pub path_written : Option (List ℕ) → List ℕ → Result (Option ℕ) unit_sink.BufferTooSmall
 path_written None buffer = Ok None
 path_written (Some path) buffer = if nat_lt (length path) (length buffer)
     then Ok (Some (length path)) else Err (record { 0 = places_needed path })
 
--- what the buffer becomes
+-- the buffer afterwards
 abbrev pub written_over : Option (List ℕ) → List ℕ → List ℕ
 written_over None buffer = buffer
 written_over (Some path) buffer = with_prefix (nul_terminated path) buffer

@@ -1,4 +1,4 @@
-//! The beginnings of a path: the path itself, and then each shorter one. No call takes memory.
+//! The beginnings of a path: the path itself, and then each shorter one. No call allocates.
 #![tactic(auto, unfolding(crate::specs::Ancestors::ancestors_left))]
 
 ghost use Rattle.std.specs.Prelude.{◌≡◌, All};
@@ -15,7 +15,7 @@ use crate::separators::cut_last;
 use uefi_text::strs::Char16Slice;
 
 /// An iterator over the beginnings of a path, the longest first. A contract sees it as
-/// `ancestors_left` of it: those that are still to come.
+/// `ancestors_left` of it: those that remain.
 #[derive(Clone, Copy)]
 pub struct Ancestors<'a> {
     /// The next one; `None` after the first component alone.
@@ -23,9 +23,9 @@ pub struct Ancestors<'a> {
 }
 
 impl<'a> Path<'a> {
-    /// The canonical text of the path, then the same without its last component, and so on down to the
-    /// first component alone. A path without components has none. Those after the first are the
-    /// successive parents of a valid path.
+    /// Returns the canonical text of the path, then the same without its last component, and so on
+    /// down to the first component alone. A path without components has none. Those after the first
+    /// are the successive parents of a valid path.
     ///
     /// ```rust
     /// let text = CString16::try_from_str(rt.alloc(), r"\efi\boot\a.efi")?;

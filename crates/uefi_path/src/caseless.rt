@@ -1,5 +1,5 @@
 //! Paths compared without case, and matched against patterns. Case and patterns are those of the
-//! firmware's Unicode collation (UEFI Specification 2.10, section 21.1). No call takes memory.
+//! firmware's Unicode collation (UEFI Specification 2.10, section 21.1). No call allocates.
 ghost use Rattle.std.specs.Prelude.{◌+◌, ◌*◌, ◌≤◌, ◌≡◌, ◌<◌, ◌^◌, ◌↔◌, All, IfSome, IsSome, IsTrue, drop, length};
 ghost use Rattle.uefi_path.specs.Components.{components_of};
 ghost use Rattle.uefi_path.specs.Separators.{canonical};
@@ -17,7 +17,7 @@ use std::cmp::Ordering;
 use uefi_text::counted::CountedReader;
 
 impl<'a> Path<'a> {
-    /// Whether both paths are equal without case: their canonical texts are.
+    /// Returns whether both paths are equal without case: their canonical texts are.
     ///
     /// ```rust
     /// let text = CString16::try_from_str(rt.alloc(), r"\EFI\Boot")?;
@@ -32,7 +32,7 @@ impl<'a> Path<'a> {
         self.canonical().eq_ignore_case(other.canonical())
     }
 
-    /// How both paths compare without case: as their canonical texts do. `Equal` exactly where
+    /// Returns how both paths compare without case: as their canonical texts do. `Equal` exactly if
     /// [`Path::eq_ignore_case`] holds.
     ///
     /// ```rust
@@ -49,7 +49,7 @@ impl<'a> Path<'a> {
         self.canonical().cmp_ignore_case(other.canonical())
     }
 
-    /// Whether the components of this path begin with those of the base, without case, as
+    /// Returns whether the components of this path begin with those of the base, without case, as
     /// [`Path::starts_with`] does with case.
     ///
     /// ```rust
@@ -65,8 +65,8 @@ impl<'a> Path<'a> {
         self.strip_prefix_ignore_case(base).is_some()
     }
 
-    /// The components of this path after as many as the base has, where it starts with the base without
-    /// case; else `None`.
+    /// Returns the components of this path after as many as the base has, if it starts with the
+    /// base without case; otherwise `None`.
     ///
     /// ```rust
     /// let text = CString16::try_from_str(rt.alloc(), r"\EFI\Boot\a.efi")?;
@@ -86,11 +86,11 @@ impl<'a> Path<'a> {
         self.components().strip_ignore_case(base.components())
     }
 
-    /// Whether a pattern matches this path: each of its components the one at the same place, as
-    /// `CStr16::matches` does, and both have as many. So neither `*` nor `?` takes a separator, and
-    /// one that stands between `[` and `]` ends a component too. Once the components are known, reads at
-    /// most (p + 1) * (t + 1) units of each, where the pattern has p units and this path t.
-    /// [`Path::matches_counted`] promises that.
+    /// Returns whether a pattern matches this path: each of its components the one at the same
+    /// place, as `CStr16::matches` does, and both have as many. So neither `*` nor `?` takes a
+    /// separator, and one that stands between `[` and `]` ends a component too. Once the components
+    /// are known, reads at most (p + 1) * (t + 1) units of each, where the pattern has p units and
+    /// this path t. [`Path::matches_counted`] promises that.
     ///
     /// ```rust
     /// let pattern = CString16::try_from_str(rt.alloc(), r"\efi\*\shim*.efi")?;
@@ -108,8 +108,8 @@ impl<'a> Path<'a> {
         self.matches_counted(pattern, &mut own, &mut other)
     }
 
-    /// What [`Path::matches`] does, with the units of the components read through two readers, whose counts
-    /// go on. No unit of the text that a reader had is read.
+    /// Returns what [`Path::matches`] does, with the units of the components read through two
+    /// readers, whose counts go on. No unit of the text that a reader had is read.
     ///
     /// ```rust
     /// use uefi_text::counted::CountedReader;

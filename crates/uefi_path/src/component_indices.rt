@@ -14,8 +14,8 @@ use crate::pathbuf::PathBuf;
 use std::alloc::Allocator;
 use uefi_text::strs::Char16Slice;
 
-/// An iterator over the components of a path, each with the place where it begins in the path's text.
-/// A contract sees it as `indices_left` of it: what is still to come.
+/// An iterator over the components of a path, each with the place where it begins in the path's
+/// text. A contract sees it as `indices_left` of it: what remains.
 #[derive(Drop)]
 pub struct ComponentIndices<'a> {
     /// Where the next component begins.
@@ -50,8 +50,9 @@ impl<'a> ComponentIndices<'a> {
 impl<'a> Path<'a> {
     ghost use Rattle.uefi_path.specs.ComponentIndices.{BeginAtPlaces, indexed_units, indices_left};
 
-    /// Returns the components, as [`Path::components`], each with the place where it begins: how many
-    /// characters of the text stand before it, a leading separator among them. Takes no memory.
+    /// Returns the components, as [`Path::components`], each with the place where it begins: how
+    /// many characters of the text stand before it, a leading separator included. Does not
+    /// allocate.
     ///
     /// ```rust
     /// let text = CString16::try_from_str(rt.alloc(), r"\efi\boot")?;

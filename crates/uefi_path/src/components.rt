@@ -20,7 +20,7 @@ use uefi_text::counted::CountedReader;
 use uefi_text::strs::{CStr16, Char16Slice};
 
 /// An iterator over the components of a path. A contract sees it as `components_left` of it: what
-/// is still to come.
+/// remains.
 #[derive(Drop)]
 pub struct Components<'a> {
     /// What is left to cut; `None` after the last component.
@@ -166,7 +166,7 @@ impl<'a> Components<'a> {
         false
     }
 
-    /// Those after the components of a base, where they begin with these.
+    /// Those after the components of a base, if they begin with these.
     pub(crate) fn strip(self, base: Components<'_>) -> Option<Components<'a>>
         requires texts { All IsText (components_left self) }
         requires bound { length (components_left self) < 2 ^ 64 }

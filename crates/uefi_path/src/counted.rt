@@ -28,7 +28,7 @@ pub struct CountedUnits<'a> {
 impl<'a> CountedUnits<'a> {
     ghost use Rattle.uefi_path.specs.Views.{counted_text, reads_of};
 
-    /// The units of a string's text, none of them read. Takes no memory.
+    /// Returns the units of a string's text, none of them read. Does not allocate.
     pub fn new(string: CStr16<'a>) -> CountedUnits<'a>
         ensures text { counted_text result ≡ text_of string.entry }
         ensures count { reads_of result ≡ 0 }
@@ -38,7 +38,7 @@ impl<'a> CountedUnits<'a> {
         }
     }
 
-    /// The number of units.
+    /// Returns the number of units.
     #[inline(always)]
     pub fn len(&self) -> usize
         ensures same { result ≡ length (counted_text self.now) }
@@ -48,7 +48,7 @@ impl<'a> CountedUnits<'a> {
         self.reader.len()
     }
 
-    /// The unit at an index below [`CountedUnits::len`]. Counts one read.
+    /// Returns the unit at an index below [`CountedUnits::len`]. Counts one read.
     #[inline(always)]
     pub fn get(&mut self, i: usize) -> u16
         requires { i < length (counted_text self.old) }

@@ -15,8 +15,8 @@ pub struct PathFault {
     /// Why: the error of [`validate_path`](crate::validate_path).
     pub error: PathError,
 
-    /// Where the component at fault begins in the text of the path: how many characters stand before
-    /// it, a leading separator among them. 0 where the text is empty.
+    /// Where the component at fault begins in the text of the path: how many characters stand
+    /// before it, a leading separator included. 0 where the text is empty.
     pub place: usize,
 }
 
@@ -43,8 +43,8 @@ fn find_path_fault(path: Path<'_>) -> Option<PathFault>
     None
 }
 
-/// Whether a path is accepted, as [`validate_path`](crate::validate_path) says; or why not, and where its
-/// first component at fault begins. Takes no memory.
+/// Whether a path is accepted, as [`validate_path`](crate::validate_path) says; or why not, and
+/// where its first component at fault begins. Does not allocate.
 ///
 /// ```rust
 /// let text = CString16::try_from_str(rt.alloc(), r"\efi\b?ot")?;

@@ -1,4 +1,4 @@
-//! The stem and the extension of a path's last component. No call takes memory.
+//! The stem and the extension of a path's last component. No call allocates.
 #![tactic(auto, using(crate::proofs::LastPieces::no_extension, crate::proofs::LastPieces::named))]
 
 ghost use Rattle.std.specs.Prelude.{◌<◌, ◌≤◌, ◌+◌, IfSome, MatchOption, None, Some, drop, length, option_map, take};
@@ -53,8 +53,9 @@ pub(crate) fn stem_len(name: Char16Slice<'_>) -> usize
 }
 
 impl<'a> Path<'a> {
-    /// The last component up to its extension: what stands before its last dot. It is the whole component
-    /// where no dot stands after its first character, and for `..`. `None` where there is no component.
+    /// Returns the last component up to its extension: the text before its last dot, or the whole
+    /// component if it has no dot after its first character or is `..`. `None` if there is no
+    /// component.
     ///
     /// ```rust
     /// let text = CString16::try_from_str(rt.alloc(), r"\efi\boot.tar.gz")?;
@@ -71,8 +72,8 @@ impl<'a> Path<'a> {
         Some(name.part(0, stem_len(name)))
     }
 
-    /// What stands after the last dot of the last component; it may be empty. `None` where that component
-    /// has no dot after its first character, where it is `..`, and where there is no component.
+    /// Returns the text after the last dot of the last component, which may be empty; `None` if the
+    /// component has no dot after its first character, is `..`, or does not exist.
     ///
     /// ```rust
     /// let text = CString16::try_from_str(rt.alloc(), r"\efi\.efi")?;

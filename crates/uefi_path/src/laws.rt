@@ -1,5 +1,5 @@
-//! The laws by which users of paths reason. They speak of the definitions that the contracts of the
-//! working calls cite. Each law is a function that does nothing: its contract is the law.
+//! The laws of paths, for proofs of callers. They are about the definitions that other contracts
+//! cite. Each law is a function that does nothing: its contract is the law.
 ghost use Rattle.uefi_path.specs.Ancestors.{BeginningsArePrefixes};
 ghost use Rattle.uefi_path.specs.FileNames.{NamedOnce, NamedOrNot};
 ghost use Rattle.uefi_path.specs.Laws.{AreComponentsWhereSame, ComponentsOnce, NoComponentsOfEmpty, OneMoreThanSeparators, TextsHaveComponents};
@@ -21,7 +21,7 @@ pub fn split_once()
     ensures count { OneMoreThanSeparators }
 {}
 
-/// A path is valid exactly where `validate_path` does not refuse it.
+/// A path is valid exactly if `validate_path` does not refuse it.
 #[tactic(auto, using(crate::proofs::Validity::valid_unrefused))]
 pub fn validity()
     ensures { ValidWhereUnrefused }
@@ -38,7 +38,7 @@ pub fn parent_congruence()
     ensures { SameParent }
 {}
 
-/// Paths are totally ordered, equality is an equivalence, and two paths are equal exactly where
+/// Paths are totally ordered, equality is an equivalence, and two paths are equal exactly if
 /// neither is less: where their canonical texts are the same.
 pub fn order_agrees()
     ensures total { OrderIsTotal }
@@ -80,7 +80,7 @@ pub fn parent_shape()
     ensures not_doubled { ParentIsNotDoubled }
 {}
 
-/// The parent of a valid path, where there is one, is valid.
+/// The parent of a valid path, if there is one, is valid.
 #[tactic(auto, using(crate::proofs::ParentForm::valid_parent_text))]
 pub fn parent_valid()
     ensures { ParentIsValid }
@@ -115,7 +115,7 @@ pub fn parent_count()
 {}
 
 /// Each list of pieces has exactly one normal form, `normal_of` it. Two lists have the same one
-/// exactly where deleting `.`, and names with the `..` right after them, leads from both to some list.
+/// exactly if deleting `.`, and names with the `..` right after them, leads from both to some list.
 pub fn normal_unique()
     ensures exists { NormalFormsExist }
     ensures once { NormalFormsOnce }
@@ -123,9 +123,9 @@ pub fn normal_unique()
     ensures agree { NormalFormsAgree }
 {}
 
-/// The normal path of a valid path is valid, holds neither `.` nor `..`, and is its own normal path.
-/// Two valid paths have equal ones exactly where such steps lead from the components of both to some
-/// list of pieces. A normal path has no more units than the path that it is made of.
+/// The normal path of a valid path is valid, holds neither `.` nor `..`, and is its own normal
+/// path. Two valid paths have equal ones exactly if such steps lead from the components of both to
+/// some list of pieces. A normal path has no more units than the path that it is made of.
 pub fn normal_once()
     ensures valid { NormalIsValid }
     ensures names { NormalHoldsNames }

@@ -30,8 +30,8 @@
 //! [`laws`] are what users may reason by: one list of components for each text, equality and order,
 //! what joining does, and what climbing does.
 //!
-//! A contract sees a [`PathBuf`] as its text, a [`Path`] as `path_text` of it, and [`Components`] as
-//! `components_left` of it: the pieces that are still to come. Only this crate knows the places of the
+//! A contract sees a [`PathBuf`] as its text, a [`Path`] as `path_text` of it, and [`Components`]
+//! as `components_left` of it: the pieces that remain. Only this crate knows the places of the
 //! separators: no clause outside speaks of one.
 #![tactic(auto)]
 

@@ -1,5 +1,5 @@
-//! The names of a normal path, found from the last component on. A `..` there says how many names before it
-//! go, so that none has to be kept on the way: no call takes memory.
+//! The names of a normal path, found from the last component on. A `..` there says how many names
+//! before it go, so that none has to be kept on the way: no call allocates.
 #![tactic(auto, using(crate::proofs::Rules::kept_names_rules))]
 
 ghost use Rattle.std.specs.Prelude.{◌≡◌, ◌+◌, ◌<◌, ◌≤◌, ◌^◌, ◌++◌, ◌∷◌, [], All, IsNone, List, None, ℕ, if◌then◌else◌, length, option_map};
@@ -18,8 +18,8 @@ use crate::path::Path;
 use crate::slashed::{cut_last, to_cut};
 use uefi_text::strs::Char16Slice;
 
-/// The names of a normal path that are still to come, from the last one on. In contracts they are
-/// `names_left` of it.
+/// The names of a normal path that remain, from the last one on. In contracts they are `names_left`
+/// of it.
 #[derive(Clone, Copy)]
 pub(crate) struct NamesFromLast<'a> {
     /// What is left to cut, from its end; `None` before the first component.

@@ -28,7 +28,7 @@ pub enum NormalizeError {
     /// The path is not valid, for this reason.
     Invalid(PathError),
 
-    /// The path is valid, and a request for memory was refused.
+    /// The path is valid, but memory ran out.
     OutOfMemory,
 }
 
@@ -44,7 +44,7 @@ impl Printed for NormalizeError {
     }
 }
 
-/// Prints the same.
+/// Prints the same text.
 impl fmt::Display for NormalizeError {
     ghost output = { λ error. Some (normalize_error_text error) };
 
@@ -94,14 +94,14 @@ fn make_normal<A: Allocator + Copy>(
 
 /// Normal paths.
 impl<'a> Path<'a> {
-    /// The normal path, which is owned: each component `.` is deleted, and each name with a `..`
-    /// right after it, until neither is left. A name is any component but `.` and `..`. Where
-    /// nothing is left the normal path is the lone separator.
+    /// Returns the normal path, which is owned. Each component `.` is deleted, and each name with a
+    /// `..` right after it, until neither is left. A name is any component except `.` and `..`. If
+    /// nothing is left, the normal path is a lone separator.
     ///
     /// A path that is not valid is refused as `Invalid`, with the reason that
-    /// [`validate_path`](crate::validation::validate_path) reports; `OutOfMemory` comes last. Takes
-    /// memory as [`PathBuf::from`] does: once for the text, and once for the places of its separators, if
-    /// it has any.
+    /// [`validate_path`](crate::validation::validate_path) reports; `OutOfMemory` comes last.
+    /// Allocates as [`PathBuf::from`] does: once for the text, and once more for the places of its
+    /// separators, if there are any.
     ///
     /// ```rust
     /// let text = CString16::try_from_str(rt.alloc(), r"\efi\.\boot\..\debian")?;

@@ -25,14 +25,14 @@ use uefi_text::chars::SEPARATOR;
 use uefi_text::strs::{CStr16, Char16Slice};
 
 /// A borrowed path: any string, read as components between separators. A contract sees it as
-/// `path_text` of it: its whole text, a leading separator among it.
+/// `path_text` of it: its whole text, a leading separator included.
 #[derive(Clone, Copy)]
 pub struct Path<'a> {
     string: CStr16<'a>,
 }
 
 impl<'a> Path<'a> {
-    /// The path of a string. No slash is replaced. Takes no memory.
+    /// Returns the path of a string. No slash is replaced. Does not allocate.
     ///
     /// ```rust
     /// let text = CString16::try_from_str(rt.alloc(), r"\efi\boot")?;
@@ -45,7 +45,7 @@ impl<'a> Path<'a> {
         Path { string }
     }
 
-    /// The string of the path. Takes no memory.
+    /// Returns the string of the path. Does not allocate.
     ///
     /// See [`Path::new`].
     pub fn to_cstr16(&self) -> CStr16<'a>
@@ -57,9 +57,9 @@ impl<'a> Path<'a> {
         self.string
     }
 
-    /// The components: the pieces between the separators of the canonical text, empty ones too, and none
-    /// of the empty text. They are the only list of pieces without separators that joins to that text,
-    /// where a list of one empty piece does not count. Takes no memory.
+    /// Returns the components: the pieces between the separators of the canonical text, empty ones
+    /// too, and none of the empty text. They are the only list of pieces without separators that
+    /// joins to that text, where a list of one empty piece does not count. Does not allocate.
     ///
     /// ```rust
     /// let text = CString16::try_from_str(rt.alloc(), r"\efi\boot\")?;
@@ -83,7 +83,7 @@ impl<'a> Path<'a> {
         Components::of_canonical(self.string, Rest::of(text))
     }
 
-    /// The last component, or `None` where there is none. It may be empty. Takes no memory.
+    /// Returns the last component, or `None` if there is none. It may be empty. Does not allocate.
     ///
     /// ```rust
     /// let text = CString16::try_from_str(rt.alloc(), r"\efi\shimx64.efi")?;
@@ -100,8 +100,9 @@ impl<'a> Path<'a> {
         Some(text.part(start, text.len()))
     }
 
-    /// Whether the components of this path begin with those of the base. So `\a\bc` starts with `a` and
-    /// with `\a\bc`, and not with `\a\b`; and every path starts with the empty one. Takes no memory.
+    /// Returns whether the components of this path begin with those of the base. So `\a\bc` starts
+    /// with `a` and with `\a\bc`, and not with `\a\b`; and every path starts with the empty one.
+    /// Does not allocate.
     ///
     /// ```rust
     /// let text = CString16::try_from_str(rt.alloc(), r"\efi\boot")?;
@@ -117,8 +118,8 @@ impl<'a> Path<'a> {
         self.strip_prefix(base).is_some()
     }
 
-    /// The components of this path after those of the base, where it starts with the base, as
-    /// [`Path::starts_with`] says; else `None`. Takes no memory.
+    /// Returns the components of this path after those of the base, if it starts with the base, as
+    /// [`Path::starts_with`] says; otherwise `None`. Does not allocate.
     ///
     /// ```rust
     /// let text = CString16::try_from_str(rt.alloc(), r"\efi\boot\bootx64.efi")?;
@@ -139,8 +140,9 @@ impl<'a> Path<'a> {
         self.components().strip(base.components())
     }
 
-    /// Whether the components of this path end with those of another. So `\a\bc` ends with `bc` and with
-    /// `a\bc`, and not with `c`; and every path ends with the empty one. Takes no memory.
+    /// Returns whether the components of this path end with those of another. So `\a\bc` ends with
+    /// `bc` and with `a\bc`, and not with `c`; and every path ends with the empty one. Does not
+    /// allocate.
     ///
     /// ```rust
     /// let text = CString16::try_from_str(rt.alloc(), r"\efi\boot")?;
@@ -156,7 +158,7 @@ impl<'a> Path<'a> {
         self.components().end_with(child.components())
     }
 
-    /// Whether the text is empty. A lone separator is not, though it equals the empty path.
+    /// Returns whether the text is empty. A lone separator is not, though it equals the empty path.
     ///
     /// ```rust
     /// let empty = CString16::new(rt.alloc())?;
@@ -261,7 +263,7 @@ impl<'a> fmt::Debug for Path<'a> {
     }
 }
 
-/// The string of one separator. Takes no memory.
+/// The string of one separator. Does not allocate.
 ///
 /// ```rust
 /// assert_eq!(rt; separator_str().num_chars(), 1);

@@ -15,7 +15,7 @@ ghost use Rattle.uefi_text.specs.Units.{replaced};
 use crate::separators::last_start;
 use uefi_text::chars::{SEPARATOR, SLASH};
 
-/// The unit, or a separator in place of a slash.
+/// Returns the unit, or a separator in place of a slash.
 #[inline(always)]
 pub fn with_separator(unit: u16) -> u16
     ensures { result ≡ replaced slash separator unit }
@@ -112,8 +112,9 @@ fn piece_len(units: &[u16]) -> usize
     find_separator(units).unwrap_or(units.len())
 }
 
-/// The next component of a path from a place in its units on, if there is one: where it begins, and how many
-/// units it has. The place is 0 at first, and then the one after the separator that ends a component.
+/// Returns the next component of a path from a place in its units on, if there is one: where it
+/// begins, and how many units it has. The place is 0 at first, and then the one after the separator
+/// that ends a component.
 pub fn next_component(units: &[u16], place: usize) -> Option<(usize, usize)>
     ensures next { IfSome result (λ found. components_from units.now place
         ≡ slice_range units.now found.0 (found.0 + found.1)

@@ -70,7 +70,7 @@ impl<A: Allocator> Model for PathBuf<A> {
     ghost invariant = { λ path. IsPlain path.string × (path.places.items ≡ places_of path.string) };
 }
 
-/// This many zeros. Takes memory once.
+/// This many zeros. Allocates once.
 fn zeros<A: Allocator>(alloc: A, len: usize) -> Result<Vec<u16, A>, AllocError>
     ensures { IfOk result (λ units. units.items ≡ replicate len 0) }
 {
@@ -79,8 +79,8 @@ fn zeros<A: Allocator>(alloc: A, len: usize) -> Result<Vec<u16, A>, AllocError>
     Ok(units)
 }
 
-/// The parent of a path of these components, each slash replaced. Takes memory once for the text,
-/// and once for the places of its separators, if it has any.
+/// The parent of a path of these components, each slash replaced. Allocates once for the text, and
+/// once for the places of its separators, if it has any.
 fn parent_of<A: Allocator + Copy>(
     alloc: A,
     components: Components<'_>,
@@ -124,7 +124,7 @@ fn replace_slashes<A: Allocator>(string: &mut CString16<A>, has_slash: bool)
     }
 }
 
-/// Where the last component begins, or the length where there is none.
+/// Where the last component begins, or the length if there is none.
 fn name_start(units: &[u16]) -> usize
     ensures within { result ≤ length units.now }
     ensures name { StartsName units.now result (last_or None (components_of units.now)) }
@@ -137,7 +137,7 @@ fn name_start(units: &[u16]) -> usize
 
 /// Owned paths of a borrowed one.
 impl<'a> Path<'a> {
-    /// Copies the path, each slash replaced; or returns `AllocError`. Takes memory as
+    /// Copies the path, with each slash replaced; or returns `AllocError`. Allocates as
     /// [`PathBuf::from`] does.
     ///
     /// ```rust
@@ -151,9 +151,9 @@ impl<'a> Path<'a> {
         PathBuf::from(alloc, self.to_cstr16())
     }
 
-    /// The path with another pushed after it, as [`PathBuf::push`] does, in memory that it owns; or
-    /// `AllocError`. The slashes of both are replaced. Takes memory of the size needed for the text of
-    /// both, and for the places of their separators.
+    /// Returns an owned path: this path with another pushed after it, as [`PathBuf::push`] does; or
+    /// `AllocError`. The slashes of both are replaced. Allocates exactly what the text of both and
+    /// the places of their separators need.
     ///
     /// ```rust
     /// let base = CString16::try_from_str(rt.alloc(), r"\efi")?;
@@ -173,13 +173,14 @@ impl<'a> Path<'a> {
         PathBuf::from_string(alloc, string)?.with_pushed(path)
     }
 
-    /// The parent, each slash replaced; or `AllocError`.
+    /// Returns the parent, with each slash replaced; or `AllocError`.
     ///
-    /// The parent is the path without its last component. A path of at most one component has none: that
-    /// takes no memory and is never refused. Of the components before the last the empty ones are left
-    /// out; where the last of them is empty and another is not, a separator ends the parent. So the
-    /// parent of `a\\b` is `a\`. A parent is shorter than the path, so climbing from parent to parent
-    /// ends. Takes memory once for the text, and once for the places of its separators, if it has any.
+    /// The parent is the path without its last component. A path of at most one component has none;
+    /// the call then allocates nothing and never fails. Empty components before the last are left
+    /// out. If the last of them is empty and another is not, a separator ends the parent: the
+    /// parent of `a\\b` is `a\`. A parent is shorter than the path, so climbing from parent to
+    /// parent ends. Allocates once for the text, and once more for the places of its separators, if
+    /// there are any.
     ///
     /// ```rust
     /// let text = CString16::try_from_str(rt.alloc(), r"\efi\boot")?;
@@ -208,7 +209,7 @@ impl<'a> Path<'a> {
 }
 
 impl<A: Allocator + Copy> PathBuf<A> {
-    /// The empty path, or `AllocError`: its NUL takes memory.
+    /// Returns the empty path, or `AllocError`: its NUL takes memory.
     ///
     /// ```rust
     /// let path = PathBuf::new(rt.alloc())?;
@@ -238,8 +239,8 @@ impl<A: Allocator + Copy> PathBuf<A> {
         }
     }
 
-    /// Copies a string into a path, each slash replaced; or returns `AllocError`. Takes memory once
-    /// for the text, and once for the places of its separators, if it has any.
+    /// Creates a path from a string, with each slash replaced; or returns `AllocError`. Allocates
+    /// once for the text, and once more for the places of its separators, if there are any.
     ///
     /// ```rust
     /// let text = CString16::try_from_str(rt.alloc(), r"/efi\boot")?;
@@ -252,10 +253,10 @@ impl<A: Allocator + Copy> PathBuf<A> {
         PathBuf::from_string(alloc, string.to_owned(alloc)?)
     }
 
-    /// Takes over a string as a path, each slash replaced, without a copy. Where memory for the
-    /// places of its separators is refused, the result is an `Err` with the unchanged string.
+    /// Turns a string into a path without a copy, with each slash replaced. If memory for the
+    /// places of its separators runs out, the result is an `Err` with the unchanged string.
     ///
-    /// Takes memory once, and none for a text without separators and slashes.
+    /// Allocates once, and not at all for a text without separators and slashes.
     ///
     /// ```rust
     /// let text = CString16::try_from_str(rt.alloc(), "efi/boot")?;
@@ -275,12 +276,12 @@ impl<A: Allocator + Copy> PathBuf<A> {
         Ok(PathBuf { string, places })
     }
 
-    /// Pushes a path after this one, its slashes replaced, with a separator between the two where
-    /// this one is not empty and does not end in one; or returns `AllocError`, and the path is
-    /// unchanged.
+    /// Pushes a path after this one, with its slashes replaced. If this path is not empty and does
+    /// not end in a separator, one is added between the two. Or returns `AllocError`, and the path
+    /// is unchanged.
     ///
-    /// The empty path changes nothing, takes no memory and is never refused. Any other takes memory where
-    /// text or places have no room: once for the text, and for the places as they come.
+    /// The empty path changes nothing, allocates nothing and never fails. Any other path allocates
+    /// if the text or the places have no room: once for the text, and for the places as they come.
     ///
     /// ```rust
     /// let text = CString16::try_from_str(rt.alloc(), "efi/boot")?;
@@ -300,7 +301,7 @@ impl<A: Allocator + Copy> PathBuf<A> {
     /// Pushes a text as [`PathBuf::push`] pushes its path, and reads each of its units once: the
     /// count of reads rises by their number.
     ///
-    /// Where memory is refused the count rises by at most that. The last character of this path is read
+    /// If memory runs out the count rises by at most that. The last character of this path is read
     /// too, which is not counted.
     ///
     /// ```rust
@@ -329,8 +330,8 @@ impl<A: Allocator + Copy> PathBuf<A> {
         done
     }
 
-    /// Adds a separator, if one is missing, and the units of a text, each slash replaced. Where memory is
-    /// refused, a part of this may have been added.
+    /// Adds a separator, if one is missing, and the units of a text, each slash replaced. If memory
+    /// runs out, a part of this may have been added.
     fn push_all(&mut self, units: &mut CountedUnits<'_>) -> Result<(), AllocError>
         ensures ok { OnOk result (self.new ≡ appended self.old (with_separators (counted_text units.old))) }
         ensures begins { take (length self.old) self.new ≡ self.old }
@@ -437,7 +438,8 @@ impl<A: Allocator + Copy> PathBuf<A> {
         Ok(PathBuf { string, places })
     }
 
-    /// The path with another pushed after it, as [`Path::join`], in memory of the same allocator.
+    /// Returns the path with another pushed after it, as [`Path::join`], in memory of the same
+    /// allocator.
     ///
     /// ```rust
     /// let text = CString16::try_from_str(rt.alloc(), r"\efi")?;
@@ -451,9 +453,9 @@ impl<A: Allocator + Copy> PathBuf<A> {
         self.clone_with_room(path)?.with_pushed(path)
     }
 
-    /// The path without its last component, as [`Path::parent`], in memory of the same allocator. The
-    /// components are cut by the places of the separators. A parent of n components has n - 1 successive
-    /// parents, or none where n is 0.
+    /// Returns the path without its last component, as [`Path::parent`], in memory of the same
+    /// allocator. The components are cut by the places of the separators. A parent of n components
+    /// has n - 1 successive parents, or none where n is 0.
     ///
     /// ```rust
     /// let text = CString16::try_from_str(rt.alloc(), r"\efi\boot")?;
@@ -475,8 +477,9 @@ impl<A: Allocator + Copy> PathBuf<A> {
         parent_of(self.alloc(), self.components())
     }
 
-    /// Removes the last component and the separator before it, and says whether it did. A path of at most
-    /// one component stays as it is, as it has no parent. Takes no memory and gives none back.
+    /// Removes the last component and the separator before it, and returns whether it did. A path
+    /// of at most one component is unchanged, because it has no parent. Neither allocates nor frees
+    /// memory.
     ///
     /// ```rust
     /// let text = CString16::try_from_str(rt.alloc(), r"\efi\boot")?;
@@ -512,8 +515,8 @@ impl<A: Allocator + Copy> PathBuf<A> {
         PathBuf::from_string(self.alloc(), string)
     }
 
-    /// Replaces the last component by a name, each slash of it replaced; a path without components
-    /// gets the name. Or returns `AllocError`, and the path is unchanged. Takes memory as
+    /// Replaces the last component by a name, with each of its slashes replaced. A path without
+    /// components gets the name. Or returns `AllocError`, and the path is unchanged. Allocates as
     /// [`PathBuf::from`] does.
     ///
     /// ```rust
@@ -550,10 +553,10 @@ impl<A: Allocator + Copy> PathBuf<A> {
         self.with_end(len, end.as_cstr16())
     }
 
-    /// Puts an extension after the stem of the last component, with a dot before it and each slash
-    /// replaced; the empty one takes the extension away. Returns whether there is a component; or
-    /// `AllocError`, and the path is unchanged. Takes memory as [`PathBuf::from`] does, and once for
-    /// the extension, where it is not empty.
+    /// Replaces the extension of the last component, with a dot before it and each slash replaced.
+    /// The empty extension removes the old one. Returns whether there is a component; or
+    /// `AllocError`, and the path is unchanged. Allocates as [`PathBuf::from`] does, and once for
+    /// the extension, if it is not empty.
     ///
     /// ```rust
     /// let text = CString16::try_from_str(rt.alloc(), r"\efi\boot.bak")?;
@@ -578,7 +581,7 @@ impl<A: Allocator + Copy> PathBuf<A> {
         Ok(true)
     }
 
-    /// Makes the path empty. Takes no memory and gives none back.
+    /// Makes the path empty. Neither allocates nor frees memory.
     ///
     /// ```rust
     /// let mut path = PathBuf::from(rt.alloc(), separator_str())?;
@@ -592,7 +595,7 @@ impl<A: Allocator + Copy> PathBuf<A> {
         self.places.clear();
     }
 
-    /// Borrows the path. Takes no memory.
+    /// Borrows the path. Does not allocate.
     pub fn as_path(&self) -> Path<'_>
         ensures same { path_text result ≡ self.now }
         ensures plain { IsPlain self.now }
@@ -600,7 +603,7 @@ impl<A: Allocator + Copy> PathBuf<A> {
         Path::new(self.string.as_cstr16())
     }
 
-    /// Borrows the string of the path. Takes no memory.
+    /// Borrows the string of the path. Does not allocate.
     pub fn to_cstr16(&self) -> CStr16<'_>
         ensures same { text_of result ≡ self.now }
         ensures is_text { IsText (text_of result) }
@@ -608,7 +611,7 @@ impl<A: Allocator + Copy> PathBuf<A> {
         self.string.as_cstr16()
     }
 
-    /// Gives back the string that the path owns. Takes no memory.
+    /// Gives back the string that the path owns. Does not allocate.
     ///
     /// ```rust
     /// let path = PathBuf::from(rt.alloc(), separator_str())?;
@@ -622,14 +625,14 @@ impl<A: Allocator + Copy> PathBuf<A> {
         string
     }
 
-    /// Whether the text is empty. A lone separator is not, though it equals the empty path.
+    /// Returns whether the text is empty. A lone separator is not, though it equals the empty path.
     pub fn is_empty(&self) -> bool
         ensures { IsTrue result ↔ (self.now ≡ []) }
     {
         self.string.is_empty()
     }
 
-    /// The components, as [`Path::components`].
+    /// Returns the components, as [`Path::components`].
     pub fn components(&self) -> Components<'_>
         ensures same { components_left result ≡ components_of self.now }
         ensures components { AreComponents self.now (components_left result) }
@@ -656,7 +659,7 @@ impl<A: Allocator + Copy> PathBuf<A> {
         Rest::placed(text, 0, places)
     }
 
-    /// The last component, as [`Path::file_name`].
+    /// Returns the last component, as [`Path::file_name`].
     pub fn file_name(&self) -> Option<Char16Slice<'_>>
         ensures same { option_map units_of result ≡ last_or None (components_of self.now) }
         ensures is_text { IfSome result (λ name. IsText (units_of name)) }
@@ -664,14 +667,15 @@ impl<A: Allocator + Copy> PathBuf<A> {
         self.as_path().file_name()
     }
 
-    /// Whether the components of this path begin with those of the base, as [`Path::starts_with`].
+    /// Returns whether the components of this path begin with those of the base, as
+    /// [`Path::starts_with`].
     pub fn starts_with(&self, base: Path<'_>) -> bool
         ensures { IsTrue result ↔ StartsWith self.now (path_text base.entry) }
     {
         self.strip_prefix(base).is_some()
     }
 
-    /// The components of this path after those of the base, as [`Path::strip_prefix`].
+    /// Returns the components of this path after those of the base, as [`Path::strip_prefix`].
     pub fn strip_prefix(&self, base: Path<'_>) -> Option<Components<'_>>
         ensures starts { IsSome result ↔ StartsWith self.now (path_text base.entry) }
         ensures rest { IfSome result (λ rest.

@@ -102,7 +102,7 @@ fn separator_bits(units: &[u16]) -> (u64, usize)
     (separator_bits_few(units), units.len())
 }
 
-/// The separators of units that are still to come. In contracts they are `places_left` of it.
+/// The separators of units that remain. In contracts they are `places_left` of it.
 #[derive(Clone, Copy)]
 pub(crate) struct Separators<'a> {
     /// The places of the first ones, where they are known.

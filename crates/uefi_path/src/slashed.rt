@@ -88,7 +88,7 @@ fn canonical_start(units: &[u16]) -> usize
     }
 }
 
-/// What the components of a path are cut from, where slashes separate them too; `None` where there is
+/// What the components of a path are cut from, where slashes separate them too; `None` if there is
 /// none.
 pub(crate) fn to_cut(path: Path<'_>) -> Option<Char16Slice<'_>>
     ensures same { slashed_left result ≡ components_of (with_separators (path_text path.entry)) }

@@ -54,7 +54,7 @@ impl Printed for PathError {
     }
 }
 
-/// Prints the same.
+/// Prints the same text.
 impl fmt::Display for PathError {
     ghost output = { λ error. Some (path_error_text error) };
 
@@ -109,7 +109,7 @@ pub(crate) fn find_fault(component: Char16Slice<'_>) -> Option<PathError>
     find_denied(component).map(PathError::IllegalChar)
 }
 
-/// How many names are left after a component, where there were this many before it; `None` where the
+/// How many names are left after a component, where there were this many before it; `None` if the
 /// component climbs above where the path starts.
 pub(crate) fn depth_after(depth: usize, component: Char16Slice<'_>) -> Option<usize>
     requires { depth + 1 < 2 ^ 64 }
@@ -155,7 +155,7 @@ pub(crate) fn judge(path: Path<'_>) -> Result<bool, PathError>
 /// [`CHARACTER_DENY_LIST`] as `IllegalChar` of its first such, and a `..` as `ClimbsAboveRoot`
 /// where the components before it hold at least as many `..` as names. A `.` is no name.
 ///
-/// Takes no memory.
+/// Does not allocate.
 ///
 /// ```rust
 /// let text = CString16::try_from_str(rt.alloc(), r"\efi\..\boot")?;

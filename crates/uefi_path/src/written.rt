@@ -1,4 +1,4 @@
-//! Paths that are made in a caller's buffer: whole, or not at all. No call takes memory.
+//! Paths that are made in a caller's buffer: whole, or not at all. No call allocates.
 ghost use Rattle.std.specs.Prelude.{◌≡◌, ℕ, ◌+◌, ◌-◌, ◌<◌, ◌≤◌, ◌^◌, [], ◌∷◌, ◌++◌, All, IfErr, List, Some, drop, if◌then◌else◌, length, max, nat_lt, take};
 ghost use Rattle.uefi_path.specs.Components.{IsPiece, components_of, joined};
 ghost use Rattle.uefi_path.specs.NormalForms.{normal_of, normal_text};
@@ -100,7 +100,7 @@ pub(crate) fn sink_parent(buffer: &mut [u16], mut components: Components<'_>) ->
     Some(len)
 }
 
-/// How many units the parent of a path of these components has, if it has one.
+/// The number of units of the parent of a path of these components, if it has one.
 pub(crate) fn parent_len(components: &Components<'_>) -> Option<usize>
     requires texts { All IsText (components_left components.now) }
     requires pieces { All IsPiece (components_left components.now) }
@@ -227,7 +227,7 @@ impl Printed for NormalWriteError {
     }
 }
 
-/// Prints the same.
+/// Prints the same text.
 impl fmt::Display for NormalWriteError {
     ghost output = { λ error. Some (normal_write_error_text error) };
 
@@ -238,9 +238,9 @@ impl fmt::Display for NormalWriteError {
 
 impl Error for NormalWriteError {}
 
-/// Paths in a caller's buffer. Each call writes a NUL after the path and returns the length of the path
-/// without it. What follows the NUL is unchanged. A buffer that is too small is unchanged. No call takes
-/// memory.
+/// Paths in a caller's buffer. Each call writes a NUL after the path and returns the length of the
+/// path without it. The rest of the buffer is unchanged. A buffer that is too small is unchanged.
+/// No call allocates.
 impl<'a> Path<'a> {
     /// Writes the parent, which [`Path::parent`] makes, to the start of a buffer; or returns `Ok(None)`,
     /// if the path has at most one component, and the buffer is unchanged.

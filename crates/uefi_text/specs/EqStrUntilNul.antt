@@ -11,7 +11,7 @@ IsPrefix xs ys = (rest : List ℕ) × (ys ≡ xs ++ rest)
 abbrev pub OneIsPrefixOfOther : List ℕ → List ℕ → Type 0
 OneIsPrefixOfOther xs ys = IsPrefix xs ys ⊎ IsPrefix ys xs
 
--- the text, or what stands before the first NUL of the other, all of it where it has none, is a
--- prefix of the other of these two
+-- of the text, and the other text up to its first NUL or whole if it has none, one is a prefix of
+-- the other
 abbrev pub IsEqualUntilNul : List ℕ → List ℕ → Type 0
 IsEqualUntilNul text other = OneIsPrefixOfOther text (before_first is_nul other)

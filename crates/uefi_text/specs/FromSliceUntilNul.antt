@@ -9,7 +9,7 @@ abbrev pub until_nul_refusal_at : List ℕ → Option ℕ → Option FromSliceUn
 until_nul_refusal_at units None = Some NoNul
 until_nul_refusal_at units (Some i) = if slice_index units i == 0 then None else Some (InvalidChar i)
 
--- the refusal of units, or none where what stands before their first NUL is a text
+-- the refusal of units, or none if the units before their first NUL are a text
 abbrev pub until_nul_refusal : List ℕ → Option FromSliceUntilNulError
 until_nul_refusal units = until_nul_refusal_at units (deciding_place units)
 
@@ -18,6 +18,6 @@ abbrev pub missing_nul_refusal_at : Option ℕ → Option FromSliceUntilNulError
 missing_nul_refusal_at None = Some NoNul
 missing_nul_refusal_at (Some i) = None
 
--- the refusal of characters, among which there are no surrogates, or none where one of them is a NUL
+-- the refusal of characters, which are never surrogates, or none if one of them is a NUL
 abbrev pub missing_nul_refusal : List ℕ → Option FromSliceUntilNulError
 missing_nul_refusal characters = missing_nul_refusal_at (position is_nul characters)

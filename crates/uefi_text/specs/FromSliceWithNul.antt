@@ -17,7 +17,7 @@ abbrev pub with_nul_refusal_at : List ℕ → Option ℕ → Option FromSliceWit
 with_nul_refusal_at units None = Some NotNulTerminated
 with_nul_refusal_at units (Some i) = deciding_refusal (slice_index units i) i (length units)
 
--- the refusal of units, or none where they are a NUL-terminated string
+-- the refusal of units, or none if they are a NUL-terminated string
 abbrev pub with_nul_refusal : List ℕ → Option FromSliceWithNulError
 with_nul_refusal units = with_nul_refusal_at units (deciding_place units)
 
@@ -26,7 +26,7 @@ abbrev pub first_nul_refusal_at : List ℕ → Option ℕ → Option FromSliceWi
 first_nul_refusal_at elements None = Some NotNulTerminated
 first_nul_refusal_at elements (Some i) = if i + 1 == length elements then None else Some (InteriorNul i)
 
--- the refusal of bytes of Latin-1, or of characters, among which there are no surrogates; or none
--- where they are a NUL-terminated string
+-- the refusal of Latin-1 bytes, or of characters, which are never surrogates; or none if they are a
+-- NUL-terminated string
 abbrev pub first_nul_refusal : List ℕ → Option FromSliceWithNulError
 first_nul_refusal elements = first_nul_refusal_at elements (position is_nul elements)

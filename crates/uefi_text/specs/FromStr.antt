@@ -16,6 +16,6 @@ abbrev pub refusal_of_char : Option ℕ → Option FromStrError
 refusal_of_char None = None
 refusal_of_char (Some c) = if c == 0 then Some InteriorNul else Some InvalidChar
 
--- the refusal of characters, or none where they are a UCS-2 text
+-- the refusal of characters, or none if they are a UCS-2 text
 abbrev pub from_str_refusal : List ℕ → Option FromStrError
 from_str_refusal characters = refusal_of_char (find is_deciding_char characters)

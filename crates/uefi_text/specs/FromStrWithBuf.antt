@@ -11,11 +11,11 @@ use Rattle.uefi_text.specs.declared.errors.FromStrWithBufError.TheVariants.{Inva
 abbrev pub utf16 : List ℕ → List ℕ
 utf16 characters = flat_map encode_utf16 characters
 
--- a buffer with units written into its prefix, as many of them as it has places for
+-- a buffer with units written to its start, as many as fit
 abbrev pub with_units : List ℕ → List ℕ → List ℕ
 with_units units buffer = take (length buffer) units ++ drop (length units) buffer
 
--- a buffer with the UTF-16 of characters and a NUL written into its prefix, likewise
+-- a buffer with the UTF-16 of characters and a NUL written to its start, as many as fit
 abbrev pub with_text : List ℕ → List ℕ → List ℕ
 with_text characters buffer = with_units (nul_terminated (utf16 characters)) buffer
 
@@ -28,7 +28,7 @@ abbrev pub from_str_with_buf_refusal_at : List ℕ → Option ℕ → Option Fro
 from_str_with_buf_refusal_at characters None = None
 from_str_with_buf_refusal_at characters (Some i) = Some (refusal_of_char_at (slice_index characters i) i)
 
--- the refusal of characters at a buffer of `room` places, which have to be more than their units
+-- the refusal of characters at a buffer of `room` places, which must be more than their units
 abbrev pub from_str_with_buf_refusal : List ℕ → ℕ → Option FromStrWithBufError
 from_str_with_buf_refusal characters room =
     if nat_lt (length (utf16 characters)) room

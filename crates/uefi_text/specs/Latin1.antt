@@ -2,7 +2,7 @@
 use Rattle.std.specs.Prelude.{◌≤◌, ℕ, List, All}
 use Rattle.uefi_text.specs.Units.{IsNulTerminated}
 
--- characters of Latin-1: none above U+00FF
+-- characters of Latin-1, none of them above U+00FF
 abbrev pub IsLatin1 : List ℕ → Type 0
 IsLatin1 characters = All (λ c. c ≤ 0xff) characters
 

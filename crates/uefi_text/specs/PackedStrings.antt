@@ -3,7 +3,7 @@ use Rattle.std.specs.Prelude.{◌≡◌, ℕ, List, ◌++◌}
 use Rattle.uefi_text.specs.UnitBytes.{unit_bytes}
 use Rattle.uefi_text.specs.Units.{IsNulTerminated}
 
--- bytes are those of these units, of which exactly the last is a NUL, and then `rest`
+-- the bytes encode these units, whose only NUL is the last unit, and then `rest` follows
 pub record SplitsUntilNul (bytes units rest : List ℕ) : Type 0 where
   pub ends : IsNulTerminated units
   pub join : bytes ≡ unit_bytes units ++ rest

@@ -5,14 +5,14 @@ use Rattle.std.specs.Iterator.Adapters.{copied_source, copied_steps}
 use Rattle.std.specs.Iterator.Runs.{AllItems, EachRunFrom, EveryRun, ItemsMapTo}
 use Rattle.std.specs.Slice.Iter.{iter_rest, iter_steps}
 
--- each run of calls from here gives in order the items that `left` shows, each seen by `view`: the
--- first ones, as many as there were calls, and all where it came to an end
+-- each run of calls from here gives the items of `left` in order, each seen by `view`: as many as
+-- there were calls, or all items if the run reached the end
 abbrev pub GivesEach : {S A B : Type 0} → (A → B) → (S → List B) → S → Type 0
 GivesEach view left here =
     EachRunFrom (YieldsFirstBy view left) here (λ run.
     ItemsMapTo run view (left here) × (map view run.items ≡ take run.len (left here)))
 
--- an iterator has this list left, whose length is a `usize`, and gives it in order
+-- an iterator gives exactly this list in order, and the list's length is a `usize`
 abbrev pub GivesAll : {S A B : Type 0} → (A → B) → (S → List B) → S → List B → Type 0
 GivesAll view left here items = (left here ≡ items) × (length (left here) < 2 ^ 64) × GivesEach view left here
 
@@ -20,7 +20,7 @@ GivesAll view left here items = (left here ≡ items) × (length (left here) < 2
 abbrev pub GivesNoNul : {S : Type 0} → (S → Option ℕ → S → Type 0) → S → Type 0
 GivesNoNul steps here = EachRunFrom steps here (λ run. AllItems run (λ c. c ≢ 0))
 
--- no run of copied items of a slice, from where these are left, gives a NUL
+-- no run of copied items gives a NUL, from any position of the slice's iterator
 abbrev pub CopiesNoNul : List ℕ → Type 0
 CopiesNoNul characters = EveryRun (copied_steps (iter_steps {A = ℕ})) (λ run.
     iter_rest (copied_source run.from) ≡ characters → AllItems run (λ c. c ≢ 0))

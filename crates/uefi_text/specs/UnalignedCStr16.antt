@@ -22,7 +22,7 @@ unaligned_refusal units room =
     then Some unaligned.BufferTooSmall
     else option_map refusal_in_buffer (with_nul_refusal units)
 
--- a buffer with units written into its prefix, or unchanged where they have no room
+-- a buffer with units written to its start, or unchanged if they do not fit
 abbrev pub with_prefix : List ℕ → List ℕ → List ℕ
 with_prefix units buffer =
     if nat_lt (length buffer) (length units) then buffer else units ++ drop (length units) buffer

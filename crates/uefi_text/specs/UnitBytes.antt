@@ -7,16 +7,16 @@ use Rattle.uefi_text.specs.Units.{IsText, nul_terminated}
 use Rattle.uefi_text.specs.declared.errors.FromSliceWithNulError.{FromSliceWithNulError}
 use Rattle.uefi_text.specs.declared.errors.FromSliceWithNulError.TheVariants.{NotNulTerminated}
 
--- the bytes of code units, two for each, the low one first
+-- the bytes of code units, two bytes each, the low byte first
 abbrev pub unit_bytes : List ℕ → List ℕ
 unit_bytes [] = []
 unit_bytes (unit ∷ units) = unit % 256 ∷ unit / 256 ∷ unit_bytes units
 
--- bytes that encode a text: those of the text and its NUL
+-- the bytes encode a text and its NUL
 abbrev pub BytesEncode : List ℕ → List ℕ → Type 0
 BytesEncode bytes text = IsText text × (bytes ≡ unit_bytes (nul_terminated text))
 
--- the code units that bytes encode, two bytes each, where their number is even
+-- the code units that bytes encode, two bytes each, if the number of bytes is even
 abbrev pub units_of_bytes : List ℕ → List ℕ
 units_of_bytes bytes = packed_items 2 (length bytes / 2) bytes
 
@@ -24,7 +24,8 @@ units_of_bytes bytes = packed_items 2 (length bytes / 2) bytes
 abbrev pub ends_in_nul : List ℕ → Bool
 ends_in_nul bytes = (length bytes % 2 == 0) && ends_with nat_eq bytes (0 ∷ 0 ∷ [])
 
--- the refusal of bytes, or none where they encode a text: they end in a NUL, and then their units decide
+-- the refusal of bytes, or none if they encode a text: they must end in a NUL, and then their units
+-- decide
 abbrev pub unit_bytes_refusal : List ℕ → Option FromSliceWithNulError
 unit_bytes_refusal bytes =
     if ends_in_nul bytes then with_nul_refusal (units_of_bytes bytes) else Some NotNulTerminated

@@ -16,16 +16,16 @@ pub record AreSunk (units old buffer : List ℕ) (len : ℕ) : Type 0 where
   pub count : len ≡ min (length units) (2 ^ 64 - 1)
   pub written : buffer ≡ take (length old) units ++ drop (length units) old
 
--- how many places a text and its NUL need, as far as a `usize` counts
+-- the number of places for a text and its NUL, at most the largest `usize`
 abbrev pub places_needed : List ℕ → ℕ
 places_needed text = min (length text + 1) (2 ^ 64 - 1)
 
--- what is returned where a text and a NUL are written into a buffer: the length of the text, or, if the
--- buffer has too few places, how many the two need
+-- the result of writing a text and a NUL into a buffer: the length of the text, or the number of
+-- places that both need if the buffer is too small
 abbrev pub written_len : List ℕ → List ℕ → Result ℕ BufferTooSmall
 written_len text buffer = if nat_lt (length text) (length buffer)
     then Ok (length text) else Err (record { 0 = places_needed text })
 
--- what is printed of a buffer that is too small
+-- the text of an error for a buffer that is too small
 abbrev pub buffer_too_small_text : BufferTooSmall → List ℕ
 buffer_too_small_text error = codes "buffer too small: " ++ decimal error.0 ++ codes " units are needed"

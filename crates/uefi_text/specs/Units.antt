@@ -5,7 +5,7 @@ use Rattle.std.specs.Prelude.{◌≡◌, ◌≢◌, ℕ, ◌-◌, ◌<◌, ◌�
 abbrev pub IsSurrogate : ℕ → Type 0
 IsSurrogate u = (0xd800 ≤ u) × (u ≤ 0xdfff)
 
--- a character of UCS-2, NUL among them: a code unit that is no surrogate
+-- a character of UCS-2, including NUL: a code unit that is not a surrogate
 abbrev pub IsChar16 : ℕ → Type 0
 IsChar16 u = (u ≤ 0xffff) × ¬ IsSurrogate u
 
@@ -13,7 +13,7 @@ IsChar16 u = (u ≤ 0xffff) × ¬ IsSurrogate u
 abbrev pub IsTextUnit : ℕ → Type 0
 IsTextUnit u = (0 < u) × IsChar16 u
 
--- a text: neither a NUL nor a surrogate in it
+-- a text: it contains neither a NUL nor a surrogate
 abbrev pub IsText : List ℕ → Type 0
 IsText units = All IsTextUnit units
 
@@ -55,7 +55,7 @@ is_deciding u = is_nul u || is_surrogate u
 abbrev pub deciding_place : List ℕ → Option ℕ
 deciding_place units = position is_deciding units
 
--- what stands for a unit once `replace` has taken the place of `search`
+-- a unit after `replace` took the place of `search`
 abbrev pub replaced : ℕ → ℕ → ℕ → ℕ
 replaced search replace unit = if unit == search then replace else unit
 

@@ -19,11 +19,11 @@ bytes_of string = string.bytes.now
 unfoldable pub text_of : CStr16 → List ℕ
 text_of string = without_nul string.units.now
 
--- the code units of characters that lie side by side
+-- the code units of adjacent characters
 unfoldable pub units_of : Char16Slice → List ℕ
 units_of part = part.units.now
 
--- the code units of the characters that are still to come
+-- the code units of the remaining characters
 unfoldable pub units_left : CStr16Iter → List ℕ
 units_left iter = iter.units.now
 
@@ -31,7 +31,7 @@ units_left iter = iter.units.now
 unfoldable pub read_units : CountedReader → List ℕ
 read_units reader = reader.units.now
 
--- how many units it has read
+-- the number of units that the reader has read
 unfoldable pub read_count : CountedReader → ℕ
 read_count reader = reader.count.number
 
@@ -40,10 +40,10 @@ module _ {T : Type 0} {P : _} where
   unfoldable pub items_of : UnalignedSlice T P → List ℕ
   items_of slice = packed_items P.SIZE slice.len slice.bytes.now
 
-  -- the numbers of the items that are still to come
+  -- the numbers of the remaining items
   unfoldable pub items_left : UnalignedSliceIter T P → List ℕ
   items_left iter = items_of iter.rest
 
-  -- the numbers of the items that are still to come of the iterator that a slice becomes
+  -- the numbers of the remaining items of a slice's owning iterator
   unfoldable pub into_iter_items_left : UnalignedSliceIntoIter T P → List ℕ
   into_iter_items_left iter = items_left iter.items

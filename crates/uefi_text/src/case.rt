@@ -1,5 +1,6 @@
-//! Upper and lower case, and strings compared without it, as the firmware's Unicode collation does for
-//! English: `StriColl`, `StrUpr` and `StrLwr` (UEFI Specification 2.10, section 21.1). No call takes memory.
+//! Upper and lower case, and strings compared without it, as the firmware's Unicode collation does
+//! for English: `StriColl`, `StrUpr` and `StrLwr` (UEFI Specification 2.10, section 21.1). No call
+//! allocates.
 //!
 //! The functions take any units, surrogates included, because names on FAT volumes may hold them. Strings and
 //! slices of characters have methods of the same names.
@@ -23,7 +24,7 @@ fn is_lowercase(unit: u16) -> bool
     matches!(unit, 0x61..=0x7a | 0xe0..=0xf6 | 0xf8..=0xfe)
 }
 
-/// A unit in upper case.
+/// Returns a unit in upper case.
 ///
 /// ```rust
 /// assert_eq!(rt; case::upper(0xe9), 0xc9);
@@ -36,7 +37,7 @@ pub fn upper(unit: u16) -> u16
     if is_lowercase(unit) { unit - 32 } else { unit }
 }
 
-/// A unit in lower case.
+/// Returns a unit in lower case.
 ///
 /// ```rust
 /// assert_eq!(rt; case::lower(0x51), 0x71);
@@ -106,8 +107,8 @@ pub fn make_lowercase(units: &mut [u16])
     set_case(units, Case::Lower);
 }
 
-/// How units compare without case: by the first that differ in upper case, and where one list of units is a
-/// prefix of the other, the shorter is less.
+/// Returns how units compare without case: by the first that differ in upper case, and where one
+/// list of units is a prefix of the other, the shorter is less.
 ///
 /// ```rust
 /// assert!(rt; case::cmp_ignore_case(&[0x61, 0xd800], &[0x41, 0xd801]).is_lt());
@@ -124,7 +125,7 @@ pub fn cmp_ignore_case(units: &[u16], others: &[u16]) -> Ordering
     units.len().cmp(&others.len())
 }
 
-/// Whether units are the same without case.
+/// Returns whether units are the same without case.
 ///
 /// ```rust
 /// assert!(rt; case::eq_ignore_case(&[0x61, 0xd800], &[0x41, 0xd800]));
@@ -136,7 +137,7 @@ pub fn eq_ignore_case(units: &[u16], others: &[u16]) -> bool
 }
 
 impl Char16 {
-    /// The character in upper case.
+    /// Returns the character in upper case.
     ///
     /// ```rust
     /// let e = Char16::try_from_char('é')?;
@@ -149,7 +150,7 @@ impl Char16 {
         Char16::from_unit(upper(u16::from(*self)))
     }
 
-    /// The character in lower case.
+    /// Returns the character in lower case.
     ///
     /// ```rust
     /// let sharp = Char16::try_from_char('ẞ')?;
@@ -164,7 +165,7 @@ impl Char16 {
 }
 
 impl<'a> CStr16<'a> {
-    /// Whether both strings are the same without case: their texts in upper case are.
+    /// Returns whether both strings are the same without case: their texts in upper case are.
     ///
     /// ```rust
     /// let shim = CString16::try_from_str(rt.alloc(), "Shimx64.efi")?;
@@ -177,8 +178,9 @@ impl<'a> CStr16<'a> {
         eq_ignore_case(self.to_u16_slice(), other.to_u16_slice())
     }
 
-    /// How both strings compare without case, as `StriColl` compares them: by the first characters that
-    /// differ in upper case, and where one text is a prefix of the other, the shorter is less.
+    /// Returns how both strings compare without case, as `StriColl` compares them: by the first
+    /// characters that differ in upper case, and where one text is a prefix of the other, the
+    /// shorter is less.
     ///
     /// ```rust
     /// let (one, two) = (&[0x61, 0x42, 0], &[0x41, 0x63, 0]);
@@ -194,7 +196,7 @@ impl<'a> CStr16<'a> {
 }
 
 impl<'a> Char16Slice<'a> {
-    /// Whether both slices are the same without case, as [`CStr16::eq_ignore_case`].
+    /// Returns whether both slices are the same without case, as [`CStr16::eq_ignore_case`].
     ///
     /// ```rust
     /// let name = CString16::try_from_str(rt.alloc(), "boot.EFI")?;
@@ -208,7 +210,7 @@ impl<'a> Char16Slice<'a> {
         eq_ignore_case(self.units(), other.units())
     }
 
-    /// How both slices compare without case, as [`CStr16::cmp_ignore_case`].
+    /// Returns how both slices compare without case, as [`CStr16::cmp_ignore_case`].
     ///
     /// ```rust
     /// let name = CString16::try_from_str(rt.alloc(), "Bootx")?;

@@ -41,8 +41,8 @@ pub trait CharSink {
     }
 }
 
-/// Any character may be refused: no contract can say that memory is there. It is refused only where
-/// memory is.
+/// Any character may be refused, because no contract can state that an allocation succeeds. It is
+/// refused only if memory runs out.
 impl<A: Allocator> CharSink for String<A> {
     ghost text = { string_bytes };
 
@@ -61,7 +61,7 @@ impl<A: Allocator> CharSink for String<A> {
     }
 }
 
-/// Refuses a character exactly where the text with it would pass `N` bytes. Takes no memory.
+/// Refuses a character exactly if the text with it would pass `N` bytes. Does not allocate.
 impl<const N: usize> CharSink for ArrayString<N> {
     ghost text = { λ string. string.bytes };
 

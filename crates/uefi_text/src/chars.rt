@@ -1,7 +1,7 @@
 //! Characters of Latin-1 and of UCS-2, and their constants.
 //!
-//! A [`Char8`] is any byte, and a [`Char16`] is any code unit that is no surrogate. The fields of
-//! both are private to this module, so that the constants of all crates stand here.
+//! A [`Char8`] is any byte, and a [`Char16`] is any code unit that is not a surrogate. The fields
+//! of both are private to this module, so that the constants of all crates stand here.
 //! `specs/Units.antt` defines code units, texts and NUL-terminated strings.
 
 ghost use Rattle.std.specs.Prelude.{◌≡◌, ◌<◌, ◌^◌, ◌↔◌, IsTrue, Some, codes, encode_utf8};
@@ -26,7 +26,7 @@ impl Printed for CharConversionError {
     }
 }
 
-/// Prints the same.
+/// Prints the same text.
 impl fmt::Display for CharConversionError {
     ghost output = { λ _. Some (codes "CharConversionError") };
 
@@ -38,7 +38,7 @@ impl fmt::Display for CharConversionError {
 impl Error for CharConversionError {}
 
 /// A character of Latin-1: any byte. It is equal, ordered and hashed by its number, and its default
-/// is NUL. A contract sees it as its number. No call of it takes memory.
+/// is NUL. A contract sees it as its number. No call on it allocates.
 #[derive(Clone, Copy, PartialEq, Eq, PartialOrd, Ord, Hash)]
 pub struct Char8 {
     byte: u8,
@@ -57,7 +57,7 @@ impl Model for Char8 {
 }
 
 impl Char8 {
-    /// Whether this character and a Rust character have the same number.
+    /// Returns whether this character and a Rust character have the same number.
     ///
     /// ```rust
     /// assert!(rt; Char8::from(0xe9).eq_char('é'));
@@ -79,7 +79,7 @@ impl Default for Char8 {
     }
 }
 
-/// `Ok` exactly for the characters up to U+00FF, which keep their number; else
+/// `Ok` exactly for the characters up to U+00FF, which keep their number, otherwise
 /// `CharConversionError`.
 impl TryFrom<char> for Char8 {
     type Error = CharConversionError;
@@ -142,9 +142,9 @@ impl fmt::Debug for Char8 {
 /// The character that ends a string of Latin-1.
 pub const NUL_8: Char8 = Char8 { byte: 0 };
 
-/// A character of UCS-2: a code unit that is no surrogate (UEFI Specification 2.10, section 2.3.1).
-/// It is equal, ordered and hashed by its number, and its default is NUL. A contract sees it as its
-/// number. No call of it takes memory.
+/// A character of UCS-2: a code unit that is not a surrogate (UEFI Specification 2.10, section
+/// 2.3.1). It is equal, ordered and hashed by its number, and its default is NUL. A contract sees
+/// it as its number. No call on it allocates.
 #[derive(Clone, Copy, PartialEq, Eq, PartialOrd, Ord, Hash)]
 pub struct Char16 {
     unit: u16,
@@ -171,7 +171,7 @@ fn is_surrogate(unit: u16) -> bool
 }
 
 impl Char16 {
-    /// The character of a code unit that is no surrogate.
+    /// The character of a code unit that is not a surrogate.
     pub(crate) fn from_unit(unit: u16) -> Self
         requires { IsChar16 unit }
         ensures { result ≡ unit }
@@ -179,8 +179,8 @@ impl Char16 {
         Char16 { unit }
     }
 
-    /// The UCS-2 character with the number of a Rust character: `Ok` exactly up to U+FFFF, else
-    /// `CharConversionError`.
+    /// Returns the UCS-2 character with the number of a Rust character: `Ok` exactly up to U+FFFF,
+    /// otherwise `CharConversionError`.
     ///
     /// ```rust
     /// assert_eq!(rt; Char16::try_from_char('€').map(u16::from), Ok(0x20ac));
@@ -199,7 +199,7 @@ impl Char16 {
         }
     }
 
-    /// Whether the character is ASCII: its number is at most 127.
+    /// Returns whether the character is ASCII: its number is at most 127.
     ///
     /// ```rust
     /// assert!(rt; Char16::try_from_char('~')?.is_ascii());
@@ -211,7 +211,7 @@ impl Char16 {
         self.unit < 0x80
     }
 
-    /// Whether this character and a Rust character have the same number.
+    /// Returns whether this character and a Rust character have the same number.
     ///
     /// ```rust
     /// assert!(rt; Char16::try_from(0x20acu16)?.eq_char('€'));
@@ -244,7 +244,7 @@ impl TryFrom<char> for Char16 {
     }
 }
 
-/// `Ok` exactly for the code units that are no surrogates, which keep their number; else
+/// `Ok` exactly for the code units that are not surrogates, which keep their number, otherwise
 /// `CharConversionError`.
 impl TryFrom<u16> for Char16 {
     type Error = CharConversionError;

@@ -1,5 +1,5 @@
-//! The units of characters, and how often one was read. The count stands in contracts alone: no running
-//! program reads it, and it takes no memory.
+//! The units of characters, and how often one was read. The count stands in contracts alone: no
+//! running program reads it, and it does not allocate.
 #![tactic(auto, unfolding(crate::specs::Views::read_units, crate::specs::Views::read_count))]
 
 ghost use Rattle.std.specs.Prelude.{◌≡◌, ℕ, ◌+◌, ◌<◌, length, slice_index};
@@ -54,7 +54,7 @@ pub struct CountedReader<'a> {
 impl<'a> CountedReader<'a> {
     ghost use Rattle.uefi_text.specs.Views.{read_count, read_units, units_of};
 
-    /// A reader of characters that has read none.
+    /// Returns a reader of characters that has read none.
     pub fn new(characters: Char16Slice<'a>) -> CountedReader<'a>
         ensures units { read_units result ≡ units_of characters.entry }
         ensures count { read_count result ≡ 0 }
@@ -62,7 +62,7 @@ impl<'a> CountedReader<'a> {
         CountedReader::of_units(characters.units())
     }
 
-    /// A reader of units that has read none.
+    /// Returns a reader of units that has read none.
     ///
     /// ```rust
     /// let mut reader = counted::CountedReader::of_units(&[0xd800, 0x69]);
@@ -93,7 +93,7 @@ impl<'a> CountedReader<'a> {
         self.units = characters.units();
     }
 
-    /// The number of units.
+    /// Returns the number of units.
     #[inline(always)]
     pub fn len(&self) -> usize
         ensures { result ≡ length (read_units self.now) }
@@ -101,7 +101,7 @@ impl<'a> CountedReader<'a> {
         self.units.len()
     }
 
-    /// The unit at an index below [`CountedReader::len`]. Counts one read.
+    /// Returns the unit at an index below [`CountedReader::len`]. Counts one read.
     #[inline(always)]
     pub fn get(&mut self, i: usize) -> u16
         requires { i < length (read_units self.old) }

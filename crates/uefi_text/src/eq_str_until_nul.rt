@@ -12,9 +12,9 @@ pub trait EqStrUntilNul {
     /// The characters before the NUL.
     ghost characters: { Self → List ℕ };
 
-    /// Whether this string and what `other` holds before its first NUL agree as far as the shorter of the
-    /// two goes: one of them is a prefix of the other. So `te` agrees with `test`, and the empty text
-    /// with every string. Takes no memory.
+    /// Whether this string and what `other` holds before its first NUL agree as far as the shorter
+    /// of the two goes: one of them is a prefix of the other. So `te` agrees with `test`, and the
+    /// empty text with every string. Does not allocate.
     ///
     /// ```rust
     /// let name = CString16::try_from_str(rt.alloc(), "test")?;

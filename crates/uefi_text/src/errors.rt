@@ -18,7 +18,7 @@ pub enum FromSliceUntilNulError {
     /// There is neither a NUL nor a surrogate.
     NoNul,
 
-    /// A request for memory was refused. No call that borrows returns it.
+    /// Memory ran out. No call that borrows returns it.
     OutOfMemory,
 }
 
@@ -39,7 +39,7 @@ impl Printed for FromSliceUntilNulError {
     }
 }
 
-/// Prints the same.
+/// Prints the same text.
 impl fmt::Display for FromSliceUntilNulError {
     ghost output = { λ error. Some (from_slice_until_nul_error_text error) };
 
@@ -50,7 +50,7 @@ impl fmt::Display for FromSliceUntilNulError {
 
 impl Error for FromSliceUntilNulError {}
 
-/// Why code units, characters or bytes are no NUL-terminated string. A number is the index of a
+/// Why code units, characters or bytes are not a NUL-terminated string. A number is the index of a
 /// code unit or a character, or of a byte of Latin-1.
 #[derive(Clone, Copy, Debug, PartialEq, Eq)]
 pub enum FromSliceWithNulError {
@@ -67,7 +67,7 @@ pub enum FromSliceWithNulError {
     /// The slice is not aligned. The Rust crate has this reason; no call here returns it.
     NotAligned,
 
-    /// A request for memory was refused. No call that borrows returns it.
+    /// Memory ran out. No call that borrows returns it.
     OutOfMemory,
 }
 
@@ -94,7 +94,7 @@ impl Printed for FromSliceWithNulError {
     }
 }
 
-/// Prints the same.
+/// Prints the same text.
 impl fmt::Display for FromSliceWithNulError {
     ghost output = { λ error. Some (from_slice_with_nul_error_text error) };
 
@@ -143,7 +143,7 @@ impl Printed for UnalignedCStr16Error {
     }
 }
 
-/// Prints the same.
+/// Prints the same text.
 impl fmt::Display for UnalignedCStr16Error {
     ghost output = { λ error. Some (unaligned_cstr16_error_text error) };
 
@@ -189,7 +189,7 @@ impl Printed for FromStrWithBufError {
     }
 }
 
-/// Prints the same.
+/// Prints the same text.
 impl fmt::Display for FromStrWithBufError {
     ghost output = { λ error. Some (from_str_with_buf_error_text error) };
 
@@ -209,7 +209,7 @@ pub enum FromStrError {
     /// The first character that is NUL or above U+FFFF is a NUL.
     InteriorNul,
 
-    /// The text can be encoded, and a request for memory was refused.
+    /// The text can be encoded, but memory ran out.
     OutOfMemory,
 }
 
@@ -226,7 +226,7 @@ impl Printed for FromStrError {
     }
 }
 
-/// Prints the same.
+/// Prints the same text.
 impl fmt::Display for FromStrError {
     ghost output = { λ error. Some (from_str_error_text error) };
 

@@ -22,7 +22,7 @@ use std::fmt;
 use std::hash::{Hash, Hasher};
 
 /// A borrowed string of Latin-1: a view of bytes of which the last, and no other, is zero. A
-/// contract sees it as `bytes_of` it: all its bytes, the zero included. No call of it takes memory.
+/// contract sees it as `bytes_of` it: all its bytes, the zero included. No call on it allocates.
 #[derive(Clone, Copy)]
 pub struct CStr8<'a> {
     bytes: &'a [u8],
@@ -34,9 +34,9 @@ impl<'a> CStr8<'a> {
 
     /// Borrows all of the bytes as a string.
     ///
-    /// The first zero decides. At the last place it ends the string. Before the last place it is refused
-    /// as `InteriorNul` with its index, even where the bytes don't end in zero. Where there is none the
-    /// result is `NotNulTerminated`.
+    /// The first zero decides. At the last place it ends the string. Before the last place it is
+    /// refused as `InteriorNul` with its index, even where the bytes don't end in zero. If there is
+    /// none, the result is `NotNulTerminated`.
     ///
     /// ```rust
     /// let name = CStr8::from_bytes_with_nul(b"Boot\0")?;
@@ -58,7 +58,7 @@ impl<'a> CStr8<'a> {
         Ok(CStr8 { bytes: chars })
     }
 
-    /// The bytes of the string, the zero included.
+    /// Returns the bytes of the string, the zero included.
     ///
     /// See [`CStr8::from_bytes_with_nul`].
     pub fn as_bytes(&self) -> &'a [u8]
@@ -197,7 +197,7 @@ impl<'a> EqStrUntilNul for CStr8<'a> {
     }
 }
 
-/// Whether every character of a Rust text is one of Latin-1: at most U+00FF. Takes no memory.
+/// Returns whether every character of a Rust text is Latin-1: at most U+00FF. Does not allocate.
 ///
 /// ```rust
 /// assert!(rt; is_latin1("café"));
@@ -210,7 +210,7 @@ pub fn is_latin1(s: &str) -> bool
     !has_byte_beyond_latin1(s.as_bytes())
 }
 
-/// Whether no character of a Rust text is NUL. Takes no memory.
+/// Returns whether no character of a Rust text is NUL. Does not allocate.
 ///
 /// ```rust
 /// assert!(rt; has_no_nul("Boot"));
@@ -223,8 +223,8 @@ pub fn has_no_nul(s: &str) -> bool
     !has_zero(s.as_bytes())
 }
 
-/// The number of characters of a Rust text of Latin-1, each NUL counted, which is the number of bytes
-/// that it takes in Latin-1. [`is_latin1`] tests the condition. Takes no memory.
+/// Returns the number of characters of a Rust text of Latin-1, each NUL counted, which is the
+/// number of bytes that it takes in Latin-1. [`is_latin1`] tests the condition. Does not allocate.
 ///
 /// ```rust
 /// assert_eq!(rt; str_num_latin1_chars("café"), 4);
@@ -240,8 +240,8 @@ pub fn str_num_latin1_chars(s: &str) -> usize
     s.chars().count()
 }
 
-/// Encodes a Rust text of Latin-1 that holds no NUL: a byte for each character, and a NUL after them. `N`
-/// has to be one more than the number of characters. Takes no memory.
+/// Encodes a Rust text of Latin-1 that holds no NUL: a byte for each character, and a NUL after
+/// them. `N` has to be one more than the number of characters. Does not allocate.
 ///
 /// [`is_latin1`], [`has_no_nul`] and [`str_num_latin1_chars`] test the conditions.
 ///

@@ -1,11 +1,12 @@
-//! The laws by which users of strings reason. They speak of the definitions that the contracts of
-//! the working calls cite. Each law is a function that does nothing: its contract is the law.
+//! The laws of strings, for proofs of callers. They are about the definitions that other contracts
+//! cite. Each law is a function that does nothing: its contract is the law.
 ghost use Rattle.uefi_text.specs.CaseLaws.{AsciiCase, AsciiSameWithoutCase, CaselessIsEquivalence, CaselessOrderIsTotal, CaselessWhereSame, LowerOfUpper, LowerOnce, SameWithoutCase, TiesWithoutCase, UpperOfLower, UpperOnce};
 ghost use Rattle.uefi_text.specs.PatternLaws.{AnyUnits, CaseIsIgnored, ItselfAlone, NothingAlone, OneOfSet, OneUnit, OpenSet, PlainIsSame};
 ghost use Rattle.uefi_text.specs.Laws.{AcceptedWhereEncoded, EncodeOneText, EncodedOnce, TextWhereUnrefused, TextsAreCharacters, TextsAreEncoded};
 
-/// Every text is encoded by exactly one list of bytes, no bytes encode two texts, and bytes are accepted
-/// exactly where they encode one: `CStr16::from_bytes_with_nul` and `CStr16::as_bytes` undo one another.
+/// Every text is encoded by exactly one list of bytes, no bytes encode two texts, and bytes are
+/// accepted exactly if they encode one: `CStr16::from_bytes_with_nul` and `CStr16::as_bytes` undo
+/// one another.
 pub fn bytes_once()
     ensures encoded { TextsAreEncoded }
     ensures once { EncodedOnce }
@@ -13,7 +14,7 @@ pub fn bytes_once()
     ensures accepted { AcceptedWhereEncoded }
 {}
 
-/// Characters of Rust are a text exactly where none of them is refused, and each unit of a text is
+/// Characters of Rust are a text exactly if none of them is refused, and each unit of a text is
 /// one: `CString16::try_from_str` and `CStr16::to_rust_string` undo one another.
 pub fn text_once()
     ensures unrefused { TextWhereUnrefused }
@@ -28,8 +29,8 @@ pub fn case_once()
     ensures lower_of_upper { LowerOfUpper }
 {}
 
-/// `eq_ignore_case` is an equivalence that holds of equal texts, and `cmp_ignore_case` a total order
-/// that says `Equal` exactly where it holds.
+/// `eq_ignore_case` is an equivalence that holds of equal texts, and `cmp_ignore_case` a total
+/// order that says `Equal` exactly if it holds.
 pub fn caseless()
     ensures equivalence { CaselessIsEquivalence }
     ensures same { CaselessWhereSame }

@@ -1,8 +1,8 @@
 //! UCS-2 characters and NUL-terminated UCS-2 strings, as UEFI firmware stores them.
 //!
-//! A *code unit* is a `u16`. A [`Char16`] is a code unit that is no surrogate. A *text* is a list
-//! of characters without NUL, and a *string* is a text followed by its one NUL, as UEFI stores it
-//! in `CHAR16` (UEFI Specification 2.10, section 2.3.1). A [`CStr16`] is a view of a string that
+//! A *code unit* is a `u16`. A [`Char16`] is a code unit that is not a surrogate. A *text* is a
+//! list of characters without NUL, and a *string* is a text followed by its one NUL, as UEFI stores
+//! it in `CHAR16` (UEFI Specification 2.10, section 2.3.1). A [`CStr16`] is a view of a string that
 //! lies elsewhere, and a [`CString16`] owns one. Both are made by checked constructors alone, so a
 //! string never lacks its NUL, and every value of these types encodes a text.
 //!

@@ -9,7 +9,7 @@ use crate::text_sink::TextSink;
 /// How many digits a number has at most, in base 2.
 const MOST_DIGITS: usize = 64;
 
-/// The digit of a number below a base, in upper case, as a byte of a text.
+/// Returns the digit of a number below a base, in upper case, as a byte of a text.
 #[inline(always)]
 pub fn digit(n: u64, base: u64) -> u8
     requires below { n < base }

@@ -61,8 +61,8 @@ impl Class<Char16> for Nul {
     }
 }
 
-/// Whether none of the characters is NUL, which [`CString16::extend`] requires of what it adds. Takes no
-/// memory.
+/// Returns whether none of the characters is NUL, which [`CString16::extend`] requires of what it
+/// adds. Does not allocate.
 ///
 /// ```rust
 /// let e = Char16::try_from_char('e')?;
@@ -103,11 +103,11 @@ fn units_of_characters<A: Allocator>(
 
 /// Owned strings of characters and of a borrowed string.
 impl<'a> CStr16<'a> {
-    /// Copies the characters up to the first NUL into an owned string.
+    /// Creates an owned string from the characters up to the first NUL.
     ///
-    /// Where there is no NUL the result is `NoNul`, and where memory is refused `OutOfMemory`. What
-    /// follows the NUL does not matter. `InvalidChar` is never returned: no character is a surrogate.
-    /// The NUL is found before memory is asked for, in one request.
+    /// Returns `NoNul` if there is no NUL, and `OutOfMemory` if memory runs out. Characters after
+    /// the NUL do not matter. `InvalidChar` is never returned, because no character is a surrogate.
+    /// Allocates once, after the NUL is found.
     ///
     /// ```rust
     /// let e = Char16::try_from_char('e')?;
@@ -137,12 +137,12 @@ impl<'a> CStr16<'a> {
         }
     }
 
-    /// Copies characters, of which the last is their one NUL, into an owned string.
+    /// Creates an owned string from characters whose only NUL is the last.
     ///
     /// The first NUL decides. Before the last place it is refused as `InteriorNul` with its index,
     /// and where there is none the result is `NotNulTerminated`; `OutOfMemory` comes last.
-    /// `InvalidChar` is never returned: no character is a surrogate. The NUL is found before memory
-    /// is asked for, in one request.
+    /// `InvalidChar` is never returned: no character is a surrogate. The NUL is found before the
+    /// call allocates, once.
     ///
     /// ```rust
     /// let e = Char16::try_from_char('e')?;
@@ -197,9 +197,9 @@ impl<'a> CStr16<'a> {
 impl<'a> Char16Slice<'a> {
     /// Copies the characters into an owned string.
     ///
-    /// Where a NUL is among them the result is `InteriorNul`, and where memory is refused
-    /// `OutOfMemory`. `InvalidChar` is never returned: no character is a surrogate. All are tested
-    /// before memory is asked for, in one request.
+    /// Where a NUL is among them the result is `InteriorNul`, and if memory runs out `OutOfMemory`.
+    /// `InvalidChar` is never returned: no character is a surrogate. All are tested before the call
+    /// allocates, once.
     ///
     /// ```rust
     /// let name = CStr16::from_u16_with_nul(&[0x48, 0x69, 0])?;
@@ -237,7 +237,7 @@ impl<A: Allocator> CString16<A> {
         CString16 { units }
     }
 
-    /// The empty string, or `AllocError`: its NUL takes memory.
+    /// Returns the empty string, or `AllocError`: its NUL takes memory.
     ///
     /// ```rust
     /// let empty = CString16::new(rt.alloc())?;
@@ -252,8 +252,8 @@ impl<A: Allocator> CString16<A> {
         Ok(CString16 { units })
     }
 
-    /// The empty string, with room for this many characters and the NUL; or `AllocError`. One
-    /// allocation.
+    /// Returns the empty string, with room for this many characters and the NUL; or `AllocError`.
+    /// One allocation.
     ///
     /// ```rust
     /// let mut name = CString16::with_capacity(rt.alloc(), 8)?;
@@ -272,8 +272,8 @@ impl<A: Allocator> CString16<A> {
         Ok(CString16 { units })
     }
 
-    /// Makes room for this many more characters, which then take no memory; or returns `AllocError`. The
-    /// text stays as it is.
+    /// Makes room for this many more characters, which then need no allocation; or returns
+    /// `AllocError`. The text is unchanged.
     ///
     /// ```rust
     /// let mut name = CString16::try_from_str(rt.alloc(), "Boot")?;
@@ -291,7 +291,7 @@ impl<A: Allocator> CString16<A> {
     ///
     /// The first character that is NUL or above U+FFFF decides: the text is refused as
     /// `InteriorNul` or as `InvalidChar`. Where there is none the text can only be refused as
-    /// `OutOfMemory`. The whole text is tested before memory is asked for, in one request.
+    /// `OutOfMemory`. The whole text is tested before the call allocates, once.
     ///
     /// ```rust
     /// let name = CString16::try_from_str(rt.alloc(), "5 €")?;
@@ -312,10 +312,10 @@ impl<A: Allocator> CString16<A> {
         Ok(CString16 { units })
     }
 
-    /// Takes over a vector of units as a string, without a copy.
+    /// Turns a vector of units into a string, without a copy.
     ///
-    /// Refused exactly as [`CStr16::from_u16_with_nul`] refuses the units; a refused vector is dropped.
-    /// Takes no memory.
+    /// Fails exactly as [`CStr16::from_u16_with_nul`] does; a refused vector is dropped. Does not
+    /// allocate.
     ///
     /// ```rust
     /// let mut vector = Vec::new(rt.alloc());
@@ -335,7 +335,7 @@ impl<A: Allocator> CString16<A> {
         Ok(CString16 { units })
     }
 
-    /// Gives back the vector: the units of the text and its NUL. Takes no memory.
+    /// Gives back the vector: the units of the text and its NUL. Does not allocate.
     ///
     /// See [`CString16::try_from_vec`].
     pub fn into_vec_with_nul(self) -> Vec<u16, A>
@@ -357,7 +357,7 @@ impl<A: Allocator> CString16<A> {
         string.to_owned(alloc)
     }
 
-    /// Makes the string empty. Takes no memory and gives none back.
+    /// Makes the string empty. Neither allocates nor frees memory.
     ///
     /// ```rust
     /// let mut name = CString16::try_from_str(rt.alloc(), "Boot")?;
@@ -371,9 +371,10 @@ impl<A: Allocator> CString16<A> {
         self.units[0] = 0;
     }
 
-    /// Appends a character other than NUL; or returns `AllocError`, and the string is unchanged.
+    /// Appends a character other than NUL; or returns `AllocError`, and leaves the string
+    /// unchanged.
     ///
-    /// Takes memory where the vector is full. Many pushes take a constant time each, on average.
+    /// Allocates if the vector is full. Many pushes take constant time each, on average.
     ///
     /// ```rust
     /// let mut name = CString16::try_from_str(rt.alloc(), "Boo")?;
@@ -394,7 +395,7 @@ impl<A: Allocator> CString16<A> {
         Ok(())
     }
 
-    /// Does what [`CString16::push`] does where the vector may have no room. It is rarely so, and a call
+    /// Does what [`CString16::push`] does if the vector may have no room. This is rare, and a call
     /// with room saves no registers.
     #[cold]
     #[inline(never)]
@@ -411,7 +412,7 @@ impl<A: Allocator> CString16<A> {
 
     /// Appends the text of a string; or returns `AllocError`, and the string is unchanged.
     ///
-    /// Takes memory at most once. The empty text takes none and is never refused.
+    /// Allocates at most once. The empty text allocates nothing and never fails.
     ///
     /// ```rust
     /// let mut name = CString16::try_from_str(rt.alloc(), "Boot")?;
@@ -435,7 +436,7 @@ impl<A: Allocator> CString16<A> {
     /// Appends characters, none of them NUL; or returns `AllocError`, and the string is unchanged.
     /// [`Char16Slice::has_no_nul`] tests the characters, and those of a text hold none.
     ///
-    /// Takes memory at most once. Where there are no characters it takes none and is never refused.
+    /// Allocates at most once. For no characters the call allocates nothing and never fails.
     ///
     /// ```rust
     /// let entry = CString16::try_from_str(rt.alloc(), "Boot0001")?;
@@ -474,8 +475,8 @@ impl<A: Allocator> CString16<A> {
         Ok(())
     }
 
-    /// Keeps the first `len` characters, or all where there are no more. Takes no memory and gives
-    /// none back.
+    /// Keeps the first `len` characters, or all if there are no more. Neither allocates nor frees
+    /// memory.
     ///
     /// ```rust
     /// let mut name = CString16::try_from_str(rt.alloc(), "Boot0001")?;
@@ -494,7 +495,7 @@ impl<A: Allocator> CString16<A> {
     /// Appends the characters that an iterator gives, none of them NUL. [`have_no_nul`] tests those
     /// of a slice.
     ///
-    /// Takes memory as [`CString16::push`] does for each. Where memory is refused the result is
+    /// Allocates as [`CString16::push`] does for each. If memory runs out, the result is
     /// `AllocError`, and the string keeps the characters that were appended before.
     ///
     /// ```rust
@@ -521,7 +522,7 @@ impl<A: Allocator> CString16<A> {
         Ok(())
     }
 
-    /// Replaces each `search` by `replace`; neither may be NUL. Takes no memory.
+    /// Replaces each `search` by `replace`; neither may be NUL. Does not allocate.
     ///
     /// ```rust
     /// let mut name = CString16::try_from_str(rt.alloc(), "efi/boot/")?;
@@ -536,7 +537,8 @@ impl<A: Allocator> CString16<A> {
         self.replace_char_from(0, search, replace);
     }
 
-    /// Replaces each `search` by `replace` from index `start` on; neither may be NUL. Takes no memory.
+    /// Replaces each `search` by `replace` from index `start` on; neither may be NUL. Does not
+    /// allocate.
     ///
     /// ```rust
     /// let mut name = CString16::try_from_str(rt.alloc(), "a-b-c")?;
@@ -558,8 +560,8 @@ impl<A: Allocator> CString16<A> {
         }
     }
 
-    /// Puts the text in upper case, character by character, as `StrUpr` does (UEFI Specification 2.10,
-    /// section 21.1). Takes no memory.
+    /// Puts the text in upper case, character by character, as `StrUpr` does (UEFI Specification
+    /// 2.10, section 21.1). Does not allocate.
     ///
     /// ```rust
     /// let mut name = CString16::try_from_str(rt.alloc(), "café.txt")?;
@@ -572,7 +574,7 @@ impl<A: Allocator> CString16<A> {
         self.set_case(Case::Upper);
     }
 
-    /// Puts the text in lower case, character by character, as `StrLwr` does. Takes no memory.
+    /// Puts the text in lower case, character by character, as `StrLwr` does. Does not allocate.
     ///
     /// ```rust
     /// let mut name = CString16::try_from_str(rt.alloc(), "BOOTX64.EFI")?;
@@ -592,7 +594,7 @@ impl<A: Allocator> CString16<A> {
         set_case(&mut self.units, case);
     }
 
-    /// The number of characters of the text, the NUL not counted.
+    /// Returns the number of characters of the text, without the NUL.
     ///
     /// ```rust
     /// let name = CString16::try_from_str(rt.alloc(), "café")?;
@@ -605,7 +607,7 @@ impl<A: Allocator> CString16<A> {
         self.units.len() - 1
     }
 
-    /// Whether the text is empty.
+    /// Returns whether the text is empty.
     ///
     /// See [`CString16::num_chars`].
     pub fn is_empty(&self) -> bool
@@ -614,7 +616,7 @@ impl<A: Allocator> CString16<A> {
         self.num_chars() == 0
     }
 
-    /// Borrows the string. Its text holds no NUL and no surrogate. Takes no memory.
+    /// Borrows the string. Its text holds no NUL and no surrogate. Does not allocate.
     ///
     /// ```rust
     /// let name = CString16::try_from_str(rt.alloc(), "Hi")?;
@@ -627,7 +629,7 @@ impl<A: Allocator> CString16<A> {
         CStr16::from_string(self.units.as_slice())
     }
 
-    /// Whether the borrowed string has the same text. Takes no memory.
+    /// Returns whether the borrowed string has the same text. Does not allocate.
     ///
     /// ```rust
     /// let name = CString16::try_from_str(rt.alloc(), "Hi")?;
@@ -719,11 +721,11 @@ impl<A: Allocator> TryFrom<Vec<u16, A>> for CString16<A> {
     }
 }
 
-/// Appends a Rust text. Where it holds a NUL or a character above U+FFFF, or memory is refused, the
+/// Appends a Rust text. If it contains a NUL or a character above U+FFFF, or memory runs out, the
 /// result is an error, and the string is unchanged.
 ///
 /// `write!` prints in parts, and an error leaves the parts before it. Each part is tested before
-/// memory is asked for, at most once.
+/// the call allocates, at most once.
 impl<A: Allocator> fmt::Write for CString16<A> {
     ghost write_str_gives = { λ old bytes new. encode_utf8_all new ≡ encode_utf8_all old ++ bytes };
 

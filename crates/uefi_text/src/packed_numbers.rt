@@ -19,7 +19,7 @@ pub trait Packed: Copy {
     ghost number: { Self → ℕ };
 
     /// Decodes exactly `SIZE` bytes, the low byte first on every machine: the sum of each byte
-    /// times 256 to the power of its index. Takes no memory.
+    /// times 256 to the power of its index. Does not allocate.
     ///
     /// ```rust
     /// assert_eq!(rt; u16::read_le(&[0x34, 0x12]), 0x1234);

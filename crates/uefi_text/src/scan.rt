@@ -229,21 +229,21 @@ impl Class<u8> for CharStart {
     }
 }
 
-/// The place of the first NUL or surrogate.
+/// Returns the place of the first NUL or surrogate.
 pub fn find_deciding_place(units: &[u16]) -> Option<usize>
     ensures { result ≡ deciding_place units.now }
 {
     find_first::<u16, Deciding>(units)
 }
 
-/// The place of the first NUL.
+/// Returns the place of the first NUL.
 pub fn find_nul(units: &[u16]) -> Option<usize>
     ensures { result ≡ position is_nul units.now }
 {
     find_first::<u16, Nul>(units)
 }
 
-/// Whether each unit is ASCII.
+/// Returns whether each unit is ASCII.
 pub fn is_ascii(units: &[u16]) -> bool
     ensures { IsTrue result ↔ IsAscii units.now }
 {
@@ -261,7 +261,7 @@ pub(crate) fn count_wide(units: &[u16]) -> (usize, usize)
     )
 }
 
-/// The place of the first zero.
+/// Returns the place of the first zero.
 pub fn find_zero(bytes: &[u8]) -> Option<usize>
     ensures { result ≡ position is_nul bytes.now }
 {
@@ -296,7 +296,7 @@ pub(crate) fn has_deciding_byte(bytes: &[u8]) -> bool
     has_any::<u8, DecidingByte>(bytes)
 }
 
-/// How many characters begin in bytes of UTF-8; `None` exactly where one of them is one that no UCS-2
+/// How many characters begin in bytes of UTF-8; `None` exactly if one of them is one that no UCS-2
 /// text holds.
 pub(crate) fn count_undecided_chars(bytes: &[u8]) -> Option<usize>
     ensures { SomeIff result (list_any is_deciding_byte bytes.now ≡ false)
@@ -343,8 +343,8 @@ fn same_ascii_blocks_end(units: &[u16], bytes: &[u8], start: usize, block: usize
     end
 }
 
-/// The length of a prefix that units and bytes have in common, of ASCII without NUL. It need not be
-/// the longest.
+/// Returns the length of a prefix that units and bytes have in common, of ASCII without NUL. It
+/// need not be the longest.
 pub fn same_ascii_len(units: &[u16], bytes: &[u8]) -> usize
     ensures within { (result ≤ length units.now) × (result ≤ length bytes.now) }
     ensures same { take result units.now ≡ take result bytes.now }
@@ -375,7 +375,7 @@ pub(crate) fn narrow(bytes: &mut [u8], units: &[u16])
     }
 }
 
-/// Writes each unit as two bytes, the low one first.
+/// Writes each unit as two bytes, the low byte first.
 pub fn split(bytes: &mut [u8], units: &[u16])
     requires { length bytes.now ≡ 2 * length units.now }
     ensures { bytes.new ≡ unit_bytes units.now }

@@ -9,9 +9,9 @@ use crate::strs::FromSliceWithNulError;
 use crate::unaligned_slice::UnalignedSlice;
 
 impl<'a> UnalignedSlice<'a, u16> {
-    /// Whether the items are a string. Refused as
-    /// [`CStr16::from_u16_with_nul`](crate::CStr16::from_u16_with_nul) refuses the same units. Needs no
-    /// buffer of the caller; takes no memory.
+    /// Checks that the items are a string. Fails as
+    /// [`CStr16::from_u16_with_nul`](crate::CStr16::from_u16_with_nul) does for the same units.
+    /// Needs no buffer and does not allocate.
     ///
     /// ```rust
     /// let name: UnalignedSlice<u16> = UnalignedSlice::new(&[0x48, 0, 0, 0], 2);

@@ -40,8 +40,8 @@ use std::hash::{Hash, Hasher};
 /// A borrowed string: a view of code units that are a text and its NUL (UEFI Specification 2.10,
 /// section 2.3.1). A contract sees it as `text_of` it: the text without the NUL.
 ///
-/// A call that takes an allocator takes memory, and [`CStr16::as_str_in_buf`] what its sink takes.
-/// No other call does.
+/// A call that takes an allocator allocates, and so may the sink of [`CStr16::as_str_in_buf`]. No
+/// other call allocates.
 ///
 /// ```rust
 /// let name = CStr16::from_u16_with_nul(&[0x48, 0x69, 0])?;
@@ -85,7 +85,7 @@ fn are_same(one: &[u16], two: &[u16]) -> bool
 }
 
 /// An iterator over characters, from either end. A contract sees it as `units_left` of it: the code
-/// units that are still to come.
+/// units that remain.
 #[derive(Drop)]
 pub struct CStr16Iter<'a> {
     units: &'a [u16],
@@ -94,7 +94,7 @@ pub struct CStr16Iter<'a> {
 
 /// Characters that lie side by side, such as a text, a string with its NUL or a component of a
 /// path. A contract sees it as `units_of` it: their code units. A call that takes an allocator
-/// takes memory, and [`Char16Slice::add_utf8_to`] may. No other call does.
+/// allocates, and [`Char16Slice::add_utf8_to`] may. No other call does.
 ///
 /// ```rust
 /// let name = CStr16::from_u16_with_nul(&[0x42, 0x6f, 0x6f, 0x74, 0])?;
@@ -115,9 +115,9 @@ impl<'a> CStr16<'a> {
 
     /// Borrows the units up to the first NUL, and with it, as a string.
     ///
-    /// The first NUL or surrogate decides. A NUL ends the string, and what follows it does not matter. A
-    /// surrogate is refused as `InvalidChar` with its index. Where there is neither the result is
-    /// `NoNul`. Takes no memory.
+    /// The first NUL or surrogate decides. A NUL ends the string, and later units do not matter. A
+    /// surrogate is refused as `InvalidChar` with its index. If there is neither, the result is
+    /// `NoNul`. Does not allocate.
     ///
     /// ```rust
     /// let name = CStr16::from_u16_until_nul(&[0x42, 0x6f, 0x6f, 0x74, 0, 0xffff])?;
@@ -143,9 +143,9 @@ impl<'a> CStr16<'a> {
 
     /// Borrows all of the units as a string.
     ///
-    /// The first NUL or surrogate decides. A NUL at the last place ends the string. One before it is
-    /// refused as `InteriorNul`, and a surrogate as `InvalidChar`, each with its index. Where there is
-    /// neither the result is `NotNulTerminated`. Takes no memory.
+    /// The first NUL or surrogate decides. A NUL at the last index ends the string. An earlier NUL
+    /// is refused as `InteriorNul`, and a surrogate as `InvalidChar`, each with its index. If there
+    /// is neither, the result is `NotNulTerminated`. Does not allocate.
     ///
     /// ```rust
     /// let name = CStr16::from_u16_with_nul(&[0x48, 0x69, 0])?;
@@ -165,9 +165,9 @@ impl<'a> CStr16<'a> {
         Ok(CStr16 { units })
     }
 
-    /// The string of units that are known to be one, as a view of them. Looks at none of them; takes no
-    /// memory. For crates that prove of units that they are a string, as device paths do of their texts;
-    /// all others have the constructors above, which look.
+    /// Returns the string of units that are known to be one, as a view of them. Looks at none of
+    /// them; does not allocate. For crates that prove of units that they are a string, as device
+    /// paths do of their texts; all others have the constructors above, which look.
     #[doc(hidden)]
     pub fn from_string(units: &'a [u16]) -> CStr16<'a>
         requires { IsString units.now }
@@ -178,12 +178,12 @@ impl<'a> CStr16<'a> {
 
     /// Encodes a Rust text as a string at the start of a buffer, and returns its length without the NUL.
     ///
-    /// The UTF-16 of the text (Unicode Standard, section 3.9) has to have fewer units than the buffer has
-    /// places. Else the result is `BufferTooSmall`, whatever the text holds, and the buffer holds the
-    /// first of these units; half of a surrogate pair may be the last. Where there is room the buffer
-    /// begins with the units and a NUL, and what follows them is unchanged, whatever is returned. The
-    /// first character that is NUL or above U+FFFF then decides: `InteriorNul` or `InvalidChar`, with the
-    /// number of characters before it. Takes no memory.
+    /// The UTF-16 of the text (Unicode Standard, section 3.9) must have fewer units than the buffer
+    /// has places. Otherwise the result is `BufferTooSmall`, whatever the text contains, and the
+    /// buffer contains the first of these units; half of a surrogate pair may be the last. If there
+    /// is room, the buffer begins with the units and a NUL, and the rest is unchanged, whatever the
+    /// result. The first character that is NUL or above U+FFFF then decides: `InteriorNul` or
+    /// `InvalidChar`, with the number of characters before it. Does not allocate.
     ///
     /// ```rust
     /// let mut buffer = [0xffff; 4];
@@ -203,7 +203,8 @@ impl<'a> CStr16<'a> {
     }
 
     /// Encodes a Rust text at the start of a buffer, and borrows it from there as a string.
-    /// [`CStr16::write_str`] says when it is refused and what the buffer then holds. Takes no memory.
+    /// [`CStr16::write_str`] says when it is refused and what the buffer then holds. Does not
+    /// allocate.
     ///
     /// ```rust
     /// let mut buffer = [0; 8];
@@ -226,7 +227,7 @@ impl<'a> CStr16<'a> {
         Ok(CStr16::from_string(&buf[..len + 1]))
     }
 
-    /// The characters of the text, without the NUL.
+    /// Returns the characters of the text, without the NUL.
     pub fn as_slice(&self) -> Char16Slice<'a>
         ensures same { units_of result ≡ text_of self.now }
         ensures is_text { IsText (units_of result) }
@@ -239,28 +240,28 @@ impl<'a> CStr16<'a> {
         }
     }
 
-    /// The characters of the text, and the NUL.
+    /// Returns the characters of the text, and the NUL.
     pub fn as_slice_with_nul(&self) -> Char16Slice<'a>
         ensures { units_of result ≡ nul_terminated (text_of self.now) }
     {
         Char16Slice { units: self.units }
     }
 
-    /// The code units of the text, without the NUL.
+    /// Returns the code units of the text, without the NUL.
     pub fn to_u16_slice(&self) -> &'a [u16]
         ensures { result.now ≡ text_of self.now }
     {
         &self.units[..self.units.len() - 1]
     }
 
-    /// The code units of the text, and the NUL.
+    /// Returns the code units of the text, and the NUL.
     pub fn to_u16_slice_with_nul(&self) -> &'a [u16]
         ensures { result.now ≡ nul_terminated (text_of self.now) }
     {
         self.units
     }
 
-    /// The characters of the text in order, without the NUL.
+    /// Returns the characters of the text in order, without the NUL.
     ///
     /// ```rust
     /// let mut characters = CStr16::from_u16_with_nul(&[0x48, 0x69, 0])?.iter();
@@ -277,15 +278,16 @@ impl<'a> CStr16<'a> {
         self.as_slice().iter()
     }
 
-    /// The number of characters of the text, the NUL not counted.
+    /// Returns the number of characters of the text, without the NUL.
     pub fn num_chars(&self) -> usize
         ensures { result ≡ length (text_of self.now) }
     {
         self.units.len() - 1
     }
 
-    /// The number of bytes of the string: two for each character and two for the NUL. It has to fit
-    /// a `usize`, as it does for every slice in memory; [`CStr16::num_chars`] is the test.
+    /// Returns the number of bytes of the string: two for each character and two for the NUL. It
+    /// has to fit a `usize`, as it does for every slice in memory; [`CStr16::num_chars`] is the
+    /// test.
     pub fn num_bytes(&self) -> usize
         requires { 2 * (length (text_of self.now) + 1) < 2 ^ 64 }
         ensures { result ≡ 2 * (length (text_of self.now) + 1) }
@@ -293,22 +295,22 @@ impl<'a> CStr16<'a> {
         2 * self.units.len()
     }
 
-    /// Whether the text is empty.
+    /// Returns whether the text is empty.
     pub fn is_empty(&self) -> bool
         ensures { IsTrue result ↔ (text_of self.now ≡ []) }
     {
         self.num_chars() == 0
     }
 
-    /// Whether every character is ASCII.
+    /// Returns whether every character is ASCII.
     pub fn is_ascii(&self) -> bool
         ensures { IsTrue result ↔ IsAscii (text_of self.now) }
     {
         is_ascii(self.to_u16_slice())
     }
 
-    /// The string as bytes, the low byte first on every machine: two for each character and two for the
-    /// NUL; or `AllocError`. One allocation of that size.
+    /// Returns the string as bytes, the low byte first on every machine: two for each character and
+    /// two for the NUL; or `AllocError`. One allocation of that size.
     ///
     /// ```rust
     /// let price = CStr16::from_u16_with_nul(&[0x35, 0x20ac, 0])?;
@@ -327,8 +329,8 @@ impl<'a> CStr16<'a> {
         Ok(bytes)
     }
 
-    /// The text as a Rust `String`, or `AllocError`. One allocation at most: the bytes in UTF-8 are
-    /// counted first.
+    /// Returns the text as a Rust `String`, or `AllocError`. One allocation at most: the bytes in
+    /// UTF-8 are counted first.
     ///
     /// ```rust
     /// let price = CStr16::from_u16_with_nul(&[0x35, 0x20ac, 0])?;
@@ -348,7 +350,7 @@ impl<'a> CStr16<'a> {
     /// sink then holds those before it.
     ///
     /// The sink is offered 64 characters at a time, by [`CharSink::write_whole`]. Those that it
-    /// does not take so are written one by one. Takes no memory but the sink's.
+    /// does not take so are written one by one. Only the sink may allocate.
     ///
     /// ```rust
     /// let name = CStr16::from_u16_with_nul(&[0x48, 0x69, 0])?;
@@ -372,7 +374,7 @@ impl<'a> CStr16<'a> {
         Ok(())
     }
 
-    /// Whether the other string has the same text, as `==` says.
+    /// Returns whether the other string has the same text, as `==` says.
     pub fn eq_cstr16(&self, other: CStr16<'_>) -> bool
         ensures { IsTrue result ↔ (text_of self.now ≡ text_of other.entry) }
     {
@@ -456,7 +458,7 @@ impl<'a> Hash for CStr16<'a> {
     }
 }
 
-/// The characters of the text in order, without the NUL. Takes no memory.
+/// The characters of the text in order, without the NUL. Does not allocate.
 impl<'a> IntoIterator for CStr16<'a> {
     type Item = Char16;
 
@@ -542,21 +544,21 @@ impl<'a> fmt::Debug for CStr16Iter<'a> {
 impl<'a> Char16Slice<'a> {
     ghost use Rattle.uefi_text.specs.Views.{units_of, units_left};
 
-    /// The number of characters.
+    /// Returns the number of characters.
     pub fn len(&self) -> usize
         ensures { result ≡ length (units_of self.now) }
     {
         self.units.len()
     }
 
-    /// Whether there are none.
+    /// Returns whether there are none.
     pub fn is_empty(&self) -> bool
         ensures { IsTrue result ↔ (units_of self.now ≡ []) }
     {
         self.units.is_empty()
     }
 
-    /// The character at an index, or `None` from the length on.
+    /// Returns the character at an index, or `None` from the length on.
     pub fn get(&self, i: usize) -> Option<Char16>
         ensures { result ≡ slice_get (units_of self.now) i }
     {
@@ -564,7 +566,7 @@ impl<'a> Char16Slice<'a> {
         Some(Char16::from_unit(unit))
     }
 
-    /// The characters in order.
+    /// Returns the characters in order.
     pub fn iter(&self) -> CStr16Iter<'a>
         ensures same { units_left result ≡ units_of self.now }
         ensures bound { length (units_left result) < 2 ^ 64 }
@@ -574,22 +576,22 @@ impl<'a> Char16Slice<'a> {
         CStr16Iter { units: self.units }
     }
 
-    /// Whether none of the characters is NUL.
+    /// Returns whether none of the characters is NUL.
     pub fn has_no_nul(&self) -> bool
         ensures { IsTrue result ↔ All (λ unit. unit ≢ 0) (units_of self.now) }
     {
         find_nul(self.units).is_none()
     }
 
-    /// The code units of the characters.
+    /// Returns the code units of the characters.
     pub fn units(&self) -> &'a [u16]
         ensures { result.now ≡ units_of self.now }
     {
         self.units
     }
 
-    /// Appends the characters in UTF-8 to bytes; or `AllocError`, and the bytes are unchanged. One
-    /// request for memory at most, and none where the bytes have room.
+    /// Appends the characters in UTF-8 to bytes; or `AllocError`, and the bytes are unchanged.
+    /// Allocates at most once, and not if the bytes have room.
     ///
     /// ```rust
     /// let price = CStr16::from_u16_with_nul(&[0x35, 0x20ac, 0])?;
@@ -646,7 +648,7 @@ impl<'a> Char16Slice<'a> {
         Ok(())
     }
 
-    /// The characters from index `start` on, up to and without index `end`.
+    /// Returns the characters from index `start` on, up to and without index `end`.
     pub fn part(&self, start: usize, end: usize) -> Char16Slice<'a>
         requires { (start ≤ end) × (end ≤ length (units_of self.now)) }
         ensures { units_of result ≡ slice_range (units_of self.now) start end }
@@ -749,7 +751,7 @@ impl<'a> fmt::Debug for Char16Slice<'a> {
     }
 }
 
-/// The characters in order. Takes no memory.
+/// The characters in order. Does not allocate.
 impl<'a> IntoIterator for Char16Slice<'a> {
     type Item = Char16;
 

@@ -59,8 +59,8 @@ const FEW_ITEMS: usize = 64;
 const PIECE: usize = 16;
 
 /// A view of items that lie packed in borrowed bytes, which may begin at any address. A contract
-/// sees it as `items_of` it: the list of the items' numbers. A call that takes an allocator takes
-/// memory, and no other does.
+/// sees it as `items_of` it: the list of the items' numbers. A call that takes an allocator
+/// allocates, and no other does.
 #[derive(Copy)]
 pub struct UnalignedSlice<'a, T: Packed> {
     bytes: &'a [u8],
@@ -69,15 +69,15 @@ pub struct UnalignedSlice<'a, T: Packed> {
     pub ghost in_bytes: { len * T.SIZE ≤ length bytes.now },
 }
 
-/// An iterator over the items of a packed slice. A contract sees it as `items_left` of it: what is
-/// still to come.
+/// An iterator over the items of a packed slice. A contract sees it as `items_left` of it: what
+/// remains.
 #[derive(Drop)]
 pub struct UnalignedSliceIter<'a, T: Packed> {
     rest: UnalignedSlice<'a, T>,
 }
 
 /// The iterator that a packed slice itself becomes. A contract sees it as `into_iter_items_left` of
-/// it: what is still to come.
+/// it: what remains.
 #[derive(Drop)]
 pub struct UnalignedSliceIntoIter<'a, T: Packed> {
     items: UnalignedSliceIter<'a, T>,
@@ -183,8 +183,8 @@ fn push_blocks<T: Packed, A: Allocator>(
 impl<'a, T: Packed> UnalignedSlice<'a, T> {
     ghost use Rattle.uefi_text.specs.Views.{items_of, items_left};
 
-    /// Whether the bytes have room for `len` items: whether `len` times `SIZE`, as a whole number
-    /// that never wraps, is at most the number of bytes.
+    /// Returns whether the bytes have room for `len` items: whether `len` times `SIZE`, as a whole
+    /// number that never wraps, is at most the number of bytes.
     ///
     /// ```rust
     /// assert!(rt; UnalignedSlice::<u32>::fits(&[0; 9], 2));
@@ -200,9 +200,9 @@ impl<'a, T: Packed> UnalignedSlice<'a, T> {
         }
     }
 
-    /// A view of the first `len` items of the bytes, which lie one after the other from their
-    /// start. The bytes after them are never read. The bytes have to have room for the items, which
-    /// [`UnalignedSlice::fits`] tests.
+    /// Returns a view of the first `len` items of the bytes, which lie one after the other from
+    /// their start. The bytes after them are never read. The bytes have to have room for the items,
+    /// which [`UnalignedSlice::fits`] tests.
     ///
     /// ```rust
     /// let items: UnalignedSlice<u16> = UnalignedSlice::new(&[0x34, 0x12, 0x78, 0x56, 0xff], 2);
@@ -223,8 +223,8 @@ impl<'a, T: Packed> UnalignedSlice<'a, T> {
         }
     }
 
-    /// The view of [`UnalignedSlice::new`], or `None` exactly where the bytes have no room for the
-    /// items.
+    /// Returns the view of [`UnalignedSlice::new`], or `None` exactly if the bytes have no room for
+    /// the items.
     ///
     /// ```rust
     /// let bytes = [0x34, 0x12, 0xff];
@@ -245,7 +245,7 @@ impl<'a, T: Packed> UnalignedSlice<'a, T> {
         }
     }
 
-    /// The number of items.
+    /// Returns the number of items.
     ///
     /// ```rust
     /// let items: UnalignedSlice<u16> = UnalignedSlice::new(&[1, 0, 2, 0, 3, 0], 3);
@@ -258,7 +258,7 @@ impl<'a, T: Packed> UnalignedSlice<'a, T> {
         self.len
     }
 
-    /// Whether there are no items.
+    /// Returns whether there are no items.
     ///
     /// See [`UnalignedSlice::len`].
     pub fn is_empty(&self) -> bool
@@ -279,7 +279,7 @@ impl<'a, T: Packed> UnalignedSlice<'a, T> {
         }
     }
 
-    /// The item at a place where there is one.
+    /// The item at a place if there is one.
     fn item(&self, place: usize) -> T
         requires { place < length (items_of self.now) }
         ensures { T.number result ≡ slice_index (items_of self.now) place }
@@ -288,7 +288,7 @@ impl<'a, T: Packed> UnalignedSlice<'a, T> {
         T::read_le(&self.bytes[start..start + T::SIZE])
     }
 
-    /// The item at an index, or `None` from the length on.
+    /// Returns the item at an index, or `None` from the length on.
     ///
     /// ```rust
     /// let items: UnalignedSlice<u16> = UnalignedSlice::new(&[0x34, 0x12, 0x78, 0x56], 2);
@@ -305,7 +305,7 @@ impl<'a, T: Packed> UnalignedSlice<'a, T> {
         }
     }
 
-    /// Takes the first item away, where there is one.
+    /// Takes the first item away, if there is one.
     fn take_first(&mut self) -> Option<T>
         ensures { YieldsFirstBy T.number items_of self.old result self.new }
     {
@@ -318,8 +318,8 @@ impl<'a, T: Packed> UnalignedSlice<'a, T> {
         Some(T::read_le(first))
     }
 
-    /// The items in order, each once, and then `None` for ever. The iterator borrows the bytes, so
-    /// it may outlive this view.
+    /// Returns the items in order, each once, and then `None` for ever. The iterator borrows the
+    /// bytes, so it may outlive this view.
     ///
     /// ```rust
     /// let items: UnalignedSlice<u16> = UnalignedSlice::new(&[1, 0, 2, 0, 3, 0], 3);
@@ -364,8 +364,8 @@ impl<'a, T: Packed> UnalignedSlice<'a, T> {
         }
     }
 
-    /// The items as a vector, or `AllocError`. One request for memory, of exactly the size of the items,
-    /// and none where there are no items.
+    /// Returns the items as a vector, or `AllocError`. Allocates once, exactly the size of the
+    /// items, or not at all if there are no items.
     ///
     /// ```rust
     /// let items: UnalignedSlice<u16> = UnalignedSlice::new(&[0x34, 0x12, 0x78, 0x56], 2);
@@ -404,7 +404,7 @@ impl<'a, T: Packed> IntoIterator for UnalignedSlice<'a, T> {
     }
 }
 
-/// The clone shows the same items. It takes no memory, and is never refused.
+/// The clone shows the same items. It does not allocate, and is never refused.
 impl<'a, T: Packed> Clone for UnalignedSlice<'a, T> {
     ghost is_clone = { λ slice clone. clone ≡ slice };
 
@@ -509,8 +509,8 @@ fn refusal_in_buffer(error: FromSliceWithNulError) -> UnalignedCStr16Error
 impl<'a> UnalignedSlice<'a, u16> {
     ghost use Rattle.uefi_text.specs.Views.{items_of, text_of};
 
-    /// The code units that all of the bytes encode, two bytes for each, the low one first; or
-    /// `None` exactly where the bytes are odd in number.
+    /// Returns the code units that all of the bytes encode, two bytes for each, the low byte first;
+    /// or `None` exactly if the number of bytes is odd.
     ///
     /// ```rust
     /// assert_eq!(rt; UnalignedSlice::from_unit_bytes(&[0x48, 0, 0x69, 0]).map(|it| it.len()), Some(2));
@@ -560,8 +560,8 @@ impl<'a> UnalignedSlice<'a, u16> {
         None
     }
 
-    /// The units that bytes begin with, up to and with their first NUL, and the bytes after it; or `None`
-    /// exactly where no NUL is among the units. Units before the NUL may be surrogates.
+    /// Returns the units that bytes begin with, up to and with their first NUL, and the bytes after
+    /// it; or `None` exactly if no NUL is among the units. Units before the NUL may be surrogates.
     ///
     /// ```rust
     /// let field = [0x48, 0, 0x69, 0, 0, 0, 7, 8];
@@ -585,7 +585,7 @@ impl<'a> UnalignedSlice<'a, u16> {
         Some((UnalignedSlice::from_unit_bytes(string).unwrap(), rest))
     }
 
-    /// Why the items are no string, if they are none.
+    /// Why the items are not a string, if they are none.
     pub(crate) fn check_with_nul(&self) -> Result<(), FromSliceWithNulError>
         ensures refusal { result_err result ≡ with_nul_refusal (items_of self.now) }
         ensures accepted { OnOk result (IsString (items_of self.now)) }
@@ -596,9 +596,8 @@ impl<'a> UnalignedSlice<'a, u16> {
         check_deciding_unit(self.item(place), place, self.len())
     }
 
-    /// Copies the items into an owned string. Refused as [`CStr16::from_u16_with_nul`] refuses the
-    /// same units; `OutOfMemory` comes last. All items are tested before memory is asked for, in
-    /// one request.
+    /// Copies the items into an owned string. Fails as [`CStr16::from_u16_with_nul`] does;
+    /// `OutOfMemory` comes last. All items are tested before the call allocates, once.
     ///
     /// ```rust
     /// let units: UnalignedSlice<u16> = UnalignedSlice::new(&[0x48, 0, 0x69, 0, 0, 0], 3);
@@ -638,11 +637,11 @@ impl<'a> UnalignedSlice<'a, u16> {
         self.copy_to(&mut buffer[..len]);
     }
 
-    /// Copies the items to the start of a buffer, and says whether they are a string.
+    /// Copies the items to the start of a buffer, and checks that they are a string.
     ///
-    /// A buffer of fewer places than there are items is refused as `BufferTooSmall` and is
-    /// unchanged. Else the buffer begins with the items, what follows them is unchanged, and the
-    /// first NUL or surrogate decides, as in [`CStr16::from_u16_with_nul`].
+    /// A buffer of fewer places than items is refused as `BufferTooSmall` and is unchanged.
+    /// Otherwise the buffer begins with the items, the rest is unchanged, and the first NUL or
+    /// surrogate decides, as in [`CStr16::from_u16_with_nul`].
     ///
     /// ```rust
     /// let units: UnalignedSlice<u16> = UnalignedSlice::new(&[0x48, 0, 0, 0], 2);
@@ -700,13 +699,13 @@ fn ends_in_nul(bytes: &[u8]) -> bool
 impl<'a> CStr16<'a> {
     ghost use Rattle.uefi_text.specs.Views.{items_of, text_of};
 
-    /// Decodes bytes at any address, two for each code unit and the low one first, into an owned
+    /// Decodes bytes at any address, two for each code unit and the low byte first, into an owned
     /// string.
     ///
-    /// Bytes that are odd in number, or do not end in two zeros, are refused as `NotNulTerminated`,
-    /// whatever units stand before. Else the units decide as in [`CStr16::from_u16_with_nul`], and
-    /// `OutOfMemory` comes last. `NotAligned` is never returned. All bytes are tested before memory
-    /// is asked for, in one request.
+    /// An odd number of bytes, or do not end in two zeros, are refused as `NotNulTerminated`,
+    /// whatever units stand before. Otherwise the units decide as in [`CStr16::from_u16_with_nul`],
+    /// and `OutOfMemory` comes last. `NotAligned` is never returned. All bytes are tested before
+    /// the call allocates, once.
     ///
     /// ```rust
     /// let name = CStr16::from_bytes_with_nul(rt.alloc(), &[0x48, 0, 0x69, 0, 0, 0])?;
@@ -732,7 +731,7 @@ impl<'a> CStr16<'a> {
         UnalignedSlice::new(bytes, bytes.len() / 2).to_cstring16(alloc)
     }
 
-    /// [`UnalignedSlice::to_cstr16`] of the slice. Takes no memory.
+    /// [`UnalignedSlice::to_cstr16`] of the slice. Does not allocate.
     ///
     /// ```rust
     /// let units: UnalignedSlice<u16> = UnalignedSlice::new(&[0x48, 0, 0x69, 0, 0, 0], 3);
@@ -756,7 +755,7 @@ impl<'a> CStr16<'a> {
 impl<A: Allocator> CString16<A> {
     ghost use Rattle.uefi_text.specs.Views.{items_of};
 
-    /// [`UnalignedSlice::to_cstring16`] of the slice, with one request for memory.
+    /// [`UnalignedSlice::to_cstring16`] of the slice, with one allocation.
     ///
     /// ```rust
     /// let units: UnalignedSlice<u16> = UnalignedSlice::new(&[0x48, 0, 0x69, 0, 0, 0], 3);

@@ -29,7 +29,7 @@ impl Printed for BufferTooSmall {
     }
 }
 
-/// Prints the same.
+/// Prints the same text.
 impl fmt::Display for BufferTooSmall {
     ghost output = { λ error. Some (buffer_too_small_text error) };
 
@@ -163,11 +163,11 @@ fn fill_units<P: Printed>(buffer: &mut [u16], value: &P) -> usize
     sink.len
 }
 
-/// Writes the text of a value to the start of a buffer as UTF-16, with a NUL after it, and returns the length
-/// of the text without the NUL. What follows the NUL is unchanged.
+/// Writes the text of a value to the start of a buffer as UTF-16, with a NUL after it, and returns
+/// the length of the text without the NUL. The rest of the buffer is unchanged.
 ///
-/// Fails only if the buffer is too small, and then leaves it unchanged. Makes the text twice: once to count
-/// its units, and once to write them. Takes no memory.
+/// Fails only if the buffer is too small, and then leaves it unchanged. Makes the text twice: once
+/// to count its units, and once to write them. Does not allocate.
 ///
 /// ```rust
 /// let mut buffer = [0xffff; 18];

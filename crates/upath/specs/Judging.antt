@@ -16,12 +16,12 @@ bytes_fault bytes =
 abbrev pub path_fault : List ℕ → Option JudgeError
 path_fault text = option_map Invalid (verdict (with_separators text))
 
--- a path is that of bytes: they encode its text but for the slashes, and it is accepted
+-- a path is valid, and the bytes encode its text, with slashes or separators
 abbrev pub IsPathOf : List ℕ → List ℕ → Type 0
 IsPathOf bytes path = (text : List ℕ)
     × BytesEncode bytes text × (path ≡ with_separators text) × (path_fault text ≡ None)
 
--- what bytes are refused for: the fault of their own, else out of memory or the fault of their path
+-- why bytes are refused: the fault of the bytes, else a lack of memory or the fault of their path
 abbrev pub IsRefusalOf : List ℕ → JudgeError → Type 0
 IsRefusalOf bytes error = MatchOption (bytes_fault bytes)
     ((text : List ℕ) × BytesEncode bytes text × ((error ≡ OutOfMemory) ⊎ (path_fault text ≡ Some error)))

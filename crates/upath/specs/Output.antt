@@ -125,6 +125,6 @@ printed_from path (first ∷ others) =
 abbrev pub output_with : List ℕ → List ℕ → List ℕ → List ℕ
 output_with output path bytes = output ++ printed_from path (lines_of bytes)
 
--- what a run over an input prints
+-- the output of a run over an input
 abbrev pub output_of : List ℕ → List ℕ
 output_of input = printed_from [] (lines_of input)

@@ -24,7 +24,7 @@ after_command path command = after_edit path (edit_shown command)
 abbrev pub after_commands : List ℕ → List PathCommand → List ℕ
 after_commands path commands = fold after_command path commands
 
--- a command takes memory at a path
+-- a command allocates at a path
 abbrev pub TakesMemory : List ℕ → PathCommand → Type 0
 TakesMemory text (From string) = ⊤
 TakesMemory text (Push path) = path_text path ≢ []

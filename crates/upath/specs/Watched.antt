@@ -3,10 +3,10 @@ use Rattle.std.specs.Prelude.{Bool}
 use Rattle.upath.specs.declared.watched.Watched.{Watched}
 
 module _ {T : Type 0} where
-  -- the reader or writer that is held
+  -- the watched reader or writer
   abbrev pub stream_of : Watched T → T
   stream_of watched = watched.stream
 
-  -- whether a call of it failed
+  -- whether one of the stream's calls failed
   abbrev pub is_marked : Watched T → Bool
   is_marked watched = watched.failed

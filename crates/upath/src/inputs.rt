@@ -46,8 +46,8 @@ impl<A: Allocator + Copy> PartialRun<A> {
         done
     }
 
-    /// Runs the lines that end in a part, and keeps what follows them. Where nothing is printed, no line
-    /// ended.
+    /// Runs the lines that end in a part, and keeps what follows them. If nothing is printed, no
+    /// line ended.
     pub(crate) fn add(&mut self, part: &[u8]) -> Result<(), AllocError>
         requires { IsUnended self.old.begun.items }
         ensures unended { OnOk result (IsUnended self.new.begun.items) }
@@ -83,17 +83,17 @@ impl<A: Allocator + Copy> PartialRun<A> {
     }
 }
 
-/// What the lines of an input print, from the empty path on.
+/// Returns what the lines of an input print, from the empty path on.
 ///
-/// Lines end at a line feed, and no other byte ends or trims one. `from T` makes the path that of T, its
-/// slashes replaced, `push T` and `join T` push that onto it, `clear` empties it, `parent` makes it its
-/// parent, and each prints it; `parent` prints `none` where there is none. These edits are those of
-/// [`crate::run_commands`]. `pieces` prints the number of components and each, `up` that of the
-/// successive parents and each; `eq T` and `cmp T` print how the path compares with that of T, taken as
-/// it stands; `check` prints whether it is accepted, or why not, and `norm` the normal path, or why there
-/// is none. A line that is not UTF-8, one that is no command and a T that is no text of UCS-2 print a
-/// line that says so and leave the path unchanged. The only error is out of memory, and then nothing of
-/// the output is returned.
+/// Lines end at a line feed, and no other byte ends or trims one. `from T` makes the path that of
+/// T, its slashes replaced, `push T` and `join T` push that onto it, `clear` empties it, `parent`
+/// makes it its parent, and each prints it; `parent` prints `none` if there is none. These edits
+/// are those of [`crate::run_commands`]. `pieces` prints the number of components and each, `up`
+/// that of the successive parents and each; `eq T` and `cmp T` print how the path compares with
+/// that of T, taken as it stands; `check` prints whether it is accepted, or why not, and `norm` the
+/// normal path, or why there is none. A line that is not UTF-8, one that is no command and a T that
+/// is no text of UCS-2 print a line that says so and leave the path unchanged. The only error is
+/// out of memory, and then nothing of the output is returned.
 ///
 /// ```rust
 /// let output = run_text(rt.alloc(), b"from /efi\npush boot\nparent\nparent\n")?;

@@ -17,14 +17,14 @@ pub enum JudgeError {
     /// The bytes are odd in number.
     HalfUnit,
 
-    /// The code units that the bytes encode are no string, for this reason, which is never
+    /// The code units that the bytes encode are not a string, for this reason, which is never
     /// `OutOfMemory`.
     Text(FromSliceWithNulError),
 
     /// The path of the string is refused, for this reason.
     Invalid(PathError),
 
-    /// A request for memory was refused.
+    /// Memory ran out.
     OutOfMemory,
 }
 
@@ -42,7 +42,7 @@ impl Printed for JudgeError {
     }
 }
 
-/// Prints the same.
+/// Prints the same text.
 impl fmt::Display for JudgeError {
     ghost output = { λ error. Some (judge_error_text error) };
 
@@ -68,13 +68,13 @@ fn read_string<A: Allocator>(alloc: A, bytes: &[u8]) -> Result<CString16<A>, Jud
     }
 }
 
-/// Decodes bytes at any address as a string, two for each code unit and the low one first, and
+/// Decodes bytes at any address as a string, two for each code unit and the low byte first, and
 /// returns its path, each slash replaced, where [`validate_path`] accepts that.
 ///
-/// The refusals come in this order. An odd number of bytes is `HalfUnit`. Units that are no string
-/// are `Text` of what [`uefi_text::CStr16::from_u16_with_nul`] says of them. Refused memory is
-/// `OutOfMemory`. A path that is not accepted is `Invalid` of the reason. The bytes are tested
-/// before memory is asked for.
+/// The refusals come in this order. An odd number of bytes is `HalfUnit`. Units that are not a
+/// string are `Text` of what [`uefi_text::CStr16::from_u16_with_nul`] says of them. Refused memory
+/// is `OutOfMemory`. A path that is not accepted is `Invalid` of the reason. The bytes are tested
+/// before the call allocates.
 ///
 /// ```rust
 /// let path = judge(rt.alloc(), b"a\0/\0b\0\0\0")?;

@@ -53,7 +53,7 @@ impl Printed for RunFault {
     }
 }
 
-/// Prints the same.
+/// Prints the same text.
 impl fmt::Display for RunFault {
     ghost output = { λ fault. Some (run_fault_text fault.done) };
 
@@ -97,8 +97,8 @@ pub(crate) fn run_command<A: Allocator + Copy>(
 /// Does commands on a path, one after the other: the path becomes what folding their meaning over
 /// it gives.
 ///
-/// Where memory is refused the error says how many commands were done, fewer than all, and the path
-/// is what these made of it. `Clear`, `Push` of an empty path and `Parent` of a path that has none
+/// If memory runs out the error says how many commands were done, fewer than all, and the path is
+/// what these made of it. `Clear`, `Push` of an empty path and `Parent` of a path that has none
 /// take no memory. Costs what the commands cost.
 ///
 /// ```rust
@@ -127,9 +127,9 @@ pub fn run_commands<A: Allocator + Copy>(
     Ok(())
 }
 
-/// The components of a path as a list, or `AllocError`. They are the only list of pieces without
-/// separators that joins to the path's canonical text, where a list of one empty piece does not
-/// count. Takes memory for the list.
+/// Returns the components of a path as a list, or `AllocError`. They are the only list of pieces
+/// without separators that joins to the path's canonical text, where a list of one empty piece does
+/// not count. Takes memory for the list.
 ///
 /// ```rust
 /// let text = CString16::try_from_str(rt.alloc(), r"\efi\boot")?;
@@ -150,9 +150,9 @@ pub fn pieces<'a, A: Allocator>(
     path.components().collect(alloc)
 }
 
-/// The parent of a path, the parent of that, and so on until there is none; or `AllocError`. Of a
-/// valid path these are its shorter prefixes, the longest first. Takes memory as [`PathBuf::parent`] does
-/// for each, and for the list; costs what the parents are long.
+/// Returns the parent of a path, the parent of that, and so on until there is none; or
+/// `AllocError`. Of a valid path these are its shorter prefixes, the longest first. Allocates as
+/// [`PathBuf::parent`] does for each, and for the list; costs what the parents are long.
 ///
 /// ```rust
 /// let text = CString16::try_from_str(rt.alloc(), r"\a\b\c")?;

@@ -40,7 +40,7 @@ impl Printed for StreamFault {
     }
 }
 
-/// Prints the same.
+/// Prints the same text.
 impl fmt::Display for StreamFault {
     ghost output = { λ fault. Some (stream_fault_text fault) };
 

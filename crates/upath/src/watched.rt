@@ -9,7 +9,7 @@ use std::io::{self, ErrorKind, Read, Write};
 /// A wrapper of a reader or a writer that records failed calls. The first failed call sets a mark,
 /// which then stays set.
 ///
-/// Each call returns an `Err` exactly where it sets the mark. None is made again.
+/// Each call returns an `Err` exactly if it sets the mark. None is made again.
 ///
 /// ```rust
 /// let mut reader = Watched::new(b"abc".as_slice());
@@ -36,7 +36,7 @@ impl<T> Watched<T> {
         }
     }
 
-    /// Whether a call failed: the mark.
+    /// Returns whether a call failed: the mark.
     pub fn has_failed(&self) -> bool
         ensures { result ≡ is_marked self.now }
     {

@@ -25,8 +25,9 @@ pub(crate) fn pad(
     (before..missing).try_for_each(|_| f.write_char(fill))
 }
 
-/// Writes units that may hold surrogates as UTF-8 to the start of a buffer, up to the first NUL, and returns the text. A pair of
-/// surrogates is one character; U+FFFD stands for one without a partner. The buffer needs room for a NUL too.
+/// Writes units that may hold surrogates as UTF-8 to the start of a buffer, up to the first NUL,
+/// and returns the text. A pair of surrogates becomes one character; a surrogate without a partner
+/// becomes U+FFFD. The buffer needs room for a NUL too.
 ///
 /// ```
 /// # use nardcorbel::str_from_units_lossy;
@@ -48,8 +49,9 @@ pub(crate) fn text_of(bytes: &[u8]) -> Result<&str, Error> {
 
 /// Displays characters to a person, for example the description of a boot entry.
 ///
-/// Each control character, and each that ends a line or changes the direction of a text, is shown as `\u{N}`, as
-/// in the texts of device paths: printed on a terminal, it could hide or forge what stands beside it.
+/// Each control character, and each that ends a line or changes the direction of a text, is shown
+/// as `\u{N}`, as in the texts of device paths: printed on a terminal, it could hide or forge the
+/// text beside it.
 ///
 /// ```
 /// # use nardcorbel::Shown;

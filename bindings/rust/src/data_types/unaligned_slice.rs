@@ -27,7 +27,7 @@ impl<'a, T: Copy> UnalignedSlice<'a, T> {
     ///
     /// # Safety
     ///
-    /// So many items stand there, and are unchanged while the slice is used.
+    /// That many items are at the address, and they are unchanged while the slice is used.
     #[must_use]
     pub const unsafe fn new(data: *const T, len: usize) -> Self {
         Self {

@@ -69,7 +69,8 @@ pub trait BuildNode {
     /// Returns the type and the sub-type.
     fn full_type(&self) -> (DeviceType, DeviceSubType);
 
-    /// Writes the data in pieces, each with its place. The node is as long as the last piece ends; what no piece covers is zero.
+    /// Writes the data in pieces, each with its place. The node ends with the last piece; bytes
+    /// that no piece covers are zero.
     fn parts(&self, write: &mut dyn FnMut(usize, &[u8]));
 }
 
@@ -143,7 +144,7 @@ impl<'a> DevicePathBuilder<'a> {
         }
     }
 
-    /// Starts a path without nodes in a vector, which loses what it had, and grows as needed.
+    /// Starts a path without nodes in a vector, which loses its content and grows as needed.
     #[cfg(feature = "alloc")]
     pub fn with_vec(vector: &'a mut Vec<u8>) -> Self {
         vector.clear();
@@ -218,7 +219,7 @@ impl<'a> DevicePathBuilder<'a> {
 
     /// Adds the nodes of a text, such as `PciRoot(0x0)/Pci(0x1F,0x2)`. A comma ends an instance.
     ///
-    /// Fails with [`Reason::NoNode`] at the byte where a node has to begin and none does.
+    /// Fails with [`Reason::NoNode`] at the byte where a node should begin, but does not.
     ///
     /// ```
     /// use nardcorbel::proto::device_path::build::DevicePathBuilder;
