@@ -63,3 +63,5 @@ no_room text buffer full =
 -- a text that leaves a place for its NUL is written
 pub has_room : (text buffer : List ℕ) → length text < length buffer → room_reason text buffer ≡ 0
 has_room text buffer fits = grind (arith, common_steps)
+
+pub ruleset judged = (all_before)

@@ -1,10 +1,5 @@
-<<<<<<< HEAD
-//! Paths that are made in a caller's buffer: whole, or not at all. No call takes memory.
-ghost use Rattle.std.specs.Prelude.{◌≡◌, ◌+◌, ◌*◌, ◌≤◌, ℕ, List, Err, Ok, Some, length};
-=======
 //! Paths that are made in a caller's buffer: whole, or not at all. No call allocates.
-ghost use Rattle.std.specs.Prelude.{◌≡◌, ◌+◌, ◌*◌, ◌≤◌, ℕ, List, Err, Ok, length};
->>>>>>> 5a63d78039292a3c171a378f6c2db18b09da4649
+ghost use Rattle.std.specs.Prelude.{◌≡◌, ◌+◌, ◌*◌, ◌≤◌, ℕ, List, Err, Ok, Some, length};
 ghost use Rattle.std.specs.Str.{IsUtf8, chars};
 ghost use Rattle.uefi_text.specs.Units.{IsText};
 ghost use Rattle.uefi_path.specs.Parents.{parent_text};

@@ -17,15 +17,11 @@ use crate::reasons::{BUFFER_TOO_SMALL, INTERIOR_NUL, INVALID_CHAR, OK};
 use uefi_text::decode::write_lossy;
 use uefi_text::{CStr16, EqStrUntilNul, is_latin1, text_len};
 
-/// The reason why a text is not a string, or `OK`; and the number of characters before the first that no
-/// string can have, or of all characters if there is none. Decodes characters only to find that first one.
-fn judge_text(text: &str) -> (u32, usize)
+/// Does what [`judge_text`] does, character by character.
+fn judge_chars(text: &str) -> (u32, usize)
     ensures reason { result.0 ≡ character_reason (find is_deciding_char (chars text.now)) }
     ensures place { result.1 ≡ position_or_len is_deciding_char (chars text.now) }
 {
-    if let Some(len) = text_len(text) {
-        return (OK, len);
-    }
     let mut len = 0;
     for character in text.chars() {
         match character {
@@ -35,6 +31,19 @@ fn judge_text(text: &str) -> (u32, usize)
         }
     }
     (OK, len)
+}
+
+/// The reason why a text is not a string, or `OK`; and the number of characters before the first that no
+/// string can have, or of all characters if there is none. Decodes characters only to find that first one.
+#[tactic(auto, using(crate::proofs::Judged::judged))]
+fn judge_text(text: &str) -> (u32, usize)
+    ensures reason { result.0 ≡ character_reason (find is_deciding_char (chars text.now)) }
+    ensures place { result.1 ≡ position_or_len is_deciding_char (chars text.now) }
+{
+    match text_len(text) {
+        Some(len) => (OK, len),
+        None => judge_chars(text),
+    }
 }
 
 /// Writes a text in UTF-8 as a string to the start of a buffer.

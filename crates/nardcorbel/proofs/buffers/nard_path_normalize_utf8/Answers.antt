@@ -23,12 +23,12 @@ pub returns-then-reason-ne-OK-clause-string : goal.returns-then-reason-ne-OK-cla
 returns-then-reason-ne-OK-clause-string c =
     let cut = c.split_at_mut-first.ensures in
     (halves c.args.buffer.now _ _ (ap length cut.front) (c.nard_string_from_utf8-reason.auto.buffer ∙ ap length cut.back)).1
-    ∙ c.nard_string_from_utf8-reason.ensures.buffer ∙ ap (buffer_shown (string_of_utf8 c.args.bytes.now)) cut.back
+    ∙ c.nard_string_from_utf8-reason.ensures.shows.buffer ∙ ap (buffer_shown (string_of_utf8 c.args.bytes.now)) cut.back
 
 pub returns-then-reason-ne-OK-clause-refused : goal.returns-then-reason-ne-OK-clause-refused
 returns-then-reason-ne-OK-clause-refused c = λ _.
     let cut = c.split_at_mut-first.ensures in
-    let made = c.nard_string_from_utf8-reason.ensures in
+    let made = c.nard_string_from_utf8-reason.ensures.shows in
     let outcome = string_of_utf8 c.args.bytes.now in
     let kept = refused_kept outcome c.split_at_mut-first.result.1.now (λ ok. c.if-reason-ne-OK.true (made.reason ∙ ok)) in (
       record {
@@ -42,12 +42,12 @@ returns-then-reason-ne-OK-clause-refused c = λ _.
 
 pub returns-then-reason-ne-OK-clause-path : goal.returns-then-reason-ne-OK-clause-path
 returns-then-reason-ne-OK-clause-path c = λ has.
-    absurd (c.if-reason-ne-OK.true (c.nard_string_from_utf8-reason.ensures.reason
+    absurd (c.if-reason-ne-OK.true (c.nard_string_from_utf8-reason.ensures.shows.reason
     ∙ ap (reason_shown (string_of_utf8 c.args.bytes.now)) c.split_at_mut-first.ensures.back ∙ has))
 
 pub returns-then-reason-ne-OK-clause-character : goal.returns-then-reason-ne-OK-clause-character
 returns-then-reason-ne-OK-clause-character c = λ has.
-    absurd (c.if-reason-ne-OK.true (c.nard_string_from_utf8-reason.ensures.reason
+    absurd (c.if-reason-ne-OK.true (c.nard_string_from_utf8-reason.ensures.shows.reason
     ∙ ap (reason_shown (string_of_utf8 c.args.bytes.now)) c.split_at_mut-first.ensures.back ∙ has))
 
 pub returns-then-reason-ne-OK-clause-enough : goal.returns-then-reason-ne-OK-clause-enough
@@ -55,18 +55,18 @@ returns-then-reason-ne-OK-clause-enough c = λ big utf8 is_text valid.
     let some = length-chars c.args.bytes.now utf8 in
     let room = (enough_halves c.args.buffer.now (length c.args.bytes.now) big).1 in
     let has = string_fits c.args.bytes.now (second_half c.args.buffer.now) utf8 is_text (omega (arith, some, room)) in
-    absurd (c.if-reason-ne-OK.true (c.nard_string_from_utf8-reason.ensures.reason
+    absurd (c.if-reason-ne-OK.true (c.nard_string_from_utf8-reason.ensures.shows.reason
     ∙ ap (reason_shown (string_of_utf8 c.args.bytes.now)) c.split_at_mut-first.ensures.back ∙ has))
 
 pub returns-clause-string : goal.returns-clause-string
 returns-clause-string c =
     let cut = c.split_at_mut-first.ensures in
     (halves c.args.buffer.now _ _ (c.nard_path_normalize.auto.buffer ∙ ap length cut.front) (c.nard_string_from_utf8-reason.auto.buffer ∙ ap length cut.back)).1
-    ∙ c.nard_string_from_utf8-reason.ensures.buffer ∙ ap (buffer_shown (string_of_utf8 c.args.bytes.now)) cut.back
+    ∙ c.nard_string_from_utf8-reason.ensures.shows.buffer ∙ ap (buffer_shown (string_of_utf8 c.args.bytes.now)) cut.back
 
 pub returns-clause-refused : goal.returns-clause-refused
 returns-clause-refused c = λ no.
-    absurd (no (sym (c.nard_string_from_utf8-reason.ensures.reason
+    absurd (no (sym (c.nard_string_from_utf8-reason.ensures.shows.reason
     ∙ ap (reason_shown (string_of_utf8 c.args.bytes.now)) c.split_at_mut-first.ensures.back) ∙ c.if-reason-ne-OK.false))
 
 pub returns-clause-path : goal.returns-clause-path
@@ -75,7 +75,7 @@ returns-clause-path c = λ has.
     let cut = c.split_at_mut-first.ensures in
     let written = c.nard_string_from_utf8-reason.new.buffer in
     let fits = has_string c.args.bytes.now c.split_at_mut-first.result.1.now (subst (HasStringIn c.args.bytes.now) (sym cut.back) has) in
-    let wrote = c.nard_string_from_utf8-reason.ensures.buffer ∙ wrote_string c.args.bytes.now c.split_at_mut-first.result.1.now fits in
+    let wrote = c.nard_string_from_utf8-reason.ensures.shows.buffer ∙ wrote_string c.args.bytes.now c.split_at_mut-first.result.1.now fits in
     let reads = reads_written text c.split_at_mut-first.result.1.now written fits.text fits.room wrote in
     let there = rw reads at c.nard_path_normalize.ensures.path in
     let shown = normal_shown text _ _ _ c.args.place.now _ _ there in
@@ -90,7 +90,7 @@ pub returns-clause-character : goal.returns-clause-character
 returns-clause-character c = λ has.
     let cut = c.split_at_mut-first.ensures in
     let fits = has_string c.args.bytes.now c.split_at_mut-first.result.1.now (subst (HasStringIn c.args.bytes.now) (sym cut.back) has) in
-    let wrote = c.nard_string_from_utf8-reason.ensures.buffer ∙ wrote_string c.args.bytes.now c.split_at_mut-first.result.1.now fits in
+    let wrote = c.nard_string_from_utf8-reason.ensures.shows.buffer ∙ wrote_string c.args.bytes.now c.split_at_mut-first.result.1.now fits in
     c.nard_path_normalize.ensures.character (chars c.args.bytes.now)
     (reads_written (chars c.args.bytes.now) c.split_at_mut-first.result.1.now _ fits.text fits.room wrote)
 

@@ -4,7 +4,7 @@ use Rattle.std.specs.List.{find, position_or_len}
 use Rattle.std.specs.Str.{chars, IsUtf8}
 use Rattle.std.specs.Str.Iter.{chars_rest}
 use Rattle.uefi_text.specs.FromStr.{is_deciding_char}
-use Rattle.nardcorbel.proofs.utf8_texts.judge_text.Given as goal
+use Rattle.nardcorbel.proofs.utf8_texts.judge_chars.Given as goal
 
 abbrev pub invariant-loop-character : goal.invariant-loop-character
 invariant-loop-character l = record {

@@ -6,7 +6,7 @@ use Rattle.std.specs.Str.{chars}
 use Rattle.uefi_text.specs.FromStr.{is_deciding_char}
 use Rattle.nardcorbel.specs.Reasons.{character_reason}
 use Rattle.nardcorbel.proofs.Judged.{high_found, nul_found, passed}
-use Rattle.nardcorbel.proofs.utf8_texts.judge_text.Goals as goal
+use Rattle.nardcorbel.proofs.utf8_texts.judge_chars.Goals as goal
 
 pub returns-in-0-clause-reason : goal.returns-in-0-clause-reason
 returns-in-0-clause-reason c =
