@@ -22,7 +22,7 @@ fn find_deciding_char(text: &str) -> Option<char>
     text.chars().find(|c| *c == '\0' || *c > '\u{ffff}')
 }
 
-/// Whether none of the characters of a text is refused. No byte is decoded.
+/// Returns whether none of the characters of a text is refused. No byte is decoded.
 fn is_undecided(text: &str) -> bool
     ensures { IsTrue result ↔ (find is_deciding_char (chars text.now) ≡ None) }
 {
@@ -90,7 +90,7 @@ fn units_of_few_chars<A: Allocator>(alloc: A, text: &str) -> Result<Vec<u16, A>,
     Ok(units)
 }
 
-/// Reads the first eight characters of a text, where each has three bytes, and returns what follows them.
+/// Reads the first eight characters of a text if each has three bytes, and returns the rest.
 #[inline(always)]
 fn read_wide<'a>(text: &'a str, eight: &mut [u16; 8]) -> Option<&'a str>
     ensures { IfSome result (λ rest. (chars text.now ≡ eight.new ++ chars rest.now) × IsUtf8 rest.now
@@ -120,8 +120,8 @@ fn read_wide<'a>(text: &'a str, eight: &mut [u16; 8]) -> Option<&'a str>
     Some(unsafe { str::from_utf8_unchecked(rest) })
 }
 
-/// Reads the first eight characters of a text one by one, where a UCS-2 text holds each of them, and
-/// returns what follows them.
+/// Reads the first eight characters of a text one by one if a UCS-2 text can contain each of them,
+/// and returns the rest.
 #[inline(always)]
 fn read_each<'a>(text: &'a str, eight: &mut [u16; 8]) -> Option<&'a str>
     ensures { IfSome result (λ rest. (chars text.now ≡ eight.new ++ chars rest.now) × IsUtf8 rest.now
@@ -138,8 +138,8 @@ fn read_each<'a>(text: &'a str, eight: &mut [u16; 8]) -> Option<&'a str>
     Some(characters.as_str())
 }
 
-/// Reads the first eight characters of a text, where a UCS-2 text holds each of them, and returns what
-/// follows them.
+/// Reads the first eight characters of a text if a UCS-2 text can contain each of them, and returns
+/// the rest.
 #[inline(always)]
 fn read_eight<'a>(text: &'a str, eight: &mut [u16; 8]) -> Option<&'a str>
     ensures { IfSome result (λ rest. (chars text.now ≡ eight.new ++ chars rest.now) × IsUtf8 rest.now
@@ -186,7 +186,7 @@ fn write_front<'a>(text: &'a str, units: &mut [u16]) -> (usize, &'a str)
     (len, rest)
 }
 
-/// Why a text that is not one of UCS-2 is refused.
+/// Returns why a text that is not UCS-2 is refused.
 fn refusal_of_text(text: &str) -> FromStrError
     requires { ¬ (find is_deciding_char (chars text.now) ≡ None) }
     ensures { Some result ≡ from_str_refusal (chars text.now) }
@@ -197,7 +197,8 @@ fn refusal_of_text(text: &str) -> FromStrError
     }
 }
 
-/// The units of a text of UCS-2 and a NUL, unless memory is refused; `None` exactly for other texts.
+/// Returns the units of a text of UCS-2 and a NUL, unless memory runs out; `None` exactly for other
+/// texts.
 fn try_units<A: Allocator>(alloc: A, text: &str) -> Option<Result<Vec<u16, A>, AllocError>>
     ensures some { IsSome result ↔ (find is_deciding_char (chars text.now) ≡ None) }
     ensures units { IfSome result (λ tried.
@@ -242,7 +243,7 @@ pub(crate) fn write_text(input: &str, buffer: &mut [u16]) -> Result<usize, FromS
     write_chars(input, buffer)
 }
 
-/// Does what [`write_text`] does, for a text of ASCII without NUL for which the buffer has room: its bytes
+/// Does what [`write_text`] does for a text of ASCII without NUL that fits in the buffer: its bytes
 /// are its units.
 fn write_ascii(bytes: &[u8], buffer: &mut [u16]) -> usize
     requires { length bytes.now < length buffer.old }
@@ -255,7 +256,7 @@ fn write_ascii(bytes: &[u8], buffer: &mut [u16]) -> usize
     end
 }
 
-/// Does what [`write_text`] does, for any text: the prefix of it that is one of UCS-2 at once, and then
+/// Does what [`write_text`] does for any text: writes its UCS-2 prefix at once, and then goes on
 /// character by character.
 fn write_chars(input: &str, buffer: &mut [u16]) -> Result<usize, FromStrWithBufError>
     ensures ok { IfOk result (λ len. len ≡ length (chars input.now)) }
@@ -284,7 +285,7 @@ fn write_chars(input: &str, buffer: &mut [u16]) -> Result<usize, FromStrWithBufE
     }
 }
 
-/// Why a character at a place of a text is refused, if it is.
+/// Returns why a character at an index of a text is refused, if it is.
 fn refusal_of_char(character: char, place: usize) -> Option<FromStrWithBufError>
     ensures { result ≡ (if is_deciding_char character
         then Some (refusal_of_char_at character place)
@@ -297,8 +298,8 @@ fn refusal_of_char(character: char, place: usize) -> Option<FromStrWithBufError>
     }
 }
 
-/// Writes the one or two units of a character into a buffer from a place on, and returns how many
-/// they are. Where that is the last place, the first alone is written.
+/// Writes the one or two units of a character into a buffer from an index on, and returns the
+/// number of units. If that index is the last, only the first unit is written.
 fn write_char(character: char, buffer: &mut [u16], place: usize) -> usize
     requires { place < length buffer.old }
     ensures len { result ≡ length (encode_utf16 character) }
@@ -314,7 +315,7 @@ fn write_char(character: char, buffer: &mut [u16], place: usize) -> usize
     units.len()
 }
 
-/// Whether eight units are these.
+/// Returns whether eight units are equal to these.
 #[inline(always)]
 fn are_these(units: &[u16], others: &[u16; 8]) -> bool
     requires { length units.now ≡ 8 }
