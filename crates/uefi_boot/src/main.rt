@@ -22,7 +22,7 @@
 //! | status | if |
 //! |---|---|
 //! | 0 | all is well |
-//! | 1 | a variable is malformed, which is printed with the reason and the offset, or a change is refused |
+//! | 1 | a variable is malformed (it is printed with reason and offset), or a change is refused |
 //! | 2 | a read of standard input or a write of standard output failed |
 //! | 3 | memory ran out; standard error has `out of memory` |
 //! | 4 | a variable or a folder can't be read |

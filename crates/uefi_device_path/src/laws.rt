@@ -45,9 +45,9 @@ pub fn options_once()
     ensures never_both { OptionsNeverBoth }
 {}
 
-/// Two different lists of nodes have different texts, if the text of each list determines all of its
-/// nodes. So [`DevicePathBuf::from_text`](crate::DevicePathBuf) reads a printed text as the nodes from
-/// which it was printed.
+/// Two different lists of nodes have different texts, if the text of each list determines all of
+/// its nodes. So [`DevicePathBuf::from_text`](crate::DevicePathBuf) reads a printed text as the
+/// nodes from which it was printed.
 pub fn texts_once()
     ensures { TextsOnce }
 {
@@ -55,8 +55,8 @@ pub fn texts_once()
     node_text_once();
 }
 
-/// A text that determines all of its nodes is never refused as `NoNode`, and any other text is refused
-/// at one byte at most.
+/// A text that determines all of its nodes is never refused as `NoNode`, and any other text is
+/// refused at one byte at most.
 pub fn stopped_texts()
     ensures once { StopsOnce }
     ensures never_both { TextsNeverBoth }
@@ -67,8 +67,8 @@ pub fn stopped_texts()
 
 /// A text is read in a style as exactly one list of nodes, or it has exactly one fault, whose byte
 /// is neither before its node nor after the end of the text. The printed text of the nodes that
-/// were read determines all of them. A printed text that determines all of its nodes is read as these
-/// nodes, exactly and leniently. In the style of printed texts no other text is read.
+/// were read determines all of them. A printed text that determines all of its nodes is read as
+/// these nodes, exactly and leniently. In the style of printed texts no other text is read.
 pub fn styled_texts()
     ensures once { ReadOnce }
     ensures stops { ReadingStopsOnce }
