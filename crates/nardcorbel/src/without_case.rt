@@ -18,9 +18,10 @@ use uefi_path::Path;
 use uefi_text::CStr16;
 use uefi_text::case::{make_lowercase, make_uppercase};
 
-/// Converts the text of the string at the start of units to upper case, as `StrUpr` does. Units
-/// that do not begin with a string are refused as by `nard_string_until_nul`, with its `place`, and
-/// are unchanged. The units after the text are never changed. Does not allocate.
+/// Converts the text of the string at the start of units to upper case, as `StrUpr` does. `place`
+/// becomes the length of the text. Units that do not begin with a string are refused as by
+/// `nard_string_until_nul`, with its `place`, and are unchanged. The units after the text are never
+/// changed. Does not allocate.
 #[unsafe(no_mangle)]
 pub extern "C" fn nard_string_make_uppercase(buffer: &mut [u16], place: &mut usize) -> u32
     ensures shows { ShowsNumber (when_read (read_string buffer.old) (λ text. Number (length text)))

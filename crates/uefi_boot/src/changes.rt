@@ -133,7 +133,7 @@ fn write_at_once(rt: &HostRuntime, path: &str, bytes: &[u8], is_new: bool) -> io
         Err(error) => Err(error),
     };
     if result.is_err() && is_new {
-        // The file has no variable, and the error is what the caller has to know.
+        // The file has no variable, and the caller needs to know the error.
         let _ = fs::remove_file(rt, path);
     }
     result

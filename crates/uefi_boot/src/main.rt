@@ -75,14 +75,15 @@ fn fill<R: Read>(reader: &mut R, buffer: &mut [u8]) -> io::Result<usize>
     Ok(filled)
 }
 
-/// How what is read is printed.
+/// The form of the output.
 #[derive(Clone, Copy, PartialEq, Eq)]
 pub(crate) enum Form {
     Lines,
     Json,
 }
 
-/// A value as JSON, on one line. No value here is one that JSON lacks, so it fails for memory alone.
+/// Returns a value as JSON, on one line. Every value here has a JSON form, so it fails only if
+/// memory runs out.
 pub(crate) fn to_json<T: Serialize>(alloc: Global, value: &T) -> Result<String, fmt::Error> {
     match serde_json::to_string(alloc, value) {
         Ok(text) => Ok(text),

@@ -181,7 +181,7 @@ pub(crate) fn unreadable(rt: &HostRuntime, path: &str, error: &io::Error) -> End
 fn read_file(rt: &HostRuntime, path: &str, buffer: &mut [u8]) -> io::Result<usize>
     ensures { IfOk result (λ count. count ≤ length buffer.new) }
 {
-    // A pipe would have to be waited for.
+    // The program would wait for a pipe.
     if !fs::metadata(rt, path)?.is_file() {
         return Err(io::Error::from(io::ErrorKind::InvalidInput));
     }
@@ -354,7 +354,7 @@ pub(crate) fn file_in(
     format!(in alloc; "{folder}{slash}{variable}{guid}")
 }
 
-/// Finds the variables of files, or of the folders among them.
+/// Finds the variables in files and folders.
 pub(crate) fn find_all<'a>(
     rt: &'a HostRuntime,
     arguments: &'a [String],

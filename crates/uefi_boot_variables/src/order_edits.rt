@@ -88,7 +88,7 @@ fn put_in(numbers: &mut [u16], place: usize, number: u16)
     }
 }
 
-/// Puts a number at a place of an order, before those that stood from there on.
+/// Inserts a number at a place of an order, and moves the numbers from there on back by one.
 pub(crate) fn put(places: &mut [u16], len: usize, place: usize, number: u16)
     requires room { len < length places.old }
     requires within { place ≤ len }

@@ -7,7 +7,7 @@ use std::process::Abort;
 use std::test::Fail;
 use uefi_text::{BufferTooSmall, CStr16};
 
-/// Names, and what they are, or `None` for texts that are no name.
+/// Names and their parts, or `None` for texts that are not names.
 const NAMES: &[(&str, Option<(LoadOptionKind, u16)>)] = &[
     ("Boot0000", Some((LoadOptionKind::Boot, 0))),
     ("Boot001F", Some((LoadOptionKind::Boot, 0x1f))),

@@ -14,7 +14,7 @@ use uefi_text::text_sink::{Printed, TextSink, print};
 /// The reason why bytes do not begin with a device path.
 #[derive(Clone, Copy, Debug, PartialEq, Eq)]
 pub struct DevicePathError {
-    /// What is wrong with the first malformed node.
+    /// The fault of the first malformed node.
     pub cause: NodeError,
 
     /// The offset of the bytes at fault, counted from the first byte: of the node, its sub-type or
@@ -84,7 +84,7 @@ impl Error for FilePathCause {}
 /// The reason why nodes have no file path.
 #[derive(Clone, Copy, Debug, PartialEq, Eq)]
 pub struct FilePathError {
-    /// What is wrong with the first node that should name a file and has no name.
+    /// The fault of the first node that should name a file and has no name.
     pub cause: FilePathCause,
 
     /// The offset of its data, counted from the first byte of the path or the instance.
@@ -152,7 +152,7 @@ impl fmt::Display for FilePathWriteError {
 
 impl Error for FilePathWriteError {}
 
-/// What is wrong with bytes that are not a load option.
+/// The fault of bytes that are not a load option.
 #[derive(Clone, Copy, Debug, PartialEq, Eq)]
 pub enum LoadOptionCause {
     /// There are fewer bytes than the attributes and the length of the list need.
@@ -196,7 +196,7 @@ impl fmt::Display for LoadOptionCause {
 /// The reason why bytes are not a load option.
 #[derive(Clone, Copy, Debug, PartialEq, Eq)]
 pub struct LoadOptionError {
-    /// What is wrong.
+    /// The fault.
     pub cause: LoadOptionCause,
 
     /// The offset of the bytes at fault, counted from the first byte of the load option, or the

@@ -82,7 +82,7 @@ impl<'s, S: TextSink> TextSink for LoweredSink<'s, S> {
     }
 }
 
-/// Puts the text of a value into such a sink.
+/// Puts the text of a value into a sink that writes lower case.
 fn put_value<S: TextSink, P: Printed>(sink: &mut LoweredSink<'_, S>, value: &P)
     ensures same_reference { sink.new.sink.ghost_name ≡ sink.old.sink.ghost_name }
     ensures text { WritesInCalls S.puts sink.old.sink.now

@@ -24,7 +24,7 @@ pub(crate) struct ListFault<'a> {
     pub ghost are_nodes: { AreNodes nodes.now },
 }
 
-/// Looks for the first fault of bytes that should be one device path or more, and nothing else.
+/// Finds the first fault of bytes that should be one or more device paths, and nothing else.
 pub(crate) fn find_fault(bytes: &[u8]) -> Result<(), ListFault<'_>>
     ensures ok { OnOk result (IsPathList bytes.now) }
     ensures refusal { IfErr result (λ fault. ListRefusedFor bytes.now fault.error) }

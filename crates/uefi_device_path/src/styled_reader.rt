@@ -166,7 +166,7 @@ pub(crate) fn put_text(
     Ok(end)
 }
 
-/// The path that a text is read as, in memory that is asked for once the text is known to be read.
+/// Returns the path that a text is read as. Allocates after the text is known to be readable.
 pub(crate) fn read_styled_path<A: Allocator + Copy>(
     style: TextStyle,
     alloc: A,

@@ -8,7 +8,7 @@ use std::alloc::Global;
 use std::test::Fail;
 use uefi_text::{BufferTooSmall, CString16, Char16};
 
-/// Names, and what is left of each.
+/// Names, and the trimmed part of each.
 const TRIMMED: &[(&str, &str)] = &[
     ("boot.efi", "boot.efi"),
     ("  boot.efi", "boot.efi"),

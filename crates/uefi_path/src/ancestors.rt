@@ -18,7 +18,7 @@ use uefi_text::strs::Char16Slice;
 /// `ancestors_left` of it: the beginnings that remain.
 #[derive(Clone, Copy)]
 pub struct Ancestors<'a> {
-    /// The next one; `None` after the first component alone.
+    /// The next beginning; `None` after the first component alone.
     rest: Option<Char16Slice<'a>>,
 }
 

@@ -54,7 +54,8 @@ impl<'a> Rest<'a> {
         }
     }
 
-    /// A text from a place on, of which all separators are known by their places. Looks at no unit.
+    /// Returns the text from an index on. All of its separators are known by their indices. Reads
+    /// no unit.
     pub(crate) fn placed(text: Char16Slice<'a>, start: usize, places: &'a [usize]) -> Rest<'a>
         requires within { start ≤ length (units_of text) }
         requires all { places.now ≡ places_from start (drop start (units_of text)) }
@@ -108,7 +109,7 @@ impl<'a> Components<'a> {
     ghost use Rattle.uefi_path.specs.Runs.{GivesNoNulIn};
     ghost use Rattle.uefi_path.specs.Views.{components_left, uncut_units};
 
-    /// The components of the path of a string, of which the rest is the canonical text.
+    /// Returns the components of the path of a string whose canonical text is the rest.
     pub(crate) fn of_canonical(string: CStr16<'_>, rest: Rest<'a>) -> Components<'a>
         requires { uncut_units rest ≡ canonical (text_of string) }
         ensures same { components_left result ≡ components_of (text_of string.entry) }

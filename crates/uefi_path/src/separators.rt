@@ -63,7 +63,8 @@ pub(crate) fn count_separators(units: &[u16]) -> (usize, bool)
     (count, has_slash)
 }
 
-/// A bit for each of the first units, set where it is a separator; the first is the lowest.
+/// Returns a bit for each of the first units, set if the unit is a separator; the first unit has
+/// the lowest bit.
 #[inline(always)]
 pub(crate) fn separator_bits_first<const N: usize>(units: &[u16]) -> u64
     requires within { N ≤ length units.now }
@@ -110,7 +111,7 @@ fn separator_bits(units: &[u16]) -> (u64, usize)
 /// The separators of units that remain. In contracts they are `places_left` of it.
 #[derive(Clone, Copy)]
 pub(crate) struct Separators<'a> {
-    /// The places of the first ones, where they are known.
+    /// The indices of the first ones, if they are known.
     known: &'a [usize],
 
     /// The units that contain the other separators, from `start` on.

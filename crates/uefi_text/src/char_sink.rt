@@ -18,7 +18,7 @@ use std::fmt;
 /// assert_eq!(rt; label.as_str(), "abc");
 /// ```
 pub trait CharSink {
-    /// The UTF-8 of what it holds.
+    /// The contents, in UTF-8.
     ghost text: { Self → List ℕ };
 
     /// Whether a character may be refused after a text. An implementation states here when it may.

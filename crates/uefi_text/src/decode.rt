@@ -1,7 +1,7 @@
-//! Code units as characters and as UTF-8. A unit of a text is a character of its own, so it has one, two or
-//! three bytes (Unicode Standard, section 3.9, table 3-6). How many all have is known before the first is
-//! written, so that memory is asked for once, and a refusal leaves everything unchanged. Units that may be
-//! anything are characters of UTF-16.
+//! Code units as characters and as UTF-8. Each unit of a text is one character, so it has one, two
+//! or three bytes (Unicode Standard, section 3.9, table 3-6). The number of all bytes is known
+//! before the first is written, so that one allocation is enough, and a call that fails leaves
+//! everything unchanged. Any other units are characters of UTF-16.
 ghost use Rattle.std.specs.Char.Utf16.{is_high_surrogate, is_low_surrogate, lone_unit_char, surrogate_pair_char, utf16_lossy_chars};
 ghost use Rattle.std.specs.Option.{unwrap_or};
 ghost use Rattle.std.specs.Prelude.{◌≡◌, ℕ, ◌+◌, ◌-◌, ◌<◌, ◌≤◌, ◌^◌, ◌++◌, ◌*◌, OnErr, OnOk, length, encode_utf8, min, slice_index, take, true, ◌∷◌, ◌&&◌, List, drop};

@@ -1,5 +1,5 @@
-//! Code units of Rust texts: in a vector, where the text is one of UCS-2, or in a buffer; and compared
-//! with others. Characters are decoded one by one, or eight at a time where each has three bytes.
+//! Code units of Rust texts: in a vector, if the text is UCS-2, or in a buffer; and compared with
+//! other units. Characters are decoded one by one, or eight at a time if each has three bytes.
 ghost use Rattle.std.specs.Prelude.{All, IsTrue, ◌↔◌, ◌≢◌, ◌≡◌, ◌+◌, ◌<◌, ◌≤◌, ◌++◌, if◌then◌else◌, None, Some, drop, find, length, take, unwrap_or, IfOk, IfErr, IfSome, IsSome};
 ghost use Rattle.std.specs.Option.{SomeIff};
 ghost use Rattle.std.specs.Vec.{vec_len, vec_capacity};
@@ -113,7 +113,8 @@ fn read_wide<'a>(text: &'a str, eight: &mut [u16; 8]) -> Option<&'a str>
     let third: u8x8 = front.shuffle(back, [2, 5, 8, 11, 14, 25, 28, 31]);
     let high = first.cast::<u16>() * u16x8::splat(4096);
     let middle = second.cast::<u16>() * u16x8::splat(64);
-    // What the bytes have beside the bits of the character is 0xe0, 0x80 and 0x80, modulo 2^16.
+    // The bytes add 0xe0, 0x80 and 0x80, shifted with their bits, to the bits of the character,
+    // modulo 2^16.
     let units = high + middle + third.cast::<u16>() - u16x8::splat(0x2080);
     *eight = units.to_array();
     // SAFETY: the bytes from there on are UTF-8, since a character ends before them.
@@ -160,9 +161,9 @@ fn write_lanes(units: &mut [u16], place: usize, lanes: u16x8)
     lanes.copy_to_slice(&mut units[place..]);
 }
 
-/// Writes characters of a text into the prefix of units, eight at a time, up to one that no UCS-2 text
-/// holds, or to near the end of the text or of the units. Returns how many were written, and what follows
-/// them.
+/// Writes characters of a text to the start of units, eight at a time, up to a character that UCS-2
+/// texts cannot contain, or to near the end of the text or of the units. Returns the number of
+/// units written, and the rest of the text.
 #[inline(never)]
 fn write_front<'a>(text: &'a str, units: &mut [u16]) -> (usize, &'a str)
     requires some { 0 < length units.old }
@@ -328,8 +329,8 @@ fn are_these(units: &[u16], others: &[u16; 8]) -> bool
     same
 }
 
-/// A prefix that units and a text have in common, without NUL: how long it is, and what follows it in
-/// the text. It need not be the longest.
+/// Returns the length of a common prefix of units and a text, without NUL, and the rest of the
+/// text. The prefix need not be the longest.
 #[inline(never)]
 pub(crate) fn same_front<'a>(units: &[u16], text: &'a str) -> (usize, &'a str)
     ensures within { result.0 ≤ length units.now }

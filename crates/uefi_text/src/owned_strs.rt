@@ -427,8 +427,8 @@ impl<A: Allocator> CString16<A> {
     {
         let end = self.num_chars();
         let units = string.to_u16_slice_with_nul();
-        // The first unit takes the place of the NUL, and the others bring their own: one request, and
-        // nothing to undo where it is refused.
+        // The first unit replaces the NUL, and the others include a NUL: one allocation, and
+        // nothing to undo if it fails.
         self.units.extend_from_slice(&units[1..])?;
         self.units[end] = units[0];
         Ok(())

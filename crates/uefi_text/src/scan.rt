@@ -192,8 +192,8 @@ impl Class<u8> for NoAsciiText {
     }
 }
 
-/// Bytes that begin a character which no UCS-2 text holds: a NUL, or a character above U+FFFF, which alone
-/// has four bytes.
+/// Bytes that begin a character that UCS-2 texts cannot contain: a NUL, or a character above
+/// U+FFFF, which is the only kind that has four bytes.
 struct DecidingByte;
 
 impl Class<u8> for DecidingByte {
@@ -387,7 +387,7 @@ pub fn split(bytes: &mut [u8], units: &[u16])
     }
 }
 
-/// `replace` in place of `search`, or else the unit.
+/// Returns `replace` for `search`, and otherwise the unit.
 #[inline(always)]
 pub(crate) fn unit_after(unit: u16, search: u16, replace: u16) -> u16
     ensures { result ≡ replaced search replace unit }

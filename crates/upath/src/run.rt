@@ -272,7 +272,8 @@ impl<A: Allocator + Copy> Run<A> {
     {
         match Command::of_line(line) {
             Command::From(text) => self.from(text),
-            // Joined to the path between the lines, a text is pushed: nothing else keeps the path before it.
+            // A text that is joined to the path between the lines is pushed: nothing else needs the
+            // path before it.
             Command::Push(text) | Command::Join(text) => self.push(text),
             Command::Clear => self.edit(PathCommand::Clear),
             Command::Parent => self.parent(),
