@@ -99,10 +99,10 @@ pub extern "C" fn nard_path_parent(path: &[u16], buffer: &mut [u16], place: &mut
 ///
 /// Units that do not begin with a string are refused as by `nard_string_until_nul`. A path that is
 /// not valid is refused as `nard_path_verdict` refuses the path with its slashes replaced, with the
-/// same `place` and `character`. Otherwise `place` becomes the number of units of the normal path,
-/// and a buffer with at most that many places is refused as `BUFFER_TOO_SMALL`. If the call fails,
-/// the buffer is unchanged. Units after the NUL are never changed. `character` becomes 0 unless a
-/// character is the reason. Does not allocate.
+/// same `character`; `place` becomes the length of the text. Otherwise `place` becomes the number
+/// of units of the normal path, and a buffer with at most that many places is refused as
+/// `BUFFER_TOO_SMALL`. If the call fails, the buffer is unchanged. Units after the NUL are never
+/// changed. `character` becomes 0 unless a character is the reason. Does not allocate.
 #[unsafe(no_mangle)]
 pub extern "C" fn nard_path_normalize(
     path: &[u16],

@@ -518,9 +518,9 @@ impl<A: Allocator + Copy> PathBuf<A> {
         PathBuf::from_string(self.alloc(), string)
     }
 
-    /// Replaces the last component with a name, and each slash of the name with a separator. A path
-    /// without components becomes the name. Returns `AllocError` if memory runs out, and leaves the
-    /// path unchanged. Allocates as [`PathBuf::from`] does.
+    /// Replaces the last component with a name, with each slash of the name replaced. If the path
+    /// has no components, appends the name to its text. Returns `AllocError` if memory runs out,
+    /// and leaves the path unchanged. Allocates as [`PathBuf::from`] does.
     ///
     /// ```rust
     /// let text = CString16::try_from_str(rt.alloc(), r"\efi\boot")?;

@@ -205,8 +205,8 @@ impl Class<u8> for DecidingByte {
     }
 }
 
-/// Bytes that begin a character above U+00FF: those of 0xc4 or more. Below that are the bytes that begin a
-/// character of Latin-1, and those inside of characters.
+/// Bytes that begin a character above U+00FF: 0xc4 and above. Smaller bytes begin a character of
+/// Latin-1, or are inside a character.
 struct BeyondLatin1;
 
 impl Class<u8> for BeyondLatin1 {

@@ -100,8 +100,8 @@ impl<A: Allocator + Copy> PartialRun<A> {
 /// | `norm` | prints the normal path, or why there is none |
 ///
 /// The edits are those of [`crate::run_commands`]. For a line that is not UTF-8, a line that is not
-/// a command, and a T that is not a text of UCS-2, it prints a line that says so and leaves the
-/// path unchanged. The only error is out of memory; the output is then lost.
+/// a command, and a T that is not a text of UCS-2, the output is a line that says so, and the path
+/// is unchanged. The only error is out of memory; the output is then lost.
 ///
 /// ```rust
 /// let output = run_text(rt.alloc(), b"from /efi\npush boot\nparent\nparent\n")?;
