@@ -146,7 +146,7 @@ fn push_styled_text(
 /// |---|---|---|
 /// | of [`nard_device_path_check`] | the buffer does not begin with a device path | of that call |
 /// | `NOT_UTF8` | the bytes are not UTF-8 | the number of bytes before the fault |
-/// | `NO_NODE` | the text is not the text of a path | the byte at which no node begins, but must |
+/// | `NO_NODE` | the text is not a path | the byte at which a node must begin and none does |
 /// | `BUFFER_TOO_SMALL` | the buffer is too small | the size that the path needs |
 ///
 /// At `OK`, `place` becomes the size of the path. A size above the greatest `usize` is given as the
@@ -179,8 +179,8 @@ pub extern "C" fn nard_device_path_push_text(
 ///
 /// At `OK`, `place` becomes the size of the path. A size above the greatest `usize` is given as the
 /// greatest `usize`. If the call fails, the buffer is unchanged. Bytes after the path are never
-/// changed. The contents of `scratch` are then unspecified. Does not allocate (UEFI Specification
-/// 2.10, section 10.6.1).
+/// changed. Afterwards the contents of `scratch` are unspecified. Does not allocate (UEFI
+/// Specification 2.10, section 10.6.1).
 #[unsafe(no_mangle)]
 pub extern "C" fn nard_device_path_push_lenient_text(
     buffer: &mut [u8],

@@ -20,10 +20,10 @@ use uefi_device_path::{AllowShortcuts, DevicePathNode, DisplayOnly};
 /// Bytes that do not begin with a node are refused as by `nard_device_path_next_node` at place 0:
 /// `place` becomes the offset of the bytes at fault. The node may be one that ends the path or an
 /// instance. Otherwise `place` becomes the number of units of the text, without its NUL, at most
-/// `usize::MAX - 1`, and exactly a buffer with at most that many places is refused as
-/// `BUFFER_TOO_SMALL`. If the call fails, the buffer is unchanged. Units after the NUL are never
-/// changed. The call does not read beyond the node. Does not allocate (UEFI Specification 2.10,
-/// section 10.6.1).
+/// `usize::MAX - 1`, and a buffer is refused as `BUFFER_TOO_SMALL` exactly if it has at most that
+/// many places. If the call fails, the buffer is unchanged. Units after the NUL are never changed.
+/// The call does not read beyond the node. Does not allocate (UEFI Specification 2.10, section
+/// 10.6.1).
 #[unsafe(no_mangle)]
 pub extern "C" fn nard_node_text(
     bytes: &[u8],

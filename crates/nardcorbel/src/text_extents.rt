@@ -29,8 +29,8 @@ fn find_extent(style: TextStyle, bytes: &[u8], scratch: &mut [u8], place: &mut u
 /// A `scratch` that is not longer than the bytes is refused as `SCRATCH_TOO_SMALL`, and `place`
 /// becomes the length that it needs. Then a text that does not begin with a path is refused as
 /// `NO_NODE`, and `place` becomes the byte of it that is wrong, or its length. Otherwise `place`
-/// becomes the number of bytes of the path. The bytes after it need not be UTF-8. The contents of
-/// `scratch` are then unspecified. Does not allocate.
+/// becomes the number of bytes of the path. The bytes after it need not be UTF-8. Afterwards the
+/// contents of `scratch` are unspecified. Does not allocate.
 #[unsafe(no_mangle)]
 pub extern "C" fn nard_lenient_text_extent(
     bytes: &[u8],

@@ -43,7 +43,7 @@ fn fault_in(error: PushLenientTextError) -> Option<TextFault>
     }
 }
 
-/// Returns the fault of a text that is not read. The contents of the second buffer are then
+/// Returns the fault of a text that is not read. Afterwards the contents of the second buffer are
 /// unspecified.
 fn find_fault(style: TextStyle, text: &str, scratch: &mut [u8]) -> Option<TextFault>
     requires copied { IsTrue (is_copied style) }
@@ -88,9 +88,10 @@ fn write_fault(
 /// Bytes that are not UTF-8 are refused as `NOT_UTF8`, and `place` becomes the number of bytes
 /// before the fault. Then a `scratch` that is not longer than these bytes is refused as
 /// `SCRATCH_TOO_SMALL`, and `place` becomes the length that it needs. Otherwise `place` becomes the
-/// number of units of the words, without their NUL, and exactly a buffer with at most that many
-/// places is refused as `BUFFER_TOO_SMALL`. If the call fails, the buffer is unchanged. Units after
-/// the NUL are never changed. The contents of `scratch` are then unspecified. Does not allocate.
+/// number of units of the words, without their NUL, and a buffer is refused as `BUFFER_TOO_SMALL`
+/// exactly if it has at most that many places. If the call fails, the buffer is unchanged. Units
+/// after the NUL are never changed. Afterwards the contents of `scratch` are unspecified. Does not
+/// allocate.
 #[unsafe(no_mangle)]
 pub extern "C" fn nard_lenient_text_fault(
     bytes: &[u8],

@@ -23,7 +23,7 @@ use uefi_node_reader::styles::TextStyle;
 ///
 /// The text is read as [`DevicePathBuf::from_lenient_text`](crate::DevicePathBuf) reads it; a comma
 /// in it ends an instance. Copies of its calls and names go into `scratch`, which must be longer
-/// than the text; its contents are then unspecified.
+/// than the text; afterwards its contents are unspecified.
 ///
 /// The call fails for the first of these reasons, and leaves the buffer unchanged. Does not
 /// allocate.

@@ -90,7 +90,7 @@ fn follows_comma(text: &[u8], rest: &[u8]) -> bool
 }
 
 /// Returns the node that is read in a style at the start of this text, and the text after it, or
-/// the fault. The contents of the buffer are then unspecified.
+/// the fault. Afterwards the contents of the buffer are unspecified.
 pub(crate) fn first_styled_node<'s, 't: 's>(
     style: TextStyle,
     scratch: &'s mut [u8],

@@ -23,7 +23,7 @@ fn is_end(expected: Expected) -> bool
 }
 
 /// Returns the number of bytes at the start of a text that are a path in a style, or the fault of
-/// the text. The contents of the buffer are then unspecified.
+/// the text. Afterwards the contents of the buffer are unspecified.
 ///
 /// Hidden: the C library calls it, and it may change. Other callers use [`lenient_text_extent`] and
 /// [`libefivar_text_extent`].
