@@ -63,7 +63,8 @@ fn with_first(alloc: Global, order: &[u8], number: u16) -> Result<Vec<u8>, PlanE
     Ok(bytes_of(alloc, &numbers.as_slice()[..len])?)
 }
 
-/// Puts a number at the front of an order that has room for it, and returns the number of numbers.
+/// Puts a number at the front of an order that has room for it, and returns the new length of the
+/// order.
 fn put_first(places: &mut [u16], len: usize, number: u16) -> usize
     requires { len < length places.old }
     ensures len { result ≡ length (with_at 0 number (take len places.old)) }

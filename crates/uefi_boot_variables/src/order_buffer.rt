@@ -85,7 +85,7 @@ impl<'a> OrderBuffer<'a> {
         &self.places[..self.len]
     }
 
-    /// Returns the number of numbers.
+    /// Returns the length of the order.
     pub fn len(&self) -> usize
         ensures { result ≡ length (numbers_in self.now) }
     {

@@ -51,8 +51,8 @@ pub fn contains(places: &[u16], len: usize, number: u16) -> bool
     places[..len.min(places.len())].contains(&number)
 }
 
-/// Removes all occurrences of a number from an order, and returns the number of numbers that are
-/// left. The others keep their order.
+/// Removes all occurrences of a number from an order, and returns how many numbers are left. The
+/// others keep their order.
 ///
 /// ```rust
 /// let mut places = [3, 0, 1, 9];

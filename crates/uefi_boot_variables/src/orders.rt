@@ -117,7 +117,7 @@ impl<'a> LoadOrder<'a> {
         }
     }
 
-    /// Returns the number of numbers; a number that occurs twice counts twice.
+    /// Returns the length of the order; a number that occurs twice counts twice.
     pub fn len(&self) -> usize
         ensures { result ≡ length (numbers_of self.now) }
     {

@@ -138,9 +138,9 @@ impl<A: Allocator> DevicePathBuf<A> {
 
     /// Adds a node before the end: a built node, or a node of another path.
     ///
-    /// Fails with `EndNode` for a node of type End that does not end an instance, with
-    /// `NodeTooLong` for more than 65,531 bytes of data, and with `OutOfMemory` if memory runs out.
-    /// The path is then unchanged. Allocates if the path has no room.
+    /// Fails with `EndNode` for a node of type End that does not end an instance, then with
+    /// `NodeTooLong` for more than 65,531 bytes of data, and then with `OutOfMemory` if memory runs
+    /// out. The path is then unchanged. Allocates if the path has no room.
     ///
     /// ```rust
     /// let mut path = DevicePathBuf::new(rt.alloc())?;

@@ -57,10 +57,10 @@ impl<'a> DevicePathBuilder<'a> {
 
     /// Adds a node before the end: a built node, or a node of another path.
     ///
-    /// Fails with `EndNode` for a node of type End that does not end an instance, with
-    /// `NodeTooLong` for more than 65,531 bytes of data, and with `BufferTooSmall` and the number
-    /// of bytes that the path needs if the buffer has fewer. The path is then unchanged. Does not
-    /// allocate.
+    /// Fails with `EndNode` for a node of type End that does not end an instance, then with
+    /// `NodeTooLong` for more than 65,531 bytes of data, and then with `BufferTooSmall` and the
+    /// number of bytes that the path needs, if the buffer has fewer. The path is then unchanged.
+    /// Does not allocate.
     ///
     /// ```rust
     /// let mut buffer = [0; 10];

@@ -34,7 +34,7 @@ pub fn paths_are_read()
 
 /// Bytes that are refused for the contents of a node's header, as `UnknownEnd`, `LengthBelowHeader`
 /// or `EndWithData`, are refused for it at the same offset whatever follows this header. The other
-/// causes mean that the bytes end too early, so that the bytes with more after them may be a path.
+/// causes mean that the bytes end too early, so that they may begin a path if more bytes follow.
 pub fn refused_by_header()
     ensures { RefusedByHeader }
 {}
