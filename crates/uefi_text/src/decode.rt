@@ -311,7 +311,7 @@ fn fill_lossy(units: &[u16], bytes: &mut [u8])
 
 /// Writes any units in UTF-8, and a NUL, to the start of a buffer. Returns the number of bytes,
 /// without the NUL. If the buffer is too small, the result is [`BufferTooSmall`], and the buffer is
-/// unchanged. A unit of a text is one character.
+/// unchanged. If the units are a text, each of them is one character.
 pub fn write_lossy(units: &[u16], bytes: &mut [u8]) -> Result<usize, BufferTooSmall>
     ensures len { result
         ≡ written_len (encode_utf8_all (utf16_lossy_chars units.now)) bytes.old }

@@ -21,8 +21,8 @@ use std::cmp::Ordering;
 use std::fmt;
 use std::hash::{Hash, Hasher};
 
-/// A borrowed string of Latin-1: a view of bytes whose last byte is zero, and no other. A contract
-/// sees it as `bytes_of` it: all its bytes, including the zero. No call on it allocates.
+/// A borrowed string of Latin-1: a view of bytes of which only the last is zero. A contract sees it
+/// as `bytes_of` it: all its bytes, including the zero. No call on it allocates.
 #[derive(Clone, Copy)]
 pub struct CStr8<'a> {
     bytes: &'a [u8],
