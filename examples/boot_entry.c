@@ -1,14 +1,14 @@
 /*
  * Prints a boot entry of UEFI firmware: its number, its attributes, its description, its device paths, the path of each file
- * that it names, judged, and its optional data, as text if they are text.
+ * that it names with a verdict, and its optional data, as text if it is text.
  *
  * usage: boot_entry FILE ..
  *
  * A file is the variable Boot#### as Linux shows it in /sys/firmware/efi/efivars, or as another tool saved it,
- * without the four bytes of the variable's attributes in front. Its number is that of its name. The entry is an
- * EFI_LOAD_OPTION (UEFI Specification 2.10, section 3.1.3), and the library reads each length in it: where it is malformed
- * nard_load_option_read says why, and at which offset, and what stands before that is printed first. Ends with 1 where an
- * entry is malformed.
+ * without the four bytes of the variable's attributes in front. The file's name has its number. The entry is an
+ * EFI_LOAD_OPTION (UEFI Specification 2.10, section 3.1.3), and the library reads each length in it. If it is malformed,
+ * nard_load_option_read returns the reason and the offset, and the parts before the offset are printed first. Ends with 1 if
+ * an entry is malformed.
  */
 #include <stdio.h>
 #include <string.h>
@@ -18,10 +18,10 @@
 /* More than firmware keeps of one variable, without its attributes. */
 enum { MOST_BYTES = 65536, MOST_UNITS = MOST_BYTES / 2, MOST_SHOWN = 4 * MOST_BYTES, MOST_UTF8 = 3 * MOST_SHOWN + 1 };
 
-/* The attributes of a load option, and those of a variable that is kept, and seen at boot and at run time. */
+/* The attributes of a load option, and the attributes of a variable that is stored, and visible at boot and at run time. */
 enum { ACTIVE = 1, FORCE_RECONNECT = 2, HIDDEN = 8, CATEGORY = 0x1f00, VARIABLE_ATTRIBUTES = 7 };
 
-/* How many bytes come before a description, and the type and sub-type of a node that names a file. */
+/* The number of bytes before a description, and the type and sub-type of a node that names a file. */
 enum { HEAD = 6, MEDIA = 4, FILE_PATH = 4 };
 
 struct entry {
@@ -49,7 +49,7 @@ static bool refuse_units(size_t offset, uint32_t reason, size_t place)
     return false;
 }
 
-/* A control character, or one that turns the direction of a text or ends its line. */
+/* Returns whether a unit is a control character, or a character that changes the direction of a text or ends its line. */
 static bool is_hidden(uint16_t unit)
 {
     return (0 < unit && unit < 0x20) || (0x7f <= unit && unit < 0xa0) || unit == 0x61c || (unit & ~1) == 0x200e
@@ -162,7 +162,7 @@ static void print_attributes(const uint8_t *bytes)
     printf("\n");
 }
 
-/* Whether bytes are printable ASCII. */
+/* Returns whether bytes are printable ASCII. */
 static bool is_ascii_text(const uint8_t *bytes, size_t size)
 {
     for (size_t i = 0; i < size; i++)
@@ -171,7 +171,7 @@ static bool is_ascii_text(const uint8_t *bytes, size_t size)
     return size != 0;
 }
 
-/* Whether units are characters that can be shown, of which half or more are printable ASCII. */
+/* Returns whether all units are characters that can be shown, and at least half of them printable ASCII. */
 static bool is_utf16_text(const uint16_t *from, size_t count)
 {
     size_t ascii = 0;
@@ -183,7 +183,7 @@ static bool is_utf16_text(const uint16_t *from, size_t count)
     return ascii != 0 && ascii >= count - ascii;
 }
 
-/* Prints the optional data of an entry, of which one NUL at the end says nothing in a text. */
+/* Prints the optional data of an entry. In a text, one NUL at the end is ignored. */
 static void print_optional_data(const uint8_t *bytes, size_t size)
 {
     size_t count = 0, bare = size - (size != 0 && bytes[size - 1] == 0);
@@ -217,7 +217,7 @@ static bool print_entry(struct entry entry)
     print_attributes(entry.bytes);
     if (nard_packed_until_nul(entry.bytes + HEAD, entry.size - HEAD, &length) != NARD_OK)
         return refuse(fault, nard_reason_text(reason));
-    /* All else that is refused stands after the description, or says where the list after it ends. */
+    /* All other faults are after the description, or in the length of the list after it. */
     size_t list = HEAD + 2 * (length + 1), end = reason == NARD_OK ? option.optional_start : fault;
     print_description(entry, length);
     print_device_paths(entry, list, end);
@@ -229,7 +229,7 @@ static bool print_entry(struct entry entry)
     return true;
 }
 
-/* Whether the name of a file is Boot####, which a dash and more may follow; then its number. */
+/* Returns whether the name of a file is Boot####, which a dash and more may follow. Sets its number. */
 static bool read_name(const char *path, uint16_t *number)
 {
     const char *slash = strrchr(path, '/');

@@ -1,14 +1,14 @@
 /*
- * Tests each call of the library for access out of bounds, and for what it does with a buffer of each size.
+ * Tests each call of the library for access out of bounds, and for its effect on a buffer of each size.
  *
  * Each input and each buffer ends right before a page that nobody may read or write; in a second round it begins right after
- * one. A call that writes is made with each room from 0 to two elements more than it needs, and has to return and to leave in
- * the buffer what the header says. Each call is also made over each beginning of its inputs, where only the bounds count.
+ * one. A call that writes is made with each room from 0 to two elements more than it needs, and its result and the buffer must
+ * be as the header says. Each call is also made with each prefix of its inputs, where only the bounds count.
  * In a third round each pointer whose count is 0 is null.
  *
  * usage: guards                  the rounds above
- *        guards uninitialized    one round in memory of malloc, where what a call only writes is not initialized: valgrind then
- *                                says whether a result depends on it
+ *        guards uninitialized    one round in memory from malloc, in which buffers that a call only writes are uninitialized:
+ *                                valgrind then says whether a result depends on them
  *
  * Prints each row that differs, and ends with 1 if one does. A call that touches a guard page ends the program.
  */
@@ -24,14 +24,14 @@
 enum { PAGE = 65536, AREA = 2 * PAGE, FILL = 0xa5, UNCHANGED = 99 };
 enum area { BUFFER = 3, PLACE, CHARACTER, NODE, SCRATCH, AREAS }; /* after the areas of three inputs */
 
-/* What becomes of a buffer, and what `reason` and `place` of a row say. */
+/* The effect on a buffer, and the meaning of `reason` and `place` of a row. */
 enum rule {
     READ,    /* there is none, or it has as many elements as `out` and becomes `out` */
     STEP,    /* the same, and *place is `number` at first */
     REFUSED, /* it is unchanged, whatever its room */
     TEXT,    /* it begins with `out`, whose last element is a NUL, or is unchanged if that does not fit */
     WHOLE,   /* the same without a NUL */
-    FITTING  /* it holds what fits of `out`, and `reason` holds once that is more than `place` elements */
+    FITTING  /* it contains the part of `out` that fits; `reason` is returned once that is more than `place` elements */
 };
 
 struct list {
@@ -481,7 +481,7 @@ static size_t least(size_t one, size_t two)
     return one < two ? one : two;
 }
 
-/* How many bytes an element of a row's buffer has. */
+/* Returns the number of bytes of an element of a row's buffer. */
 static size_t width_of(const struct row *row)
 {
     size_t width = row->before.at != NULL ? row->before.width : row->out.width;
@@ -557,7 +557,7 @@ static void try_room(const struct row *row, const size_t *counts, size_t room)
     }
 }
 
-/* Makes a call over an empty input, which is null, and once more over one that is not. */
+/* Makes a call with an empty input that is null, and once more with one that is not null. */
 static void try_null(const struct row *row, const size_t *counts, size_t room)
 {
     static nard_byte made[AREA];

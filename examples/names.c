@@ -42,7 +42,7 @@ static void expect(bool is_so, const char *call, int line)
     expect(nard_fat_name_equal(UNITS(first), UNITS(second)) == (is_so), "FAT names equal", __LINE__)
 #define SHORT(name, is_so) expect(nard_fat_name_is_short(UNITS(name)) == (is_so), "short name", __LINE__)
 
-/* Whether a name becomes these bytes in a buffer of as many places at most, and the next stays. */
+/* Returns whether a name becomes these bytes in a buffer of at most as many places, and the next byte is unchanged. */
 static void to_fat(const nard_unit *name, size_t count, size_t room, const char *bytes, nard_result reason, int line)
 {
     nard_byte buffer[16];
@@ -52,7 +52,7 @@ static void to_fat(const nard_unit *name, size_t count, size_t room, const char 
     expect(is_so && memcmp(buffer, bytes, place) == 0 && buffer[place] == 7, "bytes of a name", line);
 }
 
-/* Whether bytes become this text in a buffer of `room` places, and the next stays. */
+/* Returns whether bytes become this text in a buffer of `room` places, and the next unit is unchanged. */
 static void from_fat(const char *bytes, size_t count, size_t room, const nard_unit *text, size_t length, int line)
 {
     nard_unit buffer[8] = {7, 7, 7, 7, 7, 7, 7, 7};
@@ -66,7 +66,7 @@ static void from_fat(const char *bytes, size_t count, size_t room, const nard_un
                "name of bytes", line);
 }
 
-/* Whether a text is these two in upper case and in lower case, and what follows it stays. */
+/* Returns whether a text becomes these two in upper case and in lower case, and the units after it are unchanged. */
 static void in_cases(const nard_unit *text, const nard_unit *upper, const nard_unit *lower, size_t length, int line)
 {
     nard_unit buffer[8] = {0, 0, 0, 0, 0, 0, 0, 7};

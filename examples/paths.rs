@@ -1,4 +1,4 @@
-//! Calls the library from Rust, as a firmware program does that builds with `rustc` alone: the functions of
+//! Calls the library from Rust, as a firmware program does that is built only with `rustc`: the functions of
 //! `include/nardcorbel.h`, each in a safe wrapper of a few lines.
 //!
 //! Build, at the top of the repository: `rustc examples/paths.rs -L crates/nardcorbel/out -l static=nardcorbel`. `examples/check`
@@ -6,7 +6,7 @@
 
 use std::ops::Range;
 
-/// What `include/nardcorbel.h` declares, as far as it is called here.
+/// The declarations of `include/nardcorbel.h` that this program calls.
 mod header {
     extern "C" {
         pub fn nard_string_from_utf8(
@@ -109,7 +109,7 @@ fn valid_text(string: &[u16]) -> Result<&[u16], Reason> {
     }
 }
 
-/// Whether two strings are equal as paths.
+/// Returns whether two strings are equal as paths.
 fn are_equal(first: &[u16], second: &[u16]) -> bool {
     // SAFETY: each slice is passed with its length.
     unsafe { header::nard_path_equal(first.as_ptr(), first.len(), second.as_ptr(), second.len()) }
@@ -124,7 +124,7 @@ fn parent(text: &[u16]) -> Option<&[u16]> {
     has_parent.then(|| &text[..len])
 }
 
-/// Where the next component of a text stands from a place on, if there is one, and the place moves on.
+/// Returns the range of the next component of a text from a place on, if there is one, and moves the place on.
 fn next_component(text: &[u16], place: &mut usize) -> Option<Range<usize>> {
     let (mut start, mut len) = (0, 0);
     // SAFETY: the slice is passed with its length, and nothing overlaps.
@@ -148,7 +148,7 @@ impl<'a> Iterator for Components<'a> {
     }
 }
 
-/// The path of two strings in a buffer. Where it is too small, how many units the path has.
+/// Writes the path of two strings to a buffer. If the buffer is too small, returns the number of units of the path.
 fn join<'a>(first: &[u16], second: &[u16], buffer: &'a mut [u16]) -> Result<&'a [u16], usize> {
     let mut place = 0;
     // SAFETY: each slice is passed with its length, and nothing overlaps.
@@ -169,7 +169,7 @@ fn join<'a>(first: &[u16], second: &[u16], buffer: &'a mut [u16]) -> Result<&'a 
     }
 }
 
-/// Pushes a string on the path that a buffer begins with. Where it is too small, how many units both have.
+/// Pushes a string onto the path at the start of a buffer. If the buffer is too small, returns the number of units of both.
 fn push<'a>(buffer: &'a mut [u16], path: &[u16]) -> Result<&'a [u16], usize> {
     let mut place = 0;
     // SAFETY: each slice is passed with its length, and nothing overlaps.
@@ -188,7 +188,7 @@ fn push<'a>(buffer: &'a mut [u16], path: &[u16]) -> Result<&'a [u16], usize> {
     }
 }
 
-/// The parent of a string's path in a buffer, each slash replaced; and how many units it has, where it has any.
+/// Writes the parent of a string's path to a buffer, with each slash replaced, and returns its number of units, if there is one.
 fn parent_in<'a>(path: &[u16], buffer: &'a mut [u16]) -> (Result<&'a [u16], Reason>, usize) {
     let mut place = 0;
     // SAFETY: each slice is passed with its length, and nothing overlaps.
@@ -207,7 +207,7 @@ fn parent_in<'a>(path: &[u16], buffer: &'a mut [u16]) -> (Result<&'a [u16], Reas
     }
 }
 
-/// The normal path of a string's path in a buffer; or why there is none, with the place and the character.
+/// Writes the normal path of a string's path to a buffer; or returns why there is none, with the place and the character.
 fn normal_in<'a>(path: &[u16], buffer: &'a mut [u16]) -> Result<&'a [u16], (Reason, usize, u16)> {
     let (mut place, mut character) = (0, 0);
     // SAFETY: each slice is passed with its length, and nothing overlaps.
@@ -256,8 +256,8 @@ fn print_path(text: &str) -> Result<(), Reason> {
     Ok(())
 }
 
-/// Prints where the components of a text stand, each with the place at which the next call goes on, and how
-/// many units its parent has.
+/// Prints the ranges of the components of a text, each with the place at which the next call continues, and the
+/// number of units of its parent.
 fn print_places(text: &str) {
     let units: Vec<u16> = text.encode_utf16().collect();
     let mut place = 0;

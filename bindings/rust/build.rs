@@ -1,5 +1,5 @@
-//! Finds the archive: in the folder that `NARDCORBEL_LIB_DIR` names, else in the release that this crate lies in, else in the
-//! repository, where `rt lib` and `tools/firmware-lib` build it. If there is none, only a program that is linked fails.
+//! Finds the archive: in the folder that `NARDCORBEL_LIB_DIR` names, otherwise in the release that contains this crate, otherwise in
+//! the repository, where `rt lib` and `tools/firmware-lib` build it. If there is none, only linking a program fails.
 
 use std::env;
 use std::path::{Path, PathBuf};

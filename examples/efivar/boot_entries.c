@@ -1,15 +1,15 @@
 /*
- * Prints the boot entries of this machine, as `efibootmgr -v` does: the numbers of the entry that is booted next, of the one
- * that was booted, and of all in their order; and then of each entry whether it is active, its description, and the device
- * path that it boots as people read it.
+ * Prints the boot entries of this machine, as `efibootmgr -v` does: the numbers of the entry that is booted next, of the entry
+ * that was booted, and of all entries in their order; and then for each entry whether it is active, its description, and the
+ * text of the device path that it boots.
  *
  * usage: boot_entries [FOLDER]
  *
- * FOLDER has variables as Linux shows them: each is a file, of its name, a dash and the GUID of its owner, with four bytes of
- * attributes before its value. Where no folder is given it is /sys/firmware/efi/efivars.
+ * FOLDER has variables in the form of Linux: each is a file, named by the variable, a dash and the GUID of its owner, with four
+ * bytes of attributes before the value. The default is /sys/firmware/efi/efivars.
  *
- * The library reads each length in an entry. Of a malformed one the reason is printed, and the offset of the fault. Ends with 1
- * where an entry is malformed or cannot be read.
+ * The library reads each length in an entry. For a malformed entry the program prints the reason and the offset of the fault. It
+ * ends with 1 if an entry is malformed or cannot be read.
  */
 #define _POSIX_C_SOURCE 200809L
 #include <dirent.h>
@@ -31,7 +31,7 @@ enum { ACTIVE = 1, NAME = 8, MOST_ENTRIES = 65536 };
 static uint8_t bytes[ATTRIBUTES + MOST_BYTES];
 static uint16_t shown[MOST_SHOWN];
 
-/* Reads a variable. The number of bytes of its value, or -1 where it cannot be read or is longer than one is. */
+/* Reads a variable. Returns the number of bytes of its value, or -1 if it cannot be read or is too long. */
 static long read_variable(const char *folder, const char *name)
 {
     char path[4096];
@@ -47,7 +47,7 @@ static long read_variable(const char *folder, const char *name)
     return is_whole && ATTRIBUTES <= size ? (long)(size - ATTRIBUTES) : -1;
 }
 
-/* A control character, or one that turns the direction of a text or ends its line. */
+/* Returns whether a unit is a control character, or a character that changes the direction of a text or ends its line. */
 static bool is_hidden(uint16_t unit)
 {
     return unit < 0x20 || (0x7f <= unit && unit < 0xa0) || unit == 0x61c || (unit & ~1) == 0x200e
@@ -66,7 +66,7 @@ static void print_shown(size_t length)
         fwrite(utf8, 1, count, stdout);
 }
 
-/* Prints a variable that is numbers of entries, where it is there. */
+/* Prints a variable that has numbers of entries, if it exists. */
 static void print_numbers(const char *folder, const char *name)
 {
     long size = read_variable(folder, name);
@@ -79,7 +79,7 @@ static void print_numbers(const char *folder, const char *name)
     printf("\n");
 }
 
-/* Prints the entry in a variable. Whether it is well. */
+/* Prints the entry in a variable. Returns whether it is well-formed. */
 static bool print_entry(const char *folder, const char *name)
 {
     struct nard_load_option option = {0, 0, 0, 0, 0, 0, 0, 0};
@@ -106,7 +106,7 @@ static bool print_entry(const char *folder, const char *name)
     return reason == NARD_OK;
 }
 
-/* Whether a file is the variable of an entry: its name, Boot####, and the owner. */
+/* Returns whether a file is the variable of an entry: its name is Boot#### and the owner. */
 static bool is_entry(const char *file)
 {
     uint16_t name[NAME + 1], number = 0;

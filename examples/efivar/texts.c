@@ -1,8 +1,8 @@
 /*
- * Device paths as libefivar writes and makes them, the library on which efibootmgr stands.
+ * Device paths as libefivar, the library under efibootmgr, formats and makes them.
  *
  *     texts made       prints a path of each kind that the library can make, in hexadecimal, a line each
- *     texts < paths    reads such lines, and prints the text of each path, or `-` where the library has none
+ *     texts < paths    reads such lines, and prints the text of each path, or `-` if the library has none
  *
  * Build: gcc -std=gnu11 -I/usr/include/efivar texts.c -lefivar
  */

@@ -1,8 +1,8 @@
 /*
- * Compares the library's names without case, patterns and names on FAT volumes with those of the firmware: of its Unicode
- * collation for English (UEFI Specification 2.10, section 21.1), and of its file system, on the disk that it started this from.
- * Prints how many were compared and how many differ, by the reason; docs/DIFFERENCES.md has these. A difference without such a
- * reason is printed itself. At the end it prints how long a pattern of many stars takes each of the two.
+ * Compares the library's results for names without case, patterns and names on FAT volumes with the firmware's results: those of
+ * its Unicode collation for English (UEFI Specification 2.10, section 21.1), and of its file system, on the disk from which it
+ * started this program. Prints the number of comparisons, and the number of differences by their reasons in docs/DIFFERENCES.md.
+ * Prints each difference without a known reason. At the end it prints how long a pattern of many stars takes in each.
  */
 #include <efi.h>
 
@@ -55,8 +55,8 @@ static void make_text(uint16_t *text, const uint16_t *units)
 }
 
 /*
- * What a text is to tables of signed bytes: a unit from U+0080 to U+00FF has an upper case from U+FF80 to U+FFFF. Any other
- * unit is as it was.
+ * Converts a text as tables of signed bytes do: a unit from U+0080 to U+00FF becomes one from U+FF80 to U+FFFF. All other
+ * units are unchanged.
  */
 static void make_signed(uint16_t *to, const uint16_t *text)
 {
@@ -69,7 +69,7 @@ static void make_signed(uint16_t *to, const uint16_t *text)
         to[i] = 0x80 <= text[i] && text[i] <= 0xff ? (uint16_t)(to[i] | 0xff00) : text[i];
 }
 
-/* How many comparisons there were, and how many differ by each reason. */
+/* The number of comparisons, and the number of differences by each reason. */
 struct counts {
     size_t compared, by_sign, by_open_set, by_separator, otherwise;
 };
@@ -159,8 +159,8 @@ static void compare_pairs(void)
 }
 
 /*
- * What the firmware makes of a pattern in which no `]` is after a `[`: it takes any unit there, and then what is after the
- * pattern's NUL as more of it, which here is another NUL. False where the pattern has no such `[`.
+ * Changes a pattern with a `[` and no `]` after it into the pattern that the firmware matches: the firmware matches any unit
+ * there, and continues after the pattern's NUL, which here is followed by another NUL. Returns false if no `[` lacks its `]`.
  */
 static bool close_set(uint16_t *pattern)
 {
@@ -177,7 +177,7 @@ static bool close_set(uint16_t *pattern)
     return true;
 }
 
-/* Patterns of few letters, many of them malformed. What is after the NUL of a pattern are NULs. */
+/* Patterns of few letters, many of them malformed. The NUL of a pattern is followed by more NULs. */
 static void compare_patterns(void)
 {
     static const uint16_t units[] = {'a', 'B', 'b', 'c', '-', ']', '[', 0xe9, 0xc9, 0xffc9, '*', '?', 0};

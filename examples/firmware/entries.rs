@@ -9,7 +9,7 @@ use nardcorbel::proto::device_path::build::DevicePathBuilder;
 use nardcorbel::proto::device_path::{DevicePathInstance, LoadOption};
 use nardcorbel::{cstr16, guid, order_numbers, CStr16, Guid, LoadOptionKind, LoadOptionName};
 
-/// What the firmware's table has (UEFI Specification 2.10, section 4.3).
+/// The firmware's system table (UEFI Specification 2.10, section 4.3).
 #[repr(C)]
 pub struct SystemTable {
     head: [*const c_void; 8],
@@ -113,7 +113,7 @@ fn print_entry(mut table: &SystemTable, number: u16) -> fmt::Result {
     }
 }
 
-/// What the firmware starts.
+/// The function that the firmware starts.
 #[no_mangle]
 pub extern "efiapi" fn efi_main(_image: *const c_void, mut table: &SystemTable) -> usize {
     let mut bytes = [0; 1024];

@@ -5,7 +5,7 @@
 use core::ffi::c_void;
 use nardcorbel::{cstr16, Error, Path};
 
-/// What the firmware's table has before the console for output, and that (UEFI Specification 2.10, section 4.3).
+/// The firmware's system table up to the console for output (UEFI Specification 2.10, section 4.3).
 #[repr(C)]
 pub struct SystemTable {
     others: [*const c_void; 8],
@@ -31,14 +31,14 @@ fn print_normal(console: *mut Console) -> Result<(), Error> {
     Ok(())
 }
 
-/// What the firmware starts, where Rust's target is `x86_64-unknown-uefi`.
+/// The function that the firmware starts if Rust's target is `x86_64-unknown-uefi`.
 #[cfg(target_os = "uefi")]
 #[no_mangle]
 pub extern "efiapi" fn efi_main(_image: *const c_void, table: &SystemTable) -> usize {
     usize::from(print_normal(table.console).is_err())
 }
 
-/// What gnu-efi's start calls.
+/// The function that gnu-efi's start code calls.
 #[cfg(not(target_os = "uefi"))]
 #[no_mangle]
 pub extern "C" fn efi_main(_image: *const c_void, table: &SystemTable) -> usize {

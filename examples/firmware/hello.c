@@ -1,4 +1,4 @@
-/* What the entries of the test start: prints how many bytes of options it was given, and ends with a status of its own. */
+/* The program that the entries of the test start: prints how many bytes of options it got, and ends with its own status. */
 #include <efi.h>
 
 EFI_STATUS efi_main(EFI_HANDLE handle, EFI_SYSTEM_TABLE *table)

@@ -71,14 +71,14 @@ bool lines_normal(const struct reader *reader, uint16_t *normal, size_t *length,
     return refused == NARD_OK && !has_long_name(normal, *length);
 }
 
-/* Whether a path is one that firmware starts from a disk without an entry (section 3.5.1.1), whatever its case. */
+/* Returns whether firmware starts a path from a disk without an entry (section 3.5.1.1), ignoring case. */
 static bool is_fallback(const uint16_t *normal, size_t length)
 {
     static const uint16_t pattern[] = u"EFI\\BOOT\\BOOT*.EFI";
     return nard_path_matches(normal, length + 1, pattern, sizeof pattern / sizeof pattern[0]);
 }
 
-/* Prints the file that the reader found: true where it is there. */
+/* Prints the file that the reader found. Returns whether it exists. */
 static bool put_file(const struct reader *reader)
 {
     static uint16_t normal[READER_MOST_UNITS];

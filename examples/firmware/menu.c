@@ -1,6 +1,6 @@
 /*
- * A boot menu: an EFI application that shows the entries of BootOrder, says for each file that they name whether it is
- * there, and where the one lies that is chosen, and starts it. What a variable holds is taken for anything: see reader.h.
+ * A boot menu: an EFI application that shows the entries of BootOrder, says for each file that they name whether it
+ * exists, shows the device path of the chosen entry, and starts it. A variable may contain any bytes: see reader.h.
  *
  * Up and down choose, Enter starts, q ends.
  */
@@ -227,7 +227,7 @@ static void show_entries(void)
     }
 }
 
-/* Prints where an entry lies: its first device path as people read it. */
+/* Prints the location of an entry: the text of its first device path. */
 static void put_place(uint16_t number)
 {
     static uint16_t text[MOST_TEXT];

@@ -1,6 +1,6 @@
 /*
- * Of the menu's test: writes the variable TestOrder into BootOrder, since the firmware drops from that, as it starts, what
- * it takes for malformed. Ends with an error, so that the firmware goes on to the next entry, which is the menu.
+ * Part of the menu's test: writes the variable TestOrder into BootOrder, because the firmware removes the entries that it
+ * considers malformed from BootOrder when it starts. Ends with an error, so that the firmware starts the next entry, the menu.
  */
 #include <efi.h>
 

@@ -1,4 +1,4 @@
-/* A sum whose parts lie below the stack pointer, where the compiler is not told that there is no red zone. */
+/* A sum whose parts are below the stack pointer, unless the compiler has the option for no red zone. */
 #include <stddef.h>
 #include <stdint.h>
 

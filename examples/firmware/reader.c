@@ -37,7 +37,7 @@ bool reader_begin(struct reader *reader, const uint8_t *bytes, size_t size)
     uint32_t reason = nard_load_option_read(bytes, size, &option, &place);
     if (reason == NARD_OPTION_TOO_SHORT || nard_packed_until_nul(bytes + HEAD, size - HEAD, &length) != NARD_OK)
         return refuse(reader, place, "", nard_reason_text(reason));
-    /* All else that is refused stands after the description, or says where the list after it ends. */
+    /* All other faults are after the description, or in the length of the list after it. */
     read_description(reader, length);
     reader->is_active = (bytes[0] & ACTIVE) != 0;
     if (reason == NARD_LIST_BEYOND_END)
@@ -49,7 +49,7 @@ bool reader_begin(struct reader *reader, const uint8_t *bytes, size_t size)
     return true;
 }
 
-/* Adds the path of a file path node. One separator stands between two nodes, also where both bring one. */
+/* Adds the path of a file path node. One separator joins two nodes, even if both bring one. */
 static bool add_path(struct reader *reader, struct nard_device_node node)
 {
     size_t text = node.start, count = 0, place = 0;

@@ -1,8 +1,8 @@
 /*
- * Compares texts of device paths with those of the firmware's own EFI_DEVICE_PATH_TO_TEXT_PROTOCOL: of the handles that the
- * firmware has, of the boot entries of BootOrder, and of the paths that the variable TestPaths holds one after the other.
- * Prints both texts where they differ, and at the end of each kind how many there were. In TestPaths a number stands before
- * the texts: at which offset the path begins. Compares the text of each node by itself too, but for those that end an instance.
+ * Compares texts of device paths with those of the firmware's own EFI_DEVICE_PATH_TO_TEXT_PROTOCOL: for the handles of the
+ * firmware, for the boot entries of BootOrder, and for the paths in the variable TestPaths, one after the other.
+ * Prints both texts if they differ, and at the end of each kind the number of paths. For TestPaths it prints a number before
+ * the texts: the offset of the path. Compares the text of each node by itself too, except for nodes that end an instance.
  *
  * Lets the firmware's EFI_DEVICE_PATH_FROM_TEXT_PROTOCOL read each text, and prints the text, and that of the path which the
  * firmware reads, if they differ.

@@ -1,7 +1,7 @@
 /*
  * Calls the library, and a function that keeps data below its stack pointer, again and again while the timer interrupts every
- * 50 microseconds. An interrupt in firmware pushes onto the stack that it finds, so the second gives wrong answers, and
- * the library has to give none. Prints both counts.
+ * 50 microseconds. An interrupt in firmware pushes onto the current stack, so that function gives wrong results, and
+ * the library must give none. Prints both counts.
  */
 #include <efi.h>
 
@@ -51,8 +51,8 @@ static void put_count(const char *what, size_t wrong)
     lines_put(" wrong\n");
 }
 
-/* How many conversions of a text of three-byte characters differ from the first, and how many sums of it. No interrupt comes
- * while the first ones are made. */
+/* Counts how many conversions of a text of three-byte characters, and how many sums of it, differ from the first ones. No
+ * interrupt comes while the first ones are made. */
 static void count_wrong(EFI_BOOT_SERVICES *services, size_t *library, size_t *planted)
 {
     static uint8_t text[TEXT];

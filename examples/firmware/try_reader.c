@@ -1,6 +1,6 @@
 /*
  * Prints each entry of a file that samples.py wrote as the menu does, on Linux. The bytes of each end right before a page
- * that nobody may read or write, so that a read beyond them ends the program; and so does one that takes ten seconds.
+ * that nobody may read or write, so that a read beyond them ends the program. An entry that takes ten seconds ends it too.
  *
  * usage: try_reader FILE
  */

@@ -7,8 +7,8 @@
  *
  *     BootOrder: 0002,000A,0000
  *
- * `insert` puts an entry at a place, 0 for the front. Where an edit fails, since the order has no entry to move or remove, nothing
- * is changed, and it ends with 1.
+ * `insert` puts an entry at a place, 0 for the front. If an edit fails, because the order has no entry to move or remove, the
+ * program changes nothing and ends with 1.
  */
 #include <stdio.h>
 

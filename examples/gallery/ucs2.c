@@ -6,8 +6,8 @@
  *
  *     boöt
  *
- * UCS-2 has no character above U+FFFF, and no text in UTF-8 has a surrogate: U+FFFD stands for one. What cannot be said is reported
- * with its place, and it ends with 1.
+ * UCS-2 has no character above U+FFFF, and a text in UTF-8 has no surrogate: a surrogate becomes U+FFFD. If a text cannot be
+ * converted, the program reports the place and ends with 1.
  */
 #include <stdio.h>
 #include <string.h>

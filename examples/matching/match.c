@@ -1,6 +1,6 @@
 /*
- * Says of pairs of device paths whether the second is a short form that stands for the first, and where the first goes on
- * after the nodes of the second. Each pair is two lengths, of four bytes, and the bytes of both.
+ * Prints for pairs of device paths whether the second is a short form of the first, and the offset in the first after the
+ * nodes of the second. Each pair is two lengths, of four bytes each, and the bytes of both paths.
  */
 #include <nardcorbel.h>
 #include <stdio.h>

@@ -1,4 +1,4 @@
-//! What is in Rust beside the calls of the library that say the same: all short texts of some characters.
+//! Compares the crate's own Rust code with the calls of the library that do the same, for all short texts of some characters.
 
 use crate::data_types::{CStr16, EqStrUntilNul};
 use crate::fs::{validate_path, Path};
@@ -6,7 +6,7 @@ use crate::sys;
 use std::string::String;
 use std::vec::Vec;
 
-/// All texts of up to four of the characters, as units with a NUL and as Rust has them.
+/// Returns all texts of up to four of the characters, as units with a NUL and as Rust strings.
 fn texts() -> Vec<(Vec<u16>, String)> {
     let (mut texts, mut start) = (std::vec![String::new()], 0);
     for _ in 0..4 {

@@ -8,7 +8,7 @@ use core::iter::FusedIterator;
 use core::ops::Deref;
 use core::str::FromStr;
 
-/// What load options a name is for.
+/// The kind of load options that a name is for.
 #[derive(Clone, Copy, Debug, PartialEq, Eq, PartialOrd, Ord, Hash)]
 pub enum LoadOptionKind {
     /// `Boot####`.
@@ -33,7 +33,7 @@ pub enum LoadOptionKind {
 /// ```
 #[derive(Clone, Copy, Debug, PartialEq, Eq, PartialOrd, Ord, Hash)]
 pub struct LoadOptionName {
-    /// What load options it is for.
+    /// The kind of load options that the name is for.
     pub kind: LoadOptionKind,
 
     /// Its number.
@@ -188,14 +188,14 @@ impl<'a> OrderBuffer<'a> {
         &self.places[..self.count]
     }
 
-    /// Puts a number at the end. A number that is in the order moves.
+    /// Adds a number at the end, or moves it there if the order contains it.
     ///
     /// Fails if the number is new and the buffer has no room. The order is then unchanged.
     pub fn push(&mut self, number: u16) -> Result<(), Error> {
         self.insert(self.count, number)
     }
 
-    /// Puts a number at a place among the others, or at the end if the place is beyond it. A number that is in the order moves.
+    /// Inserts a number at a place among the others, or moves it there if the order contains it. A place beyond the end is the end.
     ///
     /// Fails if the number is new and the buffer has no room. The order is then unchanged.
     ///
@@ -226,7 +226,7 @@ impl<'a> OrderBuffer<'a> {
         sys::nard_boot_order_move_to_front(self.places, &mut self.count, number)
     }
 
-    /// Returns the bytes of the order, as a variable holds them.
+    /// Returns the bytes of the order, in the form of a variable's value.
     pub fn to_le_bytes(&self) -> impl Iterator<Item = u8> + '_ {
         self.iter().flat_map(|it| it.to_le_bytes())
     }

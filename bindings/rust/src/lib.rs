@@ -33,7 +33,7 @@ pub use fs::PathBuf;
 pub use fs::{Component, Components, Path};
 pub use proto::device_path::{DevicePath, DevicePathNode, LoadOption};
 
-/// What most programs use.
+/// The items that most programs use.
 pub mod prelude {
     pub use crate::{char16, cstr16, cstr8, guid, CStr16, CStr8, Char16, Char8};
 }

@@ -68,7 +68,7 @@ fn unaligned_items() {
     ];
     let items = [0x1312_1110, 0x2322_2120, 0x3332_3130];
     let data: *const u32 = bytes[1..].as_ptr().cast();
-    // SAFETY: three items stand there.
+    // SAFETY: there are three items.
     let (none, all) = unsafe { (UnalignedSlice::new(data, 0), UnalignedSlice::new(data, 3)) };
     assert!(none.is_empty() && !all.is_empty() && all.len() == 3 && all.as_ptr() == data);
     let found: Vec<_> = (0..4).map(|it| all.get(it)).collect();
@@ -94,7 +94,7 @@ fn unaligned_strings() {
     {
         bytes[index + 1] = byte;
     }
-    // SAFETY: five units stand there.
+    // SAFETY: there are five units.
     let units: UnalignedSlice<'_, u16> =
         unsafe { UnalignedSlice::new(bytes[1..].as_ptr().cast(), 5) };
     let mut room = [MaybeUninit::new(9); 6];

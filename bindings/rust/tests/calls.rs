@@ -227,7 +227,7 @@ fn paths_in_collections() {
     assert_eq!(path_of(r"a\").join(cstr16!("b")).to_string(), r"a\b");
 }
 
-/// What a value tells a hasher.
+/// The bytes that a value gives a hasher.
 #[derive(Default)]
 struct Told(Vec<Vec<u8>>);
 

@@ -86,7 +86,7 @@ fn paths() -> Result<(), Error> {
     assert_eq!(path.strip_prefix(&device), Some(&*file));
     assert_eq!(path.strip_prefix(&file), None);
     assert!(path.is_expansion_of(&file) && !path.is_expansion_of(&device));
-    // SAFETY: a whole path stands there.
+    // SAFETY: there is a whole path.
     assert_eq!(
         unsafe { DevicePath::from_ffi_ptr(path.as_ffi_ptr()) },
         &*path

@@ -1,9 +1,9 @@
-//! What the crate does without the feature `alloc`.
+//! Tests of the crate without the feature `alloc`.
 
 use nardcorbel::proto::device_path::build::{self, DevicePathBuilder};
 use nardcorbel::{cstr16, guid, CStr16, Error, Path};
 
-/// What the text of a long node is displayed as, if there is no memory for it.
+/// The displayed text of a long node if there is no memory for it.
 fn long(head: &str, data: &str) -> String {
     if cfg!(feature = "alloc") {
         return format!("VenHw(12345678-9ABC-DEF0-1234-56789ABCDEF0,{data})");

@@ -1,5 +1,5 @@
-//! Names of load options and orders of them in units that C holds (UEFI Specification 2.10, section
-//! 3.3).
+//! Names of load options, and orders of load options, in units that C holds (UEFI Specification
+//! 2.10, section 3.3).
 ghost use Rattle.std.specs.Prelude.{◌≡◌, ◌≢◌, ◌↔◌, ◌%◌, ◌<◌, ◌≤◌, ◌^◌, false, length, slice_get, take, Err, Some};
 ghost use Rattle.uefi_boot_variables.specs.declared.variable_names.LoadOptionKind.{LoadOptionKind};
 ghost use Rattle.uefi_boot_variables.specs.declared.variable_names.LoadOptionName.{LoadOptionName};
@@ -31,7 +31,7 @@ pub const SYS_PREP: u8 = 2;
 /// `PlatformRecovery####`.
 pub const PLATFORM_RECOVERY: u8 = 3;
 
-/// Does nothing: its clauses are the numbers that `include/nardcorbel.h` gives the kinds.
+/// Does nothing. Its clauses state the numbers that `include/nardcorbel.h` gives the kinds.
 #[doc(hidden)]
 pub fn kinds()
     ensures boot { BOOT ≡ 0 }
@@ -40,7 +40,7 @@ pub fn kinds()
     ensures platform_recovery { PLATFORM_RECOVERY ≡ 3 }
 {}
 
-/// The number of a kind.
+/// Returns the number of a kind.
 fn kind_number(kind: LoadOptionKind) -> u8
     ensures { result ≡ kind_number kind }
 {
@@ -52,7 +52,7 @@ fn kind_number(kind: LoadOptionKind) -> u8
     }
 }
 
-/// The kind that has a number.
+/// Returns the kind that has a number.
 fn kind_of(number: u8) -> Option<LoadOptionKind>
     ensures { (kind : LoadOptionKind) → ((result ≡ Some kind) ↔ (number ≡ kind_number kind)) }
 {
@@ -65,11 +65,12 @@ fn kind_of(number: u8) -> Option<LoadOptionKind>
     }
 }
 
-/// Reads the string at the start of units as the name of a load option, such as `Boot001F`.
+/// Reads the string at the start of units as the name of a load option, for example `Boot001F`.
 ///
 /// At `OK`, `kind` becomes its kind and `number` its number. Units that do not begin with a string
 /// are refused as by `nard_string_until_nul`; a string that `LoadOptionName::from_cstr16` does not
-/// read is refused as `NOT_A_NAME`. `kind` and `number` are then unchanged. Does not allocate.
+/// read is refused as `NOT_A_NAME`. If the call fails, `kind` and `number` are unchanged. Does not
+/// allocate.
 #[unsafe(no_mangle)]
 pub extern "C" fn nard_boot_name_read(units: &[u16], kind: &mut u8, number: &mut u16) -> u32
     ensures no_string { (refusal : Refusal) → read_string units.now ≡ Err refusal
@@ -96,11 +97,13 @@ pub extern "C" fn nard_boot_name_read(units: &[u16], kind: &mut u8, number: &mut
     }
 }
 
-/// Writes the name of the load option of a kind and a number as a string to the start of a buffer.
+/// Writes the name of the load option with a kind and a number as a string to the start of a
+/// buffer.
 ///
 /// A kind above 3 is refused as `NOT_A_NAME`, and `place` is unchanged. Otherwise `place` becomes
 /// the length of the name in units, and a buffer with at most that many places is refused as
-/// `BUFFER_TOO_SMALL`. If the call refuses, the buffer is unchanged. Units after the NUL are never
+/// `BUFFER_TOO_SMALL`. If the call fails, the buffer is unchanged. Units after the NUL are never
+/// changed. Does not allocate.
 /// changed. Does not allocate.
 #[unsafe(no_mangle)]
 pub extern "C" fn nard_boot_name_write(
@@ -123,11 +126,11 @@ pub extern "C" fn nard_boot_name_write(
     report(name.write_cstr16(buffer), place)
 }
 
-/// Reads the number at an index of an order in the bytes of a variable such as `BootOrder`. Returns
-/// `OK`, or `END_OF_ORDER` if the index is at the end or beyond it.
+/// Reads the number at an index of an order from the bytes of a variable such as `BootOrder`.
+/// Returns `OK`, or `END_OF_ORDER` if the index is at the end or beyond it.
 ///
-/// An odd number of bytes is refused as `ODD_BYTES`, whatever the index. `number` becomes the
-/// number at `OK`, and is otherwise unchanged. Does not allocate.
+/// An odd number of bytes is refused as `ODD_BYTES`, whatever the index. At `OK`, `number` becomes
+/// the number at the index; otherwise it is unchanged. Does not allocate.
 #[unsafe(no_mangle)]
 pub extern "C" fn nard_boot_order_read(bytes: &[u8], place: usize, number: &mut u16) -> u32
     ensures odd { (result ≡ ODD_BYTES) ↔ (length bytes.now % 2 ≡ 1) }
@@ -152,12 +155,12 @@ pub extern "C" fn nard_boot_order_read(bytes: &[u8], place: usize, number: &mut 
 }
 
 /// Inserts a number at an index among the others of an order, as `order_edits::insert` does, or
-/// moves it there if the order contains it. An index beyond the end is the end.
+/// moves it there if the order contains it. An index beyond the end means the end.
 ///
 /// The order is the first `count` units of `order`, or all units if there are fewer. `count`
-/// becomes the new number of numbers, and the units after them are unchanged. If the order does not
-/// contain the number and has no room for it, the call returns `BUFFER_TOO_SMALL`, and the order
-/// and `count` are unchanged. Does not allocate.
+/// becomes the new length of the order, and the units after the order are unchanged. If the order
+/// does not contain the number and has no room for it, the call returns `BUFFER_TOO_SMALL`, and the
+/// order and `count` are unchanged. Does not allocate.
 #[unsafe(no_mangle)]
 pub extern "C" fn nard_boot_order_insert(
     order: &mut [u16],
@@ -199,7 +202,7 @@ pub extern "C" fn nard_boot_order_remove(order: &mut [u16], count: &mut usize, n
 }
 
 /// Moves a number of an order to the front, as `order_edits::move_to_front` does, and returns
-/// whether the order contained it. Otherwise the order is unchanged.
+/// whether the order contained it. If it did not, the order is unchanged.
 ///
 /// The order and `count` are as in [`nard_boot_order_insert`]. Does not allocate.
 #[unsafe(no_mangle)]

@@ -21,13 +21,13 @@ use uefi_path::{NormalWriteError, Path, laws, push_in_buf};
 use uefi_text::BufferTooSmall;
 
 /// Pushes a path onto the path at the start of a buffer, as `PathBuf::push` does. Slashes of the
-/// second path are replaced. If the first path is not empty and does not end in a separator, one is
-/// added between the two. The empty path changes nothing.
+/// second path are replaced. If the first path is not empty and does not end in a separator, the
+/// call adds one between the two. The empty path changes nothing.
 ///
 /// Units that do not begin with a string are refused as by `nard_string_until_nul`, the buffer
 /// first. Otherwise `place` becomes the length of the path in units, at most `usize::MAX - 1`, and
-/// a buffer with at most that many places is refused as `BUFFER_TOO_SMALL`. If the call refuses,
-/// the buffer is unchanged. Units after the NUL are never changed. Does not allocate.
+/// a buffer with at most that many places is refused as `BUFFER_TOO_SMALL`. If the call fails, the
+/// buffer is unchanged. Units after the NUL are never changed. Does not allocate.
 #[unsafe(no_mangle)]
 pub extern "C" fn nard_path_push(buffer: &mut [u16], path: &[u16], place: &mut usize) -> u32
     ensures { Shows (when_read (read_string buffer.old) (λ text. when_read (read_string path.now) (λ other.
@@ -49,7 +49,7 @@ pub extern "C" fn nard_path_push(buffer: &mut [u16], path: &[u16], place: &mut u
 ///
 /// Units that do not begin with a string are refused as by `nard_string_until_nul`, `path` first.
 /// Otherwise `place` and a buffer that is too small are as in [`nard_path_push`]. If the call
-/// refuses, the buffer is unchanged. Units after the NUL are never changed. Does not allocate.
+/// fails, the buffer is unchanged. Units after the NUL are never changed. Does not allocate.
 #[unsafe(no_mangle)]
 pub extern "C" fn nard_path_join(
     path: &[u16],
@@ -74,10 +74,10 @@ pub extern "C" fn nard_path_join(
 /// Writes the parent of a string's path, as `Path::parent` makes it, and a NUL to the start of a
 /// buffer.
 ///
-/// Units that do not begin with a string are refused as by `nard_string_until_nul`, and a path of
-/// at most one component as `NO_PARENT`, and then `place` is unchanged. Otherwise `place` becomes
-/// the length of the parent in units, and a buffer with at most that many places is refused as
-/// `BUFFER_TOO_SMALL`. If the call refuses, the buffer is unchanged. Units after the NUL are never
+/// Units that do not begin with a string are refused as by `nard_string_until_nul`. A path of at
+/// most one component is refused as `NO_PARENT`, and `place` is unchanged. Otherwise `place`
+/// becomes the length of the parent in units, and a buffer with at most that many places is refused
+/// as `BUFFER_TOO_SMALL`. If the call fails, the buffer is unchanged. Units after the NUL are never
 /// changed. Does not allocate.
 #[unsafe(no_mangle)]
 pub extern "C" fn nard_path_parent(path: &[u16], buffer: &mut [u16], place: &mut usize) -> u32
@@ -100,12 +100,12 @@ pub extern "C" fn nard_path_parent(path: &[u16], buffer: &mut [u16], place: &mut
 /// Writes the normal path of a string's path, as `Path::write_normal` makes it, and a NUL to the
 /// start of a buffer. Slashes count as separators.
 ///
-/// Units that do not begin with a string are refused as by `nard_string_until_nul`, and then a path
-/// that is not valid as by `nard_path_verdict` of the path with its slashes replaced, with its
-/// `place` and its `character`. Otherwise `place` becomes the number of units of the normal path,
-/// and a buffer with at most that many places is refused as `BUFFER_TOO_SMALL`. If the call
-/// refuses, the buffer is unchanged. Units after the NUL are never changed. `character` becomes 0
-/// unless a character is the reason. Does not allocate.
+/// Units that do not begin with a string are refused as by `nard_string_until_nul`. A path that is
+/// not valid is refused as `nard_path_verdict` refuses the path with its slashes replaced, with the
+/// same `character`; `place` becomes the length of the text. Otherwise `place` becomes the number
+/// of units of the normal path, and a buffer with at most that many places is refused as
+/// `BUFFER_TOO_SMALL`. If the call fails, the buffer is unchanged. Units after the NUL are never
+/// changed. `character` becomes 0 unless a character is the reason. Does not allocate.
 #[unsafe(no_mangle)]
 pub extern "C" fn nard_path_normalize(
     path: &[u16],
@@ -137,12 +137,12 @@ pub extern "C" fn nard_path_normalize(
     }
 }
 
-/// Writes the normal path of a path in UTF-8 into the first places of a buffer, and a NUL, by two calls:
-/// `nard_string_from_utf8` writes the path as a string into the second half of the buffer, which has one
-/// place more if their number is odd, and [`nard_path_normalize`] makes of that the normal path in the
-/// first half.
+/// Writes the normal path of a path in UTF-8, and a NUL, to the start of a buffer, by two calls.
+/// `nard_string_from_utf8` writes the path as a string into the second half of the buffer, which
+/// has one place more if the number of places is odd. [`nard_path_normalize`] then makes the normal
+/// path from that string in the first half.
 ///
-/// Each refuses in its half as it does in a buffer. Twice as many places as bytes, and two more,
+/// Each call fails in its half as it does in a buffer. Twice as many places as bytes, and two more,
 /// are enough for any path. `character` becomes 0 unless a character is the reason. Does not
 /// allocate.
 #[unsafe(no_mangle)]

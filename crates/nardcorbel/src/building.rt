@@ -1,4 +1,5 @@
-//! Device paths and load options that C writes into its own buffers, and device paths beside others.
+//! Device paths and load options that C writes into its own buffers, and comparisons of device
+//! paths.
 ghost use Rattle.std.specs.Prelude.{◌≡◌, ◌↔◌, ◌+◌, ◌%◌, ◌^◌, ◌≤◌, ◌++◌, ◌∷◌, [], All, IsTrue, List, length};
 ghost use Rattle.uefi_text.specs.Packed.{IsByte};
 ghost use Rattle.uefi_device_path.specs.Building.{build_refusal};
@@ -20,7 +21,7 @@ use uefi_device_path::{
     append_in_buf, push_in_buf, push_styled_text_in_buf,
 };
 
-/// Writes the device path without nodes to the start of a buffer: its end node alone.
+/// Writes the device path without nodes to the start of a buffer: only its end node.
 ///
 /// `place` becomes 4, the size of the path. A buffer of fewer bytes is refused as
 /// `BUFFER_TOO_SMALL`, and is unchanged. Bytes after the path are unchanged. Does not allocate
@@ -36,19 +37,20 @@ pub extern "C" fn nard_device_path_begin(buffer: &mut [u8], place: &mut usize) -
     report::<Refusal>(Ok(4), place)
 }
 
-/// Does nothing: a clause for the proof of the calls below.
+/// Does nothing. Its clause serves the proofs of the calls below.
 fn are_bytes(bytes: &[u8])
     ensures { All IsByte bytes.now }
 {}
 
-/// Adds a node to the device path that a buffer begins with, before its end, as [`push_in_buf`] does.
+/// Adds a node before the end of the device path at the start of a buffer, as [`push_in_buf`] does.
 ///
-/// Bytes that do not begin with a device path are refused as by [`nard_device_path_check`], with
-/// its `place`; then a node of type End that does not end an instance as `NODE_OF_END`, more than
-/// 65,531 bytes of data as `NODE_TOO_LONG`, and a buffer that is too small as `BUFFER_TOO_SMALL`.
-/// `place` becomes the size that the path then has or needs; it is unchanged for a node that is not
-/// allowed there. If the call refuses, the buffer is unchanged. Bytes after the path are never
-/// changed. Does not allocate (UEFI Specification 2.10, section 10.3.1).
+/// The call fails for the first of these reasons: the buffer does not begin with a device path (the
+/// reason and `place` of [`nard_device_path_check`]); the node has type End and does not end an
+/// instance (`NODE_OF_END`); the data is longer than 65,531 bytes (`NODE_TOO_LONG`); the buffer is
+/// too small (`BUFFER_TOO_SMALL`). `place` becomes the size that the path then has or needs; it is
+/// unchanged at `NODE_OF_END` and `NODE_TOO_LONG`. If the call fails, the buffer is unchanged.
+/// Bytes after the path are never changed. Does not allocate (UEFI Specification 2.10, section
+/// 10.3.1).
 #[unsafe(no_mangle)]
 pub extern "C" fn nard_device_path_push(
     buffer: &mut [u8],
@@ -74,10 +76,11 @@ pub extern "C" fn nard_device_path_push(
 /// Adds the nodes of the device path at the start of bytes to the path at the start of a buffer, as
 /// [`append_in_buf`] does.
 ///
-/// Refused as by [`nard_device_path_check`], the buffer first and then the bytes, with its `place`;
-/// then a buffer that is too small as `BUFFER_TOO_SMALL`. Otherwise `place` becomes the number of
-/// bytes of the path then, or needs. If the call refuses, the buffer is unchanged. Bytes after the
-/// path are never changed. Does not allocate.
+/// The buffer, and then the bytes, are refused as by [`nard_device_path_check`], with its `place`;
+/// then a buffer that is too small is refused as `BUFFER_TOO_SMALL`. Otherwise `place` becomes the
+/// size that the path then has. At `BUFFER_TOO_SMALL` it becomes the size that the path needs. If
+/// the call fails, the buffer is unchanged. Bytes after the path are never changed. Does not
+/// allocate.
 #[unsafe(no_mangle)]
 pub extern "C" fn nard_device_path_append(buffer: &mut [u8], bytes: &[u8], place: &mut usize) -> u32
     ensures { Shows (when_read (read_path buffer.old) (λ nodes. when_read (read_path bytes.now) (λ others.
@@ -93,8 +96,8 @@ pub extern "C" fn nard_device_path_append(buffer: &mut [u8], bytes: &[u8], place
     report(append_in_buf(buffer, path), place)
 }
 
-/// Why the nodes of a text are not added: the place of a fault is where its node begins, or, if the text is
-/// copied, the byte that is wrong.
+/// Returns why the nodes of a text are not added. The place of a fault is where its node begins,
+/// or, if the text is copied, the byte that is wrong.
 fn text_refused(style: TextStyle, error: PushLenientTextError) -> Refusal
     ensures { result ≡ text_refused style error }
 {
@@ -109,8 +112,8 @@ fn text_refused(style: TextStyle, error: PushLenientTextError) -> Refusal
     }
 }
 
-/// Adds the nodes of a text in UTF-8, read in a style, to the device path that a buffer begins with,
-/// before its end.
+/// Adds the nodes of a text in UTF-8, read in a style, before the end of the device path at the
+/// start of a buffer.
 fn push_styled_text(
     style: TextStyle,
     buffer: &mut [u8],
@@ -134,17 +137,21 @@ fn push_styled_text(
     }
 }
 
-/// Adds the nodes of a text in UTF-8 to the device path that a buffer begins with, before its end, as
+/// Adds the nodes of a text in UTF-8 before the end of the device path at the start of a buffer, as
 /// [`push_text_in_buf`] does.
 ///
-/// A buffer that does not begin with a device path is refused as by [`nard_device_path_check`],
-/// with its `place`; then bytes that are not UTF-8 as `NOT_UTF8`, and `place` becomes how many
-/// bytes before the fault are; then a text that is not that of a path as `NO_NODE`, and `place`
-/// becomes the byte at which a node has to begin and none does; and then a buffer that is too small
-/// as `BUFFER_TOO_SMALL`. Otherwise `place` becomes the number of bytes of the path then, or needs,
-/// and the largest `usize` if the size is larger. If the call refuses, the buffer is unchanged.
-/// Bytes after the path are never changed. Does not allocate (UEFI Specification 2.10, section
-/// 10.6.1).
+/// The call fails for the first of these reasons, and sets `place`:
+///
+/// | reason | fault | `place` |
+/// |---|---|---|
+/// | of [`nard_device_path_check`] | the buffer does not begin with a device path | of that call |
+/// | `NOT_UTF8` | the bytes are not UTF-8 | the number of bytes before the fault |
+/// | `NO_NODE` | the text is not a path | the byte at which a node must begin and none does |
+/// | `BUFFER_TOO_SMALL` | the buffer is too small | the size that the path needs |
+///
+/// At `OK`, `place` becomes the size of the path. A size above the greatest `usize` is given as the
+/// greatest `usize`. If the call fails, the buffer is unchanged. Bytes after the path are never
+/// changed. Does not allocate (UEFI Specification 2.10, section 10.6.1).
 #[unsafe(no_mangle)]
 pub extern "C" fn nard_device_path_push_text(
     buffer: &mut [u8],
@@ -157,18 +164,23 @@ pub extern "C" fn nard_device_path_push_text(
     push_styled_text(TextStyle::Printed, buffer, bytes, &mut [], place)
 }
 
-/// Adds the nodes of a text in UTF-8, as people write it, to the device path that a buffer begins with,
-/// before its end, as [`push_lenient_text_in_buf`](uefi_device_path) does.
+/// Adds the nodes of a text in UTF-8, as people write it, before the end of the device path at the
+/// start of a buffer, as [`push_lenient_text_in_buf`](uefi_device_path) does.
 ///
-/// A buffer that does not begin with a device path is refused as by [`nard_device_path_check`],
-/// with its `place`; then bytes that are not UTF-8 as `NOT_UTF8`, and `place` becomes how many
-/// bytes before the fault are; then a `scratch` that is not longer than these bytes as
-/// `SCRATCH_TOO_SMALL`, and `place` becomes how many bytes it needs; then a text that is not read
-/// as a path as `NO_NODE`, and `place` becomes the byte of it that is wrong, or its length; and
-/// then a buffer that is too small as `BUFFER_TOO_SMALL`. Otherwise `place` becomes the number of
-/// bytes of the path then, or needs, and the largest `usize` if the size is larger. If the call
-/// refuses, the buffer is unchanged. Bytes after the path are never changed. `scratch` then
-/// contains anything. Does not allocate (UEFI Specification 2.10, section 10.6.1).
+/// The call fails for the first of these reasons, and sets `place`:
+///
+/// | reason | fault | `place` |
+/// |---|---|---|
+/// | of [`nard_device_path_check`] | the buffer does not begin with a device path | of that call |
+/// | `NOT_UTF8` | the bytes are not UTF-8 | the number of bytes before the fault |
+/// | `SCRATCH_TOO_SMALL` | `scratch` is not longer than the bytes | the length that it needs |
+/// | `NO_NODE` | the text is not read as a path | the byte of it that is wrong, or its length |
+/// | `BUFFER_TOO_SMALL` | the buffer is too small | the size that the path needs |
+///
+/// At `OK`, `place` becomes the size of the path. A size above the greatest `usize` is given as the
+/// greatest `usize`. If the call fails, the buffer is unchanged. Bytes after the path are never
+/// changed. Afterwards the contents of `scratch` are unspecified. Does not allocate (UEFI
+/// Specification 2.10, section 10.6.1).
 #[unsafe(no_mangle)]
 pub extern "C" fn nard_device_path_push_lenient_text(
     buffer: &mut [u8],
@@ -182,9 +194,9 @@ pub extern "C" fn nard_device_path_push_lenient_text(
     push_styled_text(TextStyle::Lenient, buffer, bytes, scratch, place)
 }
 
-/// Adds the nodes of a text in UTF-8 that libefivar and efibootmgr print to the device path that a
-/// buffer begins with, before its end, as [`push_libefivar_text_in_buf`](uefi_device_path) does. It
-/// is refused as by [`nard_device_path_push_lenient_text`].
+/// Adds the nodes of a text in UTF-8 that libefivar and efibootmgr print before the end of the
+/// device path at the start of a buffer, as [`push_libefivar_text_in_buf`](uefi_device_path) does.
+/// Fails as [`nard_device_path_push_lenient_text`] does.
 #[unsafe(no_mangle)]
 pub extern "C" fn nard_device_path_push_libefivar_text(
     buffer: &mut [u8],
@@ -198,9 +210,9 @@ pub extern "C" fn nard_device_path_push_libefivar_text(
     push_styled_text(TextStyle::Libefivar, buffer, bytes, scratch, place)
 }
 
-/// Returns whether both begin with a device path, and the second is a short form that stands for
-/// the first, as [`DevicePath::is_expansion_of`] says. Does not allocate (UEFI Specification 2.10,
-/// section 3.1.2).
+/// Returns whether both begin with a device path, and the second is a short form of the first, as
+/// [`DevicePath::is_expansion_of`] says. Does not allocate (UEFI Specification 2.10, section
+/// 3.1.2).
 #[unsafe(no_mangle)]
 pub extern "C" fn nard_device_path_is_expansion(bytes: &[u8], form: &[u8]) -> bool
     ensures { IsTrue result ↔ ((nodes : List Node) × (others : List Node) × BeginWithPath bytes.now nodes
@@ -243,15 +255,17 @@ pub extern "C" fn nard_device_path_strip_prefix(
     true
 }
 
-/// Writes a load option of one device path to the start of a buffer, as [`LoadOptionBuilder::write`] does.
+/// Writes a load option with one device path to the start of a buffer, as
+/// [`LoadOptionBuilder::write`] does.
 ///
-/// Of `attributes` the lowest 32 bits count. Units of the description that do not begin with a
-/// string are refused as by `nard_string_until_nul`, then bytes that do not begin with a device
-/// path as by [`nard_device_path_check`], each with its `place`; then a device path of more than
-/// 65,535 bytes as `LIST_TOO_LONG`, and a buffer that is too small as `BUFFER_TOO_SMALL`. `place`
-/// becomes how many bytes the load option has, or needs; it stays unchanged at `LIST_TOO_LONG`. If
-/// the call refuses, the buffer is unchanged. Bytes after the load option are never changed. Does
-/// not allocate (UEFI Specification 2.10, section 3.1.3).
+/// Only the lowest 32 bits of `attributes` count. The call fails for the first of these reasons:
+/// the units of the description do not begin with a string (the reason and `place` of
+/// `nard_string_until_nul`); the bytes do not begin with a device path (the reason and `place` of
+/// [`nard_device_path_check`]); the device path is longer than 65,535 bytes (`LIST_TOO_LONG`); the
+/// buffer is too small (`BUFFER_TOO_SMALL`). `place` becomes the size that the load option has or
+/// needs; it is unchanged at `LIST_TOO_LONG`. If the call fails, the buffer is unchanged. Bytes
+/// after the load option are never changed. Does not allocate (UEFI Specification 2.10, section
+/// 3.1.3).
 #[unsafe(no_mangle)]
 pub extern "C" fn nard_load_option_write(
     attributes: usize,

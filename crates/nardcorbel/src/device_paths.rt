@@ -1,5 +1,5 @@
-//! Device paths in bytes that C holds: whether bytes begin with one, its nodes, the file that it names, and
-//! its text.
+//! Device paths in bytes that C holds: a check that bytes begin with one, its nodes, the file that
+//! it names, and its text.
 ghost use Rattle.std.specs.Prelude.{◌≡◌, ◌≢◌, ◌+◌, ◌<◌, ◌≤◌, ◌++◌, ◌∷◌, [], ℕ, All, List, None, Some, Err, Ok, Result, drop, length};
 ghost use Rattle.uefi_device_path.specs.NodeFaults.{fault_place, node_fault};
 ghost use Rattle.uefi_device_path.specs.NodeError.{NodeError};
@@ -43,15 +43,15 @@ pub extern "C" fn nard_device_path_check(bytes: &[u8], place: &mut usize) -> u32
     }
 }
 
-/// Finds how many bytes are needed to read on in a device path that begins with these bytes.
-/// Returns `OK`, or why no path begins with them.
+/// Finds how many bytes are needed to continue reading a device path that begins with these bytes.
+/// Returns `OK`, or the reason why no path begins with them.
 ///
 /// At `OK`, `needed` becomes the size of the path if the bytes contain the whole path; otherwise it
 /// becomes the number of bytes needed to continue, and no path that begins with these bytes is
 /// shorter. `place` is the offset of a node, 0 at first, and becomes the offset of the next node,
-/// so that no node is read twice. If the call refuses, `place` becomes the offset of the bytes at
+/// so that no node is read twice. If the call fails, `place` becomes the offset of the bytes at
 /// fault, and `needed` is unchanged. A place after the end of the bytes is refused as
-/// `NO_END_NODE`. Reads only these bytes; does not allocate (UEFI Specification 2.10, section
+/// `NO_END_NODE`. Reads only these bytes, and does not allocate (UEFI Specification 2.10, section
 /// 10.3.1).
 #[unsafe(no_mangle)]
 pub extern "C" fn nard_device_path_needs(bytes: &[u8], place: &mut usize, needed: &mut usize) -> u32
@@ -84,7 +84,7 @@ pub extern "C" fn nard_device_path_needs(bytes: &[u8], place: &mut usize, needed
     }
 }
 
-/// A node of a device path, by the place of its data in bytes.
+/// A node of a device path, with the offset of its data in the bytes.
 #[repr(C)]
 #[derive(Clone, Copy)]
 pub struct DeviceNode {
@@ -104,12 +104,12 @@ pub struct DeviceNode {
 /// Reads the node at an offset of bytes. Returns `OK`, `END_OF_PATH` if the node ends the path, or
 /// the fault.
 ///
-/// At `OK` `node` becomes the node, and `place` the offset after it; at `END_OF_PATH` `place`
-/// becomes the offset after the node, where the next path of a list begins. If the call refuses,
+/// At `OK`, `node` becomes the node, and `place` the offset after it. At `END_OF_PATH`, `place`
+/// becomes the offset after the node, where the next path of a list begins. If the call fails,
 /// `place` becomes the offset of the bytes at fault. `node` is unchanged unless the call returns
-/// `OK`. Nodes that end an instance are `OK`. Any bytes and any place are allowed: no node begins
-/// after the end of the bytes. Reads only the node's header; does not allocate (UEFI Specification
-/// 2.10, section 10.3.1).
+/// `OK`. For nodes that end an instance the call returns `OK`. Any bytes and any place are allowed;
+/// no node begins after the end of the bytes. Reads only the node's header, and does not allocate
+/// (UEFI Specification 2.10, section 10.3.1).
 #[unsafe(no_mangle)]
 pub extern "C" fn nard_device_path_next_node(
     bytes: &[u8],
@@ -163,16 +163,16 @@ pub extern "C" fn nard_device_path_next_node(
     }
 }
 
-/// Writes the file path of the device path that bytes begin with, as [`DevicePath::write_file_path`] does,
-/// into the first places of a buffer, and a NUL.
+/// Writes the file path of the device path at the start of bytes, as
+/// [`DevicePath::write_file_path`] does, and a NUL to the start of a buffer.
 ///
-/// Bytes that do not begin with a device path are refused as by [`nard_device_path_check`], and
-/// then a node that should name a file and has no name, where `place` becomes the offset of its
-/// data: `ODD_BYTES` where they end in half a unit, and else as by `nard_string_with_nul`.
-/// Otherwise `place` becomes the number of units of the file path, without its NUL, and a buffer
-/// with at most that many places is refused as `BUFFER_TOO_SMALL`. If the call refuses, the buffer
-/// is unchanged. Units after the NUL are never changed. Does not allocate (UEFI Specification 2.10,
-/// section 10.3.5.4).
+/// Bytes that do not begin with a device path are refused as by [`nard_device_path_check`]. Then a
+/// node that should name a file and whose data is not a string is refused: as `ODD_BYTES` if the
+/// data has an odd length, and otherwise as by `nard_string_with_nul`; `place` becomes the offset
+/// of the data. Otherwise `place` becomes the number of units of the file path, without its NUL,
+/// and a buffer with at most that many places is refused as `BUFFER_TOO_SMALL`. If the call fails,
+/// the buffer is unchanged. Units after the NUL are never changed. Does not allocate (UEFI
+/// Specification 2.10, section 10.3.5.4).
 #[unsafe(no_mangle)]
 pub extern "C" fn nard_device_path_file_path(
     bytes: &[u8],
@@ -198,14 +198,14 @@ pub extern "C" fn nard_device_path_file_path(
     }
 }
 
-/// Writes the device path that bytes begin with as people read it, which [`DevicePath::write_text`] does,
-/// into the first places of a buffer as UTF-16, and a NUL.
+/// Writes the text of the device path at the start of bytes, as [`DevicePath::write_text`] does,
+/// and a NUL to the start of a buffer, as UTF-16.
 ///
-/// Bytes that do not begin with a device path are refused as by [`nard_device_path_check`], and the
-/// buffer stays unchanged. Otherwise `place` becomes the number of units of the text, without its
-/// NUL, or at most `usize::MAX - 1`, and a buffer of no more places, and no other, is
-/// `BUFFER_TOO_SMALL`: it stays unchanged. What stands after the NUL stays. Does not allocate (UEFI
-/// Specification 2.10, section 10.6.1).
+/// Bytes that do not begin with a device path are refused as by [`nard_device_path_check`].
+/// Otherwise `place` becomes the number of units of the text, without its NUL, at most `usize::MAX
+/// - 1`, and exactly a buffer with at most that many places is refused as `BUFFER_TOO_SMALL`. If
+/// the call fails, the buffer is unchanged. Units after the NUL are never changed. Does not
+/// allocate (UEFI Specification 2.10, section 10.6.1).
 #[unsafe(no_mangle)]
 pub extern "C" fn nard_device_path_text(
     bytes: &[u8],
@@ -230,8 +230,8 @@ pub extern "C" fn nard_device_path_text(
     report(text, place)
 }
 
-/// Writes the device path that bytes begin with as libefivar prints it, and efibootmgr with it, which
-/// [`DevicePath::write_libefivar_text`] does, as [`nard_device_path_text`] writes its text.
+/// Writes the device path at the start of bytes as libefivar and efibootmgr print it, which
+/// [`DevicePath::write_libefivar_text`] does. Otherwise like [`nard_device_path_text`].
 #[unsafe(no_mangle)]
 pub extern "C" fn nard_device_path_libefivar_text(
     bytes: &[u8],

@@ -1,5 +1,5 @@
-//! Names on FAT volumes in units that C holds: which are names of files, which are of one file, and
-//! the characters of short names (UEFI Specification 2.10, sections 13.3 and 21.1).
+//! Names on FAT volumes in units that C holds: which units are names of files, which names mean one
+//! file, and the characters of short names (UEFI Specification 2.10, sections 13.3 and 21.1).
 ghost use Rattle.std.specs.Prelude.{◌≡◌, ◌↔◌, ℕ, List, Err, Ok, IsTrue, length};
 ghost use Rattle.uefi_text.specs.Case.{uppers};
 ghost use Rattle.uefi_text.specs.Units.{BeginsWithString};
@@ -25,9 +25,9 @@ use uefi_text::{BufferTooSmall, CStr16, Char16Slice};
 /// Returns `OK`, or the fault.
 ///
 /// Units that do not begin with a string are refused as by `nard_string_until_nul`, and then the
-/// name as by `check_fat_name`. `place` becomes what `nard_string_until_nul` says, which is the
-/// length of the text where only the name is refused. `character` becomes the character of
-/// `ILLEGAL_CHAR`, and 0 else. Does not allocate.
+/// name as by `check_fat_name`. `place` becomes what `nard_string_until_nul` reports, which is the
+/// length of the text if only the name is refused. `character` becomes the refused character at
+/// `ILLEGAL_CHAR`, and otherwise 0. Does not allocate.
 #[unsafe(no_mangle)]
 pub extern "C" fn nard_fat_name_check(units: &[u16], place: &mut usize, character: &mut u16) -> u32
     ensures shows { ShowsNumber (when_read (read_string units.now) checked_name) place.old result place.new }
@@ -51,8 +51,8 @@ pub extern "C" fn nard_fat_name_check(units: &[u16], place: &mut usize, characte
     }
 }
 
-/// Returns whether both begin with a string, and these are names of one file on a FAT volume, as
-/// `same_fat_file` says. Does not allocate.
+/// Returns whether both begin with a string, and these strings are names of one file on a FAT
+/// volume, as `same_fat_file` says. Does not allocate.
 #[unsafe(no_mangle)]
 pub extern "C" fn nard_fat_name_equal(first: &[u16], second: &[u16]) -> bool
     ensures { IsTrue result ↔ (BeginsWithString first.now × BeginsWithString second.now
@@ -79,7 +79,8 @@ pub extern "C" fn nard_fat_name_is_short(units: &[u16]) -> bool
     }
 }
 
-/// What a call returns that wrote bytes in the characters of short names. `place` becomes how many.
+/// Returns the result of a call that wrote bytes in the characters of short names. `place` becomes
+/// their number.
 pub(crate) fn report_fat(written: FatBytes, place: &mut usize) -> u32
     ensures reason { result ≡ replaced_reason written.is_replaced }
     ensures place { place.new ≡ written.len }
@@ -92,12 +93,13 @@ pub(crate) fn report_fat(written: FatBytes, place: &mut usize) -> u32
     }
 }
 
-/// Writes the string that units begin with to the start of `bytes` in the characters of short
-/// names, as `str_to_fat` does: `OK`, or `CHAR_REPLACED` if one of them is `_` in place of another.
+/// Writes the string at the start of units to the start of `bytes` in the characters of short
+/// names, as `str_to_fat` does. Returns `OK`, or `CHAR_REPLACED` if one of the bytes is a `_` that
+/// replaces another character.
 ///
-/// `place` becomes how many bytes are written. What is after them stays, and no NUL is written.
-/// Units that do not begin with a string are refused as by `nard_string_until_nul`, whose `place`
-/// is reported, and the bytes stay unchanged. Does not allocate.
+/// `place` becomes the number of bytes written. The bytes after them are unchanged, and no NUL is
+/// written. Units that do not begin with a string are refused as by `nard_string_until_nul`, with
+/// its `place`, and the bytes are unchanged. Does not allocate.
 #[unsafe(no_mangle)]
 pub extern "C" fn nard_fat_from_string(units: &[u16], bytes: &mut [u8], place: &mut usize) -> u32
     ensures refused { (refusal : Refusal) → read_string units.now ≡ Err refusal
@@ -111,12 +113,12 @@ pub extern "C" fn nard_fat_from_string(units: &[u16], bytes: &mut [u8], place: &
     }
 }
 
-/// Writes the string of bytes in the characters of short names to the start of `buffer`, as
+/// Writes bytes in the characters of short names as a string to the start of `buffer`, as
 /// `fat_to_str` does: a unit for each byte before the first NUL, or for each byte if there is none,
-/// and adds a NUL.
+/// and a NUL.
 ///
-/// `place` becomes how many units the text has. A buffer with no more places than these is
-/// `BUFFER_TOO_SMALL`, and stays unchanged. Does not allocate.
+/// `place` becomes the number of units of the text. A buffer with at most that many places is
+/// refused as `BUFFER_TOO_SMALL`, and is unchanged. Does not allocate.
 #[unsafe(no_mangle)]
 pub extern "C" fn nard_string_from_fat(bytes: &[u8], buffer: &mut [u16], place: &mut usize) -> u32
     ensures shows { Shows (Text (fat_text bytes.now)) place.old buffer.old result place.new buffer.new }

@@ -1,4 +1,4 @@
-//! Load options in bytes that C holds: where their parts stand.
+//! Load options in bytes that C holds: the offsets and lengths of their parts.
 ghost use Rattle.std.specs.Prelude.{◌≡◌, ◌≢◌, ◌↔◌, ◌<◌, ◌^◌, List, ◌∷◌, length};
 ghost use Rattle.uefi_device_path.specs.Nodes.{Node};
 ghost use Rattle.uefi_device_path.specs.LoadOptions.{Entry, EntryRefusedFor, IsEntry, entry_bytes};
@@ -14,8 +14,9 @@ use crate::outcomes::refuse;
 use crate::reasons::OK;
 use uefi_device_path::{LoadOption, laws};
 
-/// Where the parts of a load option stand in its bytes, which follow one another. Offsets and lengths are in
-/// bytes, but the description's length, which is in units (UEFI Specification 2.10, section 3.1.3).
+/// The offsets and lengths of the parts of a load option, which follow one another in its bytes.
+/// All are in bytes, except the description's length, which is in units (UEFI Specification 2.10,
+/// section 3.1.3).
 #[repr(C)]
 #[derive(Clone, Copy)]
 pub struct LoadOptionParts {
@@ -34,7 +35,7 @@ pub struct LoadOptionParts {
     /// The number of bytes of the file path list.
     pub list_length: usize,
 
-    /// The number of bytes of the first device path of the list, its end node included.
+    /// The number of bytes of the first device path of the list, including its end node.
     pub path_length: usize,
 
     /// The offset of the optional data.
@@ -44,7 +45,7 @@ pub struct LoadOptionParts {
     pub optional_length: usize,
 }
 
-/// The number of bytes of the first device path of a load option.
+/// Returns the number of bytes of the first device path of a load option.
 fn first_path_len(option: &LoadOption<'_>) -> usize
     ensures { (first : List Node) → (others : List (List Node)) → (entry_of option.now).paths ≡ first ∷ others
         → result ≡ length (path_bytes first) }
@@ -55,7 +56,7 @@ fn first_path_len(option: &LoadOption<'_>) -> usize
     }
 }
 
-/// Where the parts of a load option stand.
+/// Returns the offsets and lengths of the parts of a load option.
 fn parts_of(option: &LoadOption<'_>) -> LoadOptionParts
     requires { length (entry_bytes (entry_of option.now)) < 2 ^ 64 }
     ensures { HasParts (entry_of option.now) result }
@@ -79,7 +80,7 @@ fn parts_of(option: &LoadOption<'_>) -> LoadOptionParts
 /// bytes.
 ///
 /// At `OK`, `option` becomes the offsets and lengths of its parts, and `place` the number of bytes.
-/// The call refuses bytes as [`LoadOption::from_bytes`] does: `place` becomes the offset of the
+/// Otherwise the call fails as [`LoadOption::from_bytes`] does: `place` becomes the offset of the
 /// fault, and `option` is unchanged. The description may contain surrogates. Does not allocate
 /// (UEFI Specification 2.10, section 3.1.3).
 #[unsafe(no_mangle)]

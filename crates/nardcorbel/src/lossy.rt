@@ -1,5 +1,5 @@
-//! Units that may be anything, in UTF-8: descriptions of load options and names of files are mostly
-//! strings, and a menu shows them where they are none.
+//! Conversion of any units to UTF-8. Descriptions of load options and names of files are mostly
+//! strings, and a menu shows them even if they are not.
 ghost use Rattle.uefi_device_path.specs.LoadOptions.{lossy_utf8};
 ghost use Rattle.nardcorbel.specs.Outcomes.{Shows};
 ghost use Rattle.nardcorbel.specs.Outcomes.Outcome.{Text};
@@ -13,9 +13,9 @@ use uefi_text::decode::write_lossy;
 /// the start of `bytes`.
 ///
 /// Each pair of surrogates is one character, and each surrogate without a partner becomes U+FFFD
-/// (Unicode Standard, section 3.9), so no unit is refused. `place` becomes how many bytes the text
-/// has, or at most `usize::MAX - 1`, and bytes with no more places than these are
-/// `BUFFER_TOO_SMALL`. If the call refuses, the bytes are unchanged. Bytes after the NUL are never
+/// (Unicode Standard, section 3.9), so no unit is refused. `place` becomes the number of bytes of
+/// the text, at most `usize::MAX - 1`, and at most that many places are refused as
+/// `BUFFER_TOO_SMALL`. If the call fails, the bytes are unchanged. Bytes after the NUL are never
 /// changed. Does not allocate.
 #[unsafe(no_mangle)]
 pub extern "C" fn nard_utf8_from_units_lossy(

@@ -6,10 +6,11 @@ ghost use Rattle.nardcorbel.specs.NodeNumbers.{IsNumberIn};
 use crate::reasons::{NO_FIELD, OK};
 use uefi_text::Packed;
 
-/// Reads a number of the data of a node, the low byte first: `width` bytes from `place` on, 1, 2, 4 or 8.
+/// Reads a number from the data of a node, the low byte first: `width` bytes from `place` on, where
+/// `width` is 1, 2, 4 or 8.
 ///
-/// Returns `OK`, or `NO_FIELD` if the data ends too early or has no such width; `number` is then
-/// unchanged. Does not allocate (UEFI Specification 2.10, section 10.3.1).
+/// Returns `OK`, or `NO_FIELD` if the data ends before the number does or the width is another one;
+/// `number` is then unchanged. Does not allocate (UEFI Specification 2.10, section 10.3.1).
 #[unsafe(no_mangle)]
 pub extern "C" fn nard_node_number(
     content: &[u8],

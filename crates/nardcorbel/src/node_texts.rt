@@ -14,15 +14,16 @@ ghost use Rattle.nardcorbel.specs.Reading.{read_node};
 use crate::outcomes::{refuse, report};
 use uefi_device_path::{AllowShortcuts, DevicePathNode, DisplayOnly};
 
-/// Writes the text of the node that bytes begin with, as [`DevicePathNode::write_text`] does, into the first
-/// places of a buffer as UTF-16, and a NUL.
+/// Writes the text of the node at the start of bytes, as [`DevicePathNode::write_text`] does, and a
+/// NUL to the start of a buffer, as UTF-16.
 ///
 /// Bytes that do not begin with a node are refused as by `nard_device_path_next_node` at place 0:
-/// `place` becomes the offset of the bytes that are at fault, and the buffer stays unchanged. The
-/// node may be one that ends the path or an instance. Otherwise `place` becomes the number of units
-/// of the text, without its NUL, or at most `usize::MAX - 1`, and a buffer of no more places, and
-/// no other, is `BUFFER_TOO_SMALL`: it stays unchanged. What stands after the NUL stays. The call
-/// does not read beyond the node. Does not allocate (UEFI Specification 2.10, section 10.6.1).
+/// `place` becomes the offset of the bytes at fault. The node may be one that ends the path or an
+/// instance. Otherwise `place` becomes the number of units of the text, without its NUL, at most
+/// `usize::MAX - 1`, and a buffer is refused as `BUFFER_TOO_SMALL` exactly if it has at most that
+/// many places. If the call fails, the buffer is unchanged. Units after the NUL are never changed.
+/// The call does not read beyond the node. Does not allocate (UEFI Specification 2.10, section
+/// 10.6.1).
 #[unsafe(no_mangle)]
 pub extern "C" fn nard_node_text(
     bytes: &[u8],

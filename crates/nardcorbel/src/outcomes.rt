@@ -1,4 +1,4 @@
-//! What a call reports: a number, or why it is refused.
+//! The outcomes that calls report: a number, or a refusal.
 #![tactic(auto, unfolding(crate::specs::Reading::read_string, crate::specs::Reading::read_utf8), using(crate::proofs::Inputs::reads))]
 
 ghost use Rattle.std.specs.Prelude.{◌≡◌, ◌≢◌, ◌↔◌, ◌-◌, ◌<◌, ◌^◌, IfErr, IfOk, IsOk, OnOk, Err, Ok};
@@ -30,7 +30,7 @@ pub(crate) struct Refusal {
     /// One of [`crate::reasons`].
     pub reason: u32,
 
-    /// The place at fault, or none if the number that is there stays.
+    /// The place at fault, or `None` if the caller's number is unchanged.
     pub place: Option<usize>,
 }
 
@@ -63,7 +63,7 @@ pub(crate) trait Refused: Copy {
     /// The refusal.
     ghost refusal: { Self → Refusal };
 
-    /// The refusal.
+    /// Returns the refusal.
     fn refusal(self) -> Refusal
         ensures { result ≡ refusal self };
 }

@@ -1,4 +1,4 @@
-//! Code units that lie packed in bytes, as the tables and device paths of firmware hold them.
+//! Code units that are packed in bytes, as in the tables and device paths of firmware.
 ghost use Rattle.std.specs.Prelude.{◌≡◌, ◌≢◌, ◌↔◌, ℕ, ◌+◌, ◌/◌, ◌%◌, ◌≤◌, ◌++◌, List, drop, length};
 ghost use Rattle.uefi_text.specs.PackedStrings.{SplitsUntilNul};
 ghost use Rattle.uefi_text.specs.UnitBytes.{units_of_bytes};
@@ -40,8 +40,8 @@ pub extern "C" fn nard_units_from_bytes(bytes: &[u8], buffer: &mut [u16], count:
 /// Counts the units before the first NUL in bytes that encode units, at any address. Returns `OK`,
 /// or `NO_NUL` if no unit is a NUL. The units may be surrogates.
 ///
-/// `count` becomes their number, or the number of all units if there is no NUL. An odd byte at the
-/// end is ignored. Does not allocate.
+/// `count` becomes the number of units before the NUL, or of all units if there is no NUL. An odd
+/// byte at the end is ignored. Does not allocate.
 #[unsafe(no_mangle)]
 pub extern "C" fn nard_packed_until_nul(bytes: &[u8], count: &mut usize) -> u32
     ensures accepts { (result ≡ OK)

@@ -1,4 +1,4 @@
-//! Paths in units that C holds: the verdict on one, how two compare, and where its components stand.
+//! Paths in units that C holds: the verdict on one, comparisons, and the offsets of components.
 ghost use Rattle.std.specs.Prelude.{◌≡◌, ◌≢◌, ◌↔◌, ℕ, ◌+◌, ◌<◌, ◌≤◌, ◌∷◌, [], List, Err, Ok, IsFalse, IsTrue, None, Some, drop, length, slice_index, slice_range, take};
 ghost use Rattle.std.specs.Cmp.Lexicographic.{slice_cmp};
 ghost use Rattle.std.specs.List.{last_or};
@@ -24,8 +24,8 @@ use uefi_path::path_units::{last_component, next_component, others_end};
 use uefi_path::{Path, validate_path_at};
 use uefi_text::CStr16;
 
-/// Whether a path names a file: `OK`, or why not, the character that is refused, and where the component at
-/// fault begins.
+/// Checks that a path names a file. Returns `OK`, or the fault, with the character that is refused
+/// and the index at which the component at fault begins.
 fn judge(path: Path<'_>, place: &mut usize, character: &mut u16) -> u32
     ensures verdict { ShowsVerdict (path_text path.entry) result place.new character.new }
     ensures valid { (result ≡ OK) ↔ IsValid (path_text path.entry) }
@@ -48,9 +48,9 @@ fn judge(path: Path<'_>, place: &mut usize, character: &mut u16) -> u32
 /// Checks that the units begin with a string whose path names a file. Returns `OK`, or the fault.
 ///
 /// Units that do not begin with a string are refused as by [`nard_string_until_nul`], with its
-/// `place`, and then the path as by `validate_path_at`: `place` becomes where the component at
-/// fault begins. It becomes the length of the text if the result is `OK`. `character` becomes the
-/// character of `ILLEGAL_CHAR`, and 0 else. Does not allocate.
+/// `place`, and then the path as by `validate_path_at`: `place` becomes the index at which the
+/// component at fault begins. At `OK`, `place` becomes the length of the text. `character` becomes
+/// the refused character at `ILLEGAL_CHAR`, and otherwise 0. Does not allocate.
 #[unsafe(no_mangle)]
 pub extern "C" fn nard_path_verdict(units: &[u16], place: &mut usize, character: &mut u16) -> u32
     ensures no_string { (refusal : Refusal) → read_string units.now ≡ Err refusal
@@ -68,7 +68,7 @@ pub extern "C" fn nard_path_verdict(units: &[u16], place: &mut usize, character:
     }
 }
 
-/// Returns whether both begin with a string, and the paths of these are equal: one leading
+/// Returns whether both begin with a string, and the paths of these strings are equal: one leading
 /// separator makes no difference. Does not allocate.
 #[unsafe(no_mangle)]
 pub extern "C" fn nard_path_equal(first: &[u16], second: &[u16]) -> bool
@@ -103,13 +103,13 @@ pub extern "C" fn nard_path_order(first: &[u16], second: &[u16]) -> i32
     order_number(Path::new(first).cmp(&Path::new(second)))
 }
 
-/// Finds the next component of a path, from a place in its text on. Returns whether there is one.
+/// Finds the next component of a path, from an index in its text on. Returns whether there is one.
 ///
-/// `text` are the units of the path without its NUL, any units. `place` is 0 at first. If there is
-/// a component it is the `len` units from `start` on, which is `place`, but 1 where a separator
-/// begins the text and `place` is 0; and `place` becomes the place of the next one, after the
-/// separator that ends it. Else all three stay unchanged. An empty component is one, too. Does not
-/// allocate.
+/// `text` is the units of the path without its NUL; any units are allowed. `place` is 0 at first.
+/// If there is a component, it is the `component_length` units from `start` on. `start` is `place`,
+/// except that it is 1 if a separator begins the text and `place` is 0. `place` becomes the index
+/// for the next component, after the separator that ends this one. If there is no component, all
+/// three are unchanged. A component may be empty. Does not allocate.
 #[unsafe(no_mangle)]
 pub extern "C" fn nard_path_next_component(
     text: &[u16],
@@ -138,9 +138,9 @@ pub extern "C" fn nard_path_next_component(
 
 /// Finds the last component of a path. Returns whether it has one.
 ///
-/// `text` are the units of the path without its NUL, any units. `start` becomes the place where the
-/// component begins, which ends with the text, and stays unchanged if there is none. It may be
-/// empty. Does not allocate.
+/// `text` is the units of the path without its NUL; any units are allowed. `start` becomes the
+/// index at which the component begins; the component ends with the text, and may be empty. `start`
+/// is unchanged if there is no component. Does not allocate.
 #[unsafe(no_mangle)]
 pub extern "C" fn nard_path_file_name(text: &[u16], start: &mut usize) -> bool
     ensures name { IsTrue result
@@ -158,10 +158,10 @@ pub extern "C" fn nard_path_file_name(text: &[u16], start: &mut usize) -> bool
 /// Finds how many units at the start of a path's text are its parent. Returns whether it has a
 /// parent: a path of at most one component has none.
 ///
-/// `text` is the units of the path without its NUL; any units are allowed. `len` becomes the place
-/// of the separator before the last component: the units before it are a path of all components but
-/// the last. For a valid path they are the parent, except for a separator at the start. `len` is
-/// unchanged if there is no parent. Does not allocate.
+/// `text` is the units of the path without its NUL; any units are allowed. `parent_length` becomes
+/// the index of the separator before the last component: the units before it are a path of all
+/// components except the last. For a valid path they are the parent, except for a separator at the
+/// start. `parent_length` is unchanged if there is no parent. Does not allocate.
 #[unsafe(no_mangle)]
 pub extern "C" fn nard_path_parent_length(text: &[u16], parent_length: &mut usize) -> bool
     ensures parent { IsTrue result

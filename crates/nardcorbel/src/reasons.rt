@@ -1,4 +1,4 @@
-//! Why a call refuses, as numbers: the header's `enum nard_reason` has the same.
+//! The reasons why a call fails, as numbers: the header's `enum nard_reason` has the same numbers.
 ghost use Rattle.std.specs.Prelude.{◌≡◌, Some, negsuc};
 ghost use Rattle.nardcorbel.specs.Reasons.{fat_name_reason, name_reason, node_reason, option_reason, order_number, path_reason, refused_character, refused_fat_character, with_nul_reason};
 
@@ -8,7 +8,7 @@ use uefi_fat::FatNameError;
 use uefi_path::PathError;
 use uefi_text::FromSliceWithNulError;
 
-/// Nothing is refused.
+/// The call succeeded.
 pub const OK: u32 = 0;
 
 /// No unit is a NUL.
@@ -17,7 +17,7 @@ pub const NO_NUL: u32 = 1;
 /// A unit is a surrogate, or a character is above U+FFFF.
 pub const INVALID_CHAR: u32 = 2;
 
-/// More follows the NUL.
+/// The NUL is not the last unit.
 pub const INTERIOR_NUL: u32 = 3;
 
 /// The buffer has too few places.
@@ -26,7 +26,7 @@ pub const BUFFER_TOO_SMALL: u32 = 4;
 /// The bytes are not UTF-8.
 pub const NOT_UTF8: u32 = 5;
 
-/// The bytes are odd in number.
+/// The number of bytes is odd.
 pub const ODD_BYTES: u32 = 6;
 
 /// The path is empty.
@@ -35,16 +35,16 @@ pub const PATH_EMPTY: u32 = 7;
 /// A component of the path is empty.
 pub const EMPTY_COMPONENT: u32 = 8;
 
-/// A component holds a character that no file's name may hold.
+/// A component contains a character that file names must not contain.
 pub const ILLEGAL_CHAR: u32 = 9;
 
-/// A component `..` for which no name before it is left.
+/// A component `..` that no name before it is left to cancel.
 pub const CLIMBS_ABOVE_ROOT: u32 = 10;
 
 /// The path has at most one component, and so no parent.
 pub const NO_PARENT: u32 = 11;
 
-/// The bytes end where a node has to begin: no end node ends the device path.
+/// The bytes end where a node must begin: no end node ends the device path.
 pub const NO_END_NODE: u32 = 12;
 
 /// The bytes end within the header of a node.
@@ -74,7 +74,7 @@ pub const LIST_BEYOND_END: u32 = 20;
 /// The file path list of a load option has no bytes.
 pub const EMPTY_LIST: u32 = 21;
 
-/// The node that ends the device path stands there.
+/// The node at this place ends the device path.
 pub const END_OF_PATH: u32 = 22;
 
 /// Nothing is left of a name without the spaces and dots around it.
@@ -83,10 +83,10 @@ pub const NAME_EMPTY: u32 = 23;
 /// A name has more than 255 units.
 pub const NAME_TOO_LONG: u32 = 24;
 
-/// A unit is replaced by `_`: no short name takes it.
+/// A unit was replaced by `_`, because short names cannot contain it.
 pub const CHAR_REPLACED: u32 = 25;
 
-/// A node of type End that ends no instance may not stand before the end of a device path.
+/// A node of type End that does not end an instance must not be before the end of a device path.
 pub const NODE_OF_END: u32 = 26;
 
 /// A node has more data than its header can state.
@@ -95,26 +95,26 @@ pub const NODE_TOO_LONG: u32 = 27;
 /// A file path list is longer than the header of a load option can state.
 pub const LIST_TOO_LONG: u32 = 28;
 
-/// No load option has the name, or the kind.
+/// No load option has this name, or this kind.
 pub const NOT_A_NAME: u32 = 29;
 
-/// The order has no number at the place, which is at its end or beyond it.
+/// The order has no number at the index, which is at its end or beyond it.
 pub const END_OF_ORDER: u32 = 30;
 
-/// A node of a device path has to begin at the place in a text, and none does.
+/// A node of a device path must begin at this place of a text, and none does.
 pub const NO_NODE: u32 = 31;
 
-/// The data of a node have no number of this width at this place.
+/// The data of a node has no number of this width at this place.
 pub const NO_FIELD: u32 = 32;
 
 /// The second buffer is not longer than the text.
 pub const SCRATCH_TOO_SMALL: u32 = 33;
 
-/// The order of two strings of which one is none: the least number of its type, so that no test for
-/// "greater" holds.
+/// The order of two strings if one of them is not a string: the least number of its type, so that
+/// no test for "greater" holds.
 pub const NO_ORDER: i32 = i32::MIN;
 
-/// The version of the library: its three numbers, as a byte each, the first one highest.
+/// Returns the version of the library: its three numbers, one byte each, the first one highest.
 #[unsafe(no_mangle)]
 pub extern "C" fn nard_version() -> u32
     ensures { result ≡ 0x000700 }
@@ -122,7 +122,7 @@ pub extern "C" fn nard_version() -> u32
     0x00_07_00
 }
 
-/// Does nothing: its clauses are the numbers that `include/nardcorbel.h` gives the reasons.
+/// Does nothing. Its clauses state the numbers that `include/nardcorbel.h` gives the reasons.
 #[doc(hidden)]
 pub fn numbers()
     ensures ok { OK ≡ 0 }
@@ -162,7 +162,7 @@ pub fn numbers()
     ensures no_order { NO_ORDER ≡ negsuc 2147483647 }
 {}
 
-/// The reason why units are not a string.
+/// Returns the reason why units are not a string.
 pub(crate) fn with_nul_reason(error: FromSliceWithNulError) -> u32
     ensures { result ≡ with_nul_reason error }
 {
@@ -200,7 +200,7 @@ pub(crate) fn fat_name_reason(error: FatNameError) -> (u32, u16)
     }
 }
 
-/// The reason why no node of a device path stands at a place.
+/// Returns the reason why there is no node of a device path at an offset.
 pub(crate) fn node_reason(error: NodeError) -> u32
     ensures { result ≡ node_reason error }
 {
@@ -214,7 +214,7 @@ pub(crate) fn node_reason(error: NodeError) -> u32
     }
 }
 
-/// The reason why bytes are not a load option.
+/// Returns the reason why bytes are not a load option.
 pub(crate) fn option_reason(cause: LoadOptionCause) -> u32
     ensures { result ≡ option_reason cause }
 {

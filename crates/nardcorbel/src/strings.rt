@@ -1,4 +1,4 @@
-//! Strings in units that C holds: which units are one, and how two compare.
+//! Strings in units that C holds: checks that units are a string, and comparisons.
 ghost use Rattle.std.specs.Prelude.{◌≡◌, ◌↔◌, IsTrue, length};
 ghost use Rattle.std.specs.Cmp.Lexicographic.{slice_cmp};
 ghost use Rattle.std.specs.Ordering.{nat_cmp};
@@ -17,7 +17,7 @@ use crate::reasons::{NO_ORDER, OK, order_number, with_nul_reason};
 use uefi_text::scan::find_nul;
 use uefi_text::{CStr16, FromSliceWithNulError};
 
-/// Why units are not one string.
+/// Returns why units are not one string.
 fn with_nul_refused(error: FromSliceWithNulError, units: &[u16]) -> Refusal
     ensures { result ≡ with_nul_refused units.now error }
 {
@@ -44,8 +44,7 @@ pub(crate) fn until_nul(units: &[u16]) -> &[u16]
 /// Checks that the units are exactly one string. Returns `OK`, or the fault.
 ///
 /// The first unit that is a NUL or a surrogate decides. `place` becomes the length of the text, the
-/// index of the unit that is refused, or the number of units where none is a NUL. Does not
-/// allocate.
+/// index of the unit that is refused, or the number of units if none is a NUL. Does not allocate.
 #[unsafe(no_mangle)]
 pub extern "C" fn nard_string_with_nul(units: &[u16], place: &mut usize) -> u32
     ensures shows { ShowsNumber (unless (with_nul_refusal units.now) (with_nul_refused units.now)
@@ -64,7 +63,7 @@ pub extern "C" fn nard_string_with_nul(units: &[u16], place: &mut usize) -> u32
 /// Checks that the units begin with a string. Returns `OK`, or the fault. The call does not read
 /// beyond the first NUL.
 ///
-/// `place` becomes what [`nard_string_with_nul`] says. Does not allocate.
+/// `place` becomes the same as in [`nard_string_with_nul`]. Does not allocate.
 #[unsafe(no_mangle)]
 pub extern "C" fn nard_string_until_nul(units: &[u16], place: &mut usize) -> u32
     ensures shows { ShowsNumber (when_read (read_string units.now) (λ text. Number (length text)))

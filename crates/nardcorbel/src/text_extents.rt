@@ -1,4 +1,4 @@
-//! Where the path ends that a text in bytes begins with.
+//! The end of the path at the start of a text in bytes.
 ghost use Rattle.std.specs.Prelude.{◌≡◌, IsTrue};
 ghost use Rattle.uefi_device_path.specs.Styles.{is_copied};
 ghost use Rattle.uefi_device_path.specs.TextStyle.TheVariants.{Lenient, Libefivar};
@@ -9,7 +9,7 @@ use crate::outcomes::{Refusal, refuse, report};
 use crate::reasons::{NO_NODE, SCRATCH_TOO_SMALL};
 use uefi_device_path::{TextStyle, styled_text_extent};
 
-/// Reports how many bytes of a text are the path that it begins with in a style.
+/// Reports how many bytes at the start of a text are a path in a style.
 fn find_extent(style: TextStyle, bytes: &[u8], scratch: &mut [u8], place: &mut usize) -> u32
     requires { IsTrue (is_copied style) }
     ensures { ShowsNumber (extent_outcome style bytes.now scratch.old) place.old result place.new }
@@ -23,14 +23,14 @@ fn find_extent(style: TextStyle, bytes: &[u8], scratch: &mut [u8], place: &mut u
     }
 }
 
-/// Reports how many bytes of a text, as people write it, are the path that it begins with, as
+/// Reports how many bytes at the start of a text, as people write it, are a path, as
 /// [`lenient_text_extent`](uefi_device_path) does: programs print other data directly after a path.
 ///
-/// A `scratch` that is not longer than these bytes is refused as `SCRATCH_TOO_SMALL`, and `place`
-/// becomes how many bytes it needs; then a text that does not begin with a path as `NO_NODE`, and
-/// `place` becomes the byte of it that is wrong, or its length. Otherwise `place` becomes the
-/// number of bytes of the path. What follows these need not be UTF-8. `scratch` then holds
-/// anything. Does not allocate.
+/// A `scratch` that is not longer than the bytes is refused as `SCRATCH_TOO_SMALL`, and `place`
+/// becomes the length that it needs. Then a text that does not begin with a path is refused as
+/// `NO_NODE`, and `place` becomes the byte of it that is wrong, or its length. Otherwise `place`
+/// becomes the number of bytes of the path. The bytes after it need not be UTF-8. Afterwards the
+/// contents of `scratch` are unspecified. Does not allocate.
 #[unsafe(no_mangle)]
 pub extern "C" fn nard_lenient_text_extent(
     bytes: &[u8],

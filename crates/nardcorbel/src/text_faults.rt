@@ -1,4 +1,4 @@
-//! Why a text as people write it, or as libefivar prints it, is not read, in words.
+//! Messages that say why a text as people write it, or as libefivar prints it, is not read.
 ghost use Rattle.std.specs.Prelude.{◌≡◌, ◌<◌, IsTrue, Option, length};
 ghost use Rattle.std.specs.Result.{result_err};
 ghost use Rattle.uefi_device_path.specs.StyledReading.{path_read};
@@ -15,7 +15,7 @@ use uefi_device_path::{PushLenientTextError, TextFault, TextStyle, laws, push_st
 use uefi_text::text_sink::{Printed, TextSink};
 use uefi_text::write_units;
 
-/// The fault of a text, in words; nothing where it has none.
+/// The fault of a text, in words; no words if it has no fault.
 #[derive(Drop)]
 struct FaultText {
     fault: Option<TextFault>,
@@ -31,7 +31,7 @@ impl Printed for FaultText {
     }
 }
 
-/// The fault of a text whose nodes are not added.
+/// Returns the fault of a text whose nodes are not added.
 fn fault_in(error: PushLenientTextError) -> Option<TextFault>
     ensures { result ≡ fault_in error }
 {
@@ -43,7 +43,8 @@ fn fault_in(error: PushLenientTextError) -> Option<TextFault>
     }
 }
 
-/// The fault of a text that is not read. The second buffer then holds anything.
+/// Returns the fault of a text that is not read. Afterwards the contents of the second buffer are
+/// unspecified.
 fn find_fault(style: TextStyle, text: &str, scratch: &mut [u8]) -> Option<TextFault>
     requires copied { IsTrue (is_copied style) }
     requires room { length text.now < length scratch.old }
@@ -80,16 +81,17 @@ fn write_fault(
     report(write_units(buffer, &FaultText { fault }), place)
 }
 
-/// Writes in words why `nard_device_path_push_lenient_text` refuses a text as `NO_NODE`, into the first
-/// places of a buffer as UTF-16, and a NUL: for example `no node at offset 11: expected a number up to 0xFF
-/// at offset 20`. There are no words if the text is read.
+/// Writes in words why `nard_device_path_push_lenient_text` refuses a text as `NO_NODE`, and a NUL,
+/// to the start of a buffer, as UTF-16: for example `no node at offset 11: expected a number up to
+/// 0xFF at offset 20`. There are no words if the text is read.
 ///
-/// Bytes that are not UTF-8 are refused as `NOT_UTF8`, and `place` becomes how many bytes before
-/// the fault are; then a `scratch` that is not longer than these bytes as `SCRATCH_TOO_SMALL`, and
-/// `place` becomes how many bytes it needs; the buffer then stays unchanged. Otherwise `place`
-/// becomes how many units the words have, their NUL not counted, and a buffer of no more places,
-/// and no other, is `BUFFER_TOO_SMALL`: it stays unchanged. What stands after the NUL stays;
-/// `scratch` then holds anything. Does not allocate.
+/// Bytes that are not UTF-8 are refused as `NOT_UTF8`, and `place` becomes the number of bytes
+/// before the fault. Then a `scratch` that is not longer than these bytes is refused as
+/// `SCRATCH_TOO_SMALL`, and `place` becomes the length that it needs. Otherwise `place` becomes the
+/// number of units of the words, without their NUL, and a buffer is refused as `BUFFER_TOO_SMALL`
+/// exactly if it has at most that many places. If the call fails, the buffer is unchanged. Units
+/// after the NUL are never changed. Afterwards the contents of `scratch` are unspecified. Does not
+/// allocate.
 #[unsafe(no_mangle)]
 pub extern "C" fn nard_lenient_text_fault(
     bytes: &[u8],

@@ -1,8 +1,8 @@
 //! Units that may contain surrogates, compared without case, matched and converted as the
-//! firmware's Unicode collation does (UEFI Specification 2.10, section 21.1): names on FAT volumes
-//! may be no strings.
+//! firmware's Unicode collation does (UEFI Specification 2.10, section 21.1), because names on FAT
+//! volumes may not be strings.
 //!
-//! The text of units is what is before their first NUL, or all of them if there is none. No call
+//! The text of units is the units before their first NUL, or all units if there is no NUL. No call
 //! refuses a unit.
 ghost use Rattle.std.specs.Prelude.{◌≡◌, ◌↔◌, ◌++◌, drop, length, IsTrue};
 ghost use Rattle.uefi_text.specs.Case.{caseless_order, lowers, uppers};
@@ -26,7 +26,7 @@ pub extern "C" fn nard_units_equal_ignore_case(first: &[u16], second: &[u16]) ->
     eq_ignore_case(until_nul(first), until_nul(second))
 }
 
-/// Returns the order of both texts without case, as `StriColl` has it: -1, 0 or 1 if the first is
+/// Returns the order of both texts without case, as `StriColl` does: -1, 0 or 1 if the first is
 /// less, equal or greater. Does not allocate.
 #[unsafe(no_mangle)]
 pub extern "C" fn nard_units_order_ignore_case(first: &[u16], second: &[u16]) -> i32
@@ -45,8 +45,8 @@ pub extern "C" fn nard_units_matches(units: &[u16], pattern: &[u16]) -> bool
     matches(until_nul(units), until_nul(pattern))
 }
 
-/// Puts the text in upper case, as `StrUpr` does, and returns its length. The rest of the buffer is
-/// unchanged. Does not allocate.
+/// Converts the text to upper case, as `StrUpr` does, and returns its length. The rest of the
+/// buffer is unchanged. Does not allocate.
 #[unsafe(no_mangle)]
 pub extern "C" fn nard_units_make_uppercase(buffer: &mut [u16]) -> usize
     ensures length { result ≡ length (text_until_nul buffer.old) }
@@ -58,8 +58,8 @@ pub extern "C" fn nard_units_make_uppercase(buffer: &mut [u16]) -> usize
     len
 }
 
-/// Puts the text in lower case, as `StrLwr` does, and returns its length. The rest of the buffer is
-/// unchanged. Does not allocate.
+/// Converts the text to lower case, as `StrLwr` does, and returns its length. The rest of the
+/// buffer is unchanged. Does not allocate.
 #[unsafe(no_mangle)]
 pub extern "C" fn nard_units_make_lowercase(buffer: &mut [u16]) -> usize
     ensures length { result ≡ length (text_until_nul buffer.old) }
@@ -72,9 +72,10 @@ pub extern "C" fn nard_units_make_lowercase(buffer: &mut [u16]) -> usize
 }
 
 /// Writes the text to the start of `bytes` in the characters of short names, as `StrToFat` and
-/// `units_to_fat` do: `OK`, or `CHAR_REPLACED` if one of them is `_` in place of another unit.
+/// `units_to_fat` do. Returns `OK`, or `CHAR_REPLACED` if one of the bytes is a `_` that replaces
+/// another unit.
 ///
-/// `place` becomes how many bytes are written. What follows them is unchanged, and no NUL is
+/// `place` becomes the number of bytes written. The bytes after them are unchanged, and no NUL is
 /// written. Does not allocate.
 #[unsafe(no_mangle)]
 pub extern "C" fn nard_fat_from_units(units: &[u16], bytes: &mut [u8], place: &mut usize) -> u32

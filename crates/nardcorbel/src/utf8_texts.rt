@@ -48,11 +48,11 @@ fn judge_text(text: &str) -> (u32, usize)
 
 /// Writes a text in UTF-8 as a string to the start of a buffer.
 ///
-/// Bytes that are not UTF-8 are `NOT_UTF8`, and `place` becomes how many bytes before the fault
-/// are. Then a text is refused for its first character that is NUL or above U+FFFF, as
-/// `INTERIOR_NUL` or `INVALID_CHAR`, and `place` becomes how many characters are before it.
+/// Bytes that are not UTF-8 are refused as `NOT_UTF8`, and `place` becomes the number of bytes
+/// before the fault. Then a text is refused for its first character that is NUL or above U+FFFF, as
+/// `INTERIOR_NUL` or `INVALID_CHAR`, and `place` becomes the number of characters before it.
 /// Otherwise `place` becomes the length of the text, and a buffer with at most that many places is
-/// refused as `BUFFER_TOO_SMALL`. If the call refuses, the buffer is unchanged. Units after the NUL
+/// refused as `BUFFER_TOO_SMALL`. If the call fails, the buffer is unchanged. Units after the NUL
 /// are never changed. Does not allocate.
 #[unsafe(no_mangle)]
 pub extern "C" fn nard_string_from_utf8(bytes: &[u8], buffer: &mut [u16], place: &mut usize) -> u32
@@ -90,8 +90,8 @@ fn write_judged(text: &str, buffer: &mut [u16]) -> u32
 }
 
 /// Returns whether the units begin with a string, the bytes are UTF-8, and the two count as equal
-/// up to the first NUL: the string's text, or what the bytes encode before their first NUL, is a
-/// prefix of the other of these. Does not allocate.
+/// up to the first NUL: either the string's text or the text that the bytes encode before their
+/// first NUL is a prefix of the other. Does not allocate.
 #[unsafe(no_mangle)]
 pub extern "C" fn nard_string_equal_until_nul(units: &[u16], bytes: &[u8]) -> bool
     ensures { IsTrue result ↔ (BeginsWithString units.now × IsUtf8 bytes.now
@@ -118,13 +118,13 @@ pub extern "C" fn nard_utf8_is_latin1(bytes: &[u8]) -> bool
     }
 }
 
-/// Writes the text of the string that units begin with, in UTF-8 and with a NUL, into the first
-/// places of `bytes`.
+/// Writes the text of the string at the start of units, in UTF-8 and with a NUL, to the start of
+/// `bytes`.
 ///
 /// Units that do not begin with a string are refused as by `nard_string_until_nul`, with its
-/// `place`. Otherwise `place` becomes the number of bytes of the text, or at most `usize::MAX - 1`,
-/// and bytes with no more places than these are `BUFFER_TOO_SMALL`. Refused, the bytes stay
-/// unchanged; what stands after the NUL stays. Does not allocate.
+/// `place`. Otherwise `place` becomes the number of bytes of the text, at most `usize::MAX - 1`,
+/// and at most that many places are refused as `BUFFER_TOO_SMALL`. If the call fails, the bytes are
+/// unchanged. Bytes after the NUL are never changed. Does not allocate.
 #[unsafe(no_mangle)]
 pub extern "C" fn nard_utf8_from_string(units: &[u16], bytes: &mut [u8], place: &mut usize) -> u32
     ensures { Shows (when_read (read_string units.now) (λ text. Text (encode_utf8_all text)))

@@ -18,9 +18,10 @@ use uefi_path::Path;
 use uefi_text::CStr16;
 use uefi_text::case::{make_lowercase, make_uppercase};
 
-/// Puts the text of the string that units begin with in upper case, as `StrUpr` does. Units that do
-/// not begin with a string are refused as by `nard_string_until_nul`, whose `place` is reported,
-/// and stay unchanged; what follows the text stays. Does not allocate.
+/// Converts the text of the string at the start of units to upper case, as `StrUpr` does. `place`
+/// becomes the length of the text. Units that do not begin with a string are refused as by
+/// `nard_string_until_nul`, with its `place`, and are unchanged. The units after the text are never
+/// changed. Does not allocate.
 #[unsafe(no_mangle)]
 pub extern "C" fn nard_string_make_uppercase(buffer: &mut [u16], place: &mut usize) -> u32
     ensures shows { ShowsNumber (when_read (read_string buffer.old) (λ text. Number (length text)))
@@ -36,7 +37,8 @@ pub extern "C" fn nard_string_make_uppercase(buffer: &mut [u16], place: &mut usi
     OK
 }
 
-/// The same in lower case, as `StrLwr` does.
+/// Converts the text to lower case, as `StrLwr` does. Otherwise like
+/// [`nard_string_make_uppercase`].
 #[unsafe(no_mangle)]
 pub extern "C" fn nard_string_make_lowercase(buffer: &mut [u16], place: &mut usize) -> u32
     ensures shows { ShowsNumber (when_read (read_string buffer.old) (λ text. Number (length text)))
@@ -103,8 +105,8 @@ pub extern "C" fn nard_string_matches(units: &[u16], pattern: &[u16]) -> bool
     string.matches(pattern)
 }
 
-/// Returns whether both begin with a string, and the paths of these are equal without case: one
-/// leading separator makes no difference. Does not allocate.
+/// Returns whether both begin with a string, and the paths of these strings are equal without case:
+/// one leading separator makes no difference. Does not allocate.
 #[unsafe(no_mangle)]
 pub extern "C" fn nard_path_equal_ignore_case(first: &[u16], second: &[u16]) -> bool
     ensures { IsTrue result ↔ (BeginsWithString first.now × BeginsWithString second.now
@@ -119,8 +121,9 @@ pub extern "C" fn nard_path_equal_ignore_case(first: &[u16], second: &[u16]) -> 
     Path::new(first).eq_ignore_case(Path::new(second))
 }
 
-/// Returns whether both begin with a string, and each component of the pattern matches the
-/// component of the path at the same place, of which both have as many. Does not allocate.
+/// Returns whether both begin with a string, the two paths have the same number of components, and
+/// each component of the pattern matches the component of the path at the same index. Does not
+/// allocate.
 #[unsafe(no_mangle)]
 pub extern "C" fn nard_path_matches(path: &[u16], pattern: &[u16]) -> bool
     ensures { IsTrue result ↔ (BeginsWithString path.now × BeginsWithString pattern.now

@@ -1,10 +1,11 @@
-//! The words after the program's name: its verbs, their options, and what is nearest to a wrong one.
+//! The words after the program's name: its verbs, their options, and the nearest match of a wrong
+//! one.
 use crate::ends::{End, WRONG_ARGUMENTS, refuse};
 use crate::help;
 use std::alloc::{AllocError, Global};
 use strsim::levenshtein;
 
-/// What the program does to variables, besides printing them.
+/// The actions of the program on variables, besides printing them.
 #[derive(Clone, Copy, PartialEq, Eq)]
 pub(crate) enum Verb {
     Check,
@@ -66,7 +67,7 @@ impl Verb {
         }
     }
 
-    /// The options that take a value in the next word.
+    /// Returns the options that take a value in the next word.
     fn values(self) -> &'static [&'static str] {
         match self {
             Verb::Create => &[
@@ -88,7 +89,7 @@ impl Verb {
         }
     }
 
-    /// The options that take no value.
+    /// Returns the options that take no value.
     fn flags(self) -> &'static [&'static str] {
         match self {
             Verb::Check => &["--help"],
@@ -98,7 +99,7 @@ impl Verb {
         }
     }
 
-    /// How few and how many words the verb takes that are no options.
+    /// Returns the least and the greatest number of words that the verb takes, without options.
     fn counts(self) -> (usize, usize) {
         match self {
             Verb::Check | Verb::Create => (0, 0),
@@ -109,8 +110,8 @@ impl Verb {
     }
 }
 
-/// The candidate that begins with a word, or else that with the fewest edits from it, and how many
-/// these are.
+/// Returns the candidate that begins with a word, or otherwise the one with the fewest edits from
+/// it, and how many edits these are.
 fn nearest(
     alloc: Global,
     word: &str,
@@ -159,7 +160,7 @@ pub(crate) struct Words<'a> {
     plain: Vec<usize>,
 }
 
-/// The value that a word has after the option's name and an equals sign.
+/// Returns the value in a word after the option's name and an equals sign.
 fn attached<'a>(word: &'a str, option: &str) -> Option<&'a str> {
     match word.strip_prefix(option) {
         Some(rest) => rest.strip_prefix("="),
@@ -194,7 +195,7 @@ impl<'a> Words<'a> {
         })
     }
 
-    /// The word at a place, or an empty one after the last.
+    /// Returns the word at an index, or an empty one after the last.
     fn word(&self, place: usize) -> &'a str {
         match self.words.get(place) {
             Some(word) => word.as_str(),
@@ -216,12 +217,12 @@ impl<'a> Words<'a> {
         None
     }
 
-    /// Whether an option is given that takes no value.
+    /// Returns whether an option without a value is given.
     pub(crate) fn has(&self, option: &str) -> bool {
         self.options.iter().any(|place| self.word(*place) == option)
     }
 
-    /// Whether the help is asked for.
+    /// Returns whether help is requested.
     pub(crate) fn asks_help(&self) -> bool {
         self.has("-h") || self.has("--help")
     }
@@ -234,7 +235,7 @@ impl<'a> Words<'a> {
         }
     }
 
-    /// Whether a word is an option of the verb.
+    /// Returns whether a word is an option of the verb.
     fn is_known(&self, word: &str) -> bool {
         word == "-h"
             || self.verb.flags().contains(&word)

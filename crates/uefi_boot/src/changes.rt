@@ -1,4 +1,4 @@
-//! Carries plans out: each variable is written whole, one after the other.
+//! Carries out plans: each variable is written whole, one after the other.
 use crate::ends::{End, Output, UNREADABLE, UNWRITTEN, refuse};
 use crate::entry::Shown;
 use crate::head::{write_order, write_timeout};
@@ -31,7 +31,7 @@ struct Target {
     is_new: bool,
 }
 
-/// The variable that a step changes.
+/// Returns the variable that a step changes.
 fn changed(variable: Changed) -> Variable {
     match variable {
         Changed::Entry(number) => Variable::Boot(number),
@@ -41,7 +41,7 @@ fn changed(variable: Changed) -> Variable {
     }
 }
 
-/// Writes what a variable says with a value, and a line's end.
+/// Writes the meaning of a variable with a value, and an end of line.
 fn write_value(
     out: &mut String,
     alloc: Global,
@@ -71,7 +71,7 @@ fn write_value(
     Ok(())
 }
 
-/// Adds the line of a step, and what the variable then says.
+/// Adds the line of a step, and the meaning of the variable after it.
 fn describe(out: &mut String, alloc: Global, step: &Step, is_dry_run: bool) -> Result<(), End> {
     let variable = changed(step.variable);
     match &step.value {
@@ -91,13 +91,14 @@ fn describe(out: &mut String, alloc: Global, step: &Step, is_dry_run: bool) -> R
     }
 }
 
-/// Replaces a file of a folder, so that it has its old bytes or its new ones whatever fails: a new
-/// file is written beside it, and takes its name.
+/// Replaces a file of a folder, so that it has its old bytes or its new ones whatever fails: writes
+/// a new file beside it, and then renames that file.
 fn replace_file(rt: &HostRuntime, path: &str, bytes: &[u8], is_new: bool) -> io::Result<()> {
     let beside = format!(in rt.alloc(); "{path}.new")?;
     let result = write_beside(rt, path, beside.as_str(), bytes, is_new);
     if result.is_err() {
-        // What was written beside the file is of no use, and the error is what the caller has to know.
+        // The file that was written beside it is useless, and the caller needs to know the first
+        // error.
         let _ = fs::remove_file(rt, beside.as_str());
     }
     result
@@ -132,14 +133,14 @@ fn write_at_once(rt: &HostRuntime, path: &str, bytes: &[u8], is_new: bool) -> io
         Err(error) => Err(error),
     };
     if result.is_err() && is_new {
-        // The file has no variable, and the error is what the caller has to know.
+        // The file has no variable, and the caller needs to know the error.
         let _ = fs::remove_file(rt, path);
     }
     result
 }
 
 impl<'a> Machine<'a> {
-    /// Where a variable is written.
+    /// Returns where a variable is written.
     fn target(&self, variable: Variable) -> Result<Target, End> {
         let alloc = self.rt.alloc();
         let Some(source) = self.variables.find(variable) else {
@@ -181,7 +182,7 @@ impl<'a> Machine<'a> {
         })
     }
 
-    /// Whether the folder is that of the machine's own variables.
+    /// Returns whether the folder contains the machine's own variables.
     fn is_own(&self) -> bool {
         match fs::canonicalize(self.rt, self.folder) {
             Ok(path) => path.as_path().to_string_lossy() == OWN,
@@ -231,7 +232,7 @@ impl<'a> Machine<'a> {
         Ok(0)
     }
 
-    /// Says which step failed and why, what was done before it, and what was not done.
+    /// Reports which step failed and why, what was done before it, and what was not done.
     fn fail(
         &self,
         error: &io::Error,

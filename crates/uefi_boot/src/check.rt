@@ -1,4 +1,4 @@
-//! Reports what firmware or the machine would stumble over.
+//! Reports faults on which firmware or the machine would fail.
 use crate::arguments::Words;
 use crate::ends::{End, MALFORMED, Output, UNREADABLE};
 use crate::entry::{File, Shown};
@@ -14,18 +14,18 @@ use uefi_device_path::{LoadOption, ShortForm};
 /// The most bytes that a variable may have in firmware that keeps EDK II's default.
 const COMMON_LIMIT: usize = 1024;
 
-/// Where Linux has a link for each partition, named by its GUID.
+/// The folder in which Linux has a link for each partition, named by its GUID.
 const DISKS: &str = "/dev/disk/by-partuuid";
 
-/// What is reported, so far.
+/// The report so far.
 #[derive(Drop)]
 struct Check<'a> {
     rt: &'a HostRuntime,
     out: Output<'a>,
     variables: &'a Variables<'a>,
-    /// Where the EFI system partition is mounted, if it is known.
+    /// The mount point of the EFI system partition, if it is known.
     esp: Option<&'a str>,
-    /// The links of partitions, if they are those of the machine.
+    /// The links of partitions, if they belong to the machine.
     disks: Option<&'a str>,
     /// The entry of each device path with its optional data.
     seen: BTreeMap<Vec<u8>, u16>,
@@ -33,13 +33,13 @@ struct Check<'a> {
     is_read: bool,
 }
 
-/// Whether a unit is a control character.
+/// Returns whether a unit is a control character.
 fn is_control(unit: u16) -> bool {
     unit < 0x20 || (0x7f <= unit && unit < 0xa0)
 }
 
 impl<'a> Check<'a> {
-    /// Reports what is wrong with a variable at an offset.
+    /// Reports a fault of a variable at an offset.
     fn report(&mut self, variable: Variable, offset: usize, sentence: &str) -> Result<(), End> {
         self.is_well = false;
         writeln!(self.out.text, "{variable}: offset {offset}: {sentence}")?;
@@ -53,7 +53,7 @@ impl<'a> Check<'a> {
         self.out.flush()
     }
 
-    /// Checks the variables that are no entries.
+    /// Checks the variables that are not entries.
     fn check_head(&mut self, head: &Head) -> Result<(), End> {
         for it in &head.silent {
             if it.is_malformed {
@@ -76,7 +76,7 @@ impl<'a> Check<'a> {
         Ok(())
     }
 
-    /// Checks an order: that each number has a variable, and stands once.
+    /// Checks that each number of an order has a variable, and occurs once.
     fn check_order(
         &mut self,
         order: Variable,
@@ -150,7 +150,7 @@ impl<'a> Check<'a> {
         Ok(())
     }
 
-    /// Checks that the machine has the partition that an entry's first device path begins with.
+    /// Checks that the machine has the partition at the start of an entry's first device path.
     fn check_disk(&mut self, variable: Variable, option: &LoadOption<'_>) -> Result<(), End> {
         let Some(disks) = self.disks else {
             return Ok(());

@@ -30,7 +30,7 @@ pub(crate) fn string(rt: &HostRuntime, option: &str, text: &str) -> Result<CStri
     }
 }
 
-/// A number in decimal, or in hexadecimal after `0x`.
+/// Reads a number in decimal, or in hexadecimal after `0x`.
 fn read_u64(text: &str) -> Option<u64> {
     match text.strip_prefix("0x") {
         Some(digits) => u64::from_str_radix(digits, 16).ok(),
@@ -38,7 +38,7 @@ fn read_u64(text: &str) -> Option<u64> {
     }
 }
 
-/// The number of an option, or 0 if it is not given.
+/// Returns the number of an option, or 0 if the option is not given.
 fn number(rt: &HostRuntime, words: &Words<'_>, option: &str) -> Result<u64, End> {
     let Some(text) = words.value(option) else {
         return Ok(0);
@@ -49,7 +49,7 @@ fn number(rt: &HostRuntime, words: &Words<'_>, option: &str) -> Result<u64, End>
     }
 }
 
-/// The path of a file on a partition.
+/// Returns the path of a file on a partition.
 fn path_on_disk(rt: &HostRuntime, words: &Words<'_>, guid: &str) -> Result<DevicePathBuf, End> {
     let Some(signature) = Guid::try_parse(guid) else {
         return Err(refuse_value(rt, "--disk", guid, "a GUID"));
@@ -95,7 +95,7 @@ fn path_on_disk(rt: &HostRuntime, words: &Words<'_>, guid: &str) -> Result<Devic
     }
 }
 
-/// The device path of the new entry.
+/// Returns the device path of the new entry.
 fn path_of(rt: &HostRuntime, words: &Words<'_>) -> Result<DevicePathBuf, End> {
     match (words.value("--path"), words.value("--disk")) {
         (Some(text), None) => match DevicePathBuf::from_lenient_text(rt.alloc(), text) {
@@ -111,7 +111,7 @@ fn path_of(rt: &HostRuntime, words: &Words<'_>) -> Result<DevicePathBuf, End> {
     }
 }
 
-/// The bytes that pairs of hexadecimal digits are.
+/// Reads bytes from pairs of hexadecimal digits.
 fn read_bytes(alloc: Global, text: &str) -> Result<Option<Vec<u8>>, End> {
     let digits = text.as_bytes();
     let mut bytes = Vec::new(alloc);
@@ -134,7 +134,7 @@ fn read_bytes(alloc: Global, text: &str) -> Result<Option<Vec<u8>>, End> {
     Ok(Some(bytes))
 }
 
-/// The optional data of the new entry.
+/// Returns the optional data of the new entry.
 fn data_of(rt: &HostRuntime, words: &Words<'_>) -> Result<Vec<u8>, End> {
     let alloc = rt.alloc();
     let mut data = Vec::new(alloc);

@@ -1,4 +1,4 @@
-//! How the program ends, and where its output goes.
+//! The ends of the program, and the destination of its output.
 use std::alloc::{AllocError, AllocFailed};
 use std::fmt;
 use std::io::{self, Write};
@@ -10,7 +10,7 @@ pub(crate) enum End {
     OutOfMemory,
     /// Standard output can't be written, or standard input can't be read.
     NoStream,
-    /// Standard error has the reason, and this is the status.
+    /// Standard error has the reason; the number is the status.
     Refused(u8),
 }
 
@@ -35,7 +35,7 @@ impl<T: Drop> From<AllocFailed<T>> for End {
     }
 }
 
-/// A text in memory is refused for memory alone.
+/// Writing a text in memory fails only if memory runs out.
 impl From<fmt::Error> for End {
     fn from(_error: fmt::Error) -> End {
         End::OutOfMemory

@@ -1,4 +1,4 @@
-//! What an entry says.
+//! The contents of an entry.
 use crate::growing_texts::text_of;
 use crate::optional_data::{OptionalData, hexadecimal};
 use crate::variables::{Content, MOST_BYTES};
@@ -19,7 +19,7 @@ use uefi_text::{CStr16, FromSliceWithNulError, UnalignedSlice};
 pub(crate) struct File {
     pub(crate) path: String,
 
-    /// Where the path begins in the entry, or what is wrong with it.
+    /// The offset of the path in the entry, or of its fault.
     pub(crate) offset: usize,
 
     /// Why the path is refused, if it is.
@@ -29,14 +29,15 @@ pub(crate) struct File {
     file: Option<String>,
 }
 
-/// What is malformed in an entry, and at which offset.
+/// A fault of an entry, and its offset.
 #[derive(Drop, Serialize)]
 pub(crate) struct Fault {
     pub(crate) offset: usize,
     pub(crate) reason: String,
 }
 
-/// What is well in an entry, and what is malformed after that, or why its variable can't be read.
+/// The well-formed parts of an entry, and the fault after them, or the reason why its variable
+/// can't be read.
 #[derive(Drop, Serialize)]
 pub(crate) struct Shown {
     active: Option<bool>,
@@ -98,8 +99,8 @@ pub(crate) fn write_shown<W: Write>(out: &mut W, character: char) -> fmt::Result
     })
 }
 
-/// Whether a text holds a character that texts of device paths escape. Few hold more than printable
-/// ASCII, which holds none.
+/// Returns whether a text contains a character that texts of device paths escape. Few texts contain
+/// more than printable ASCII, which has no such character.
 fn has_escaped(text: &str) -> bool {
     let is_ascii = text.bytes().all(|byte| 0x20 <= byte && byte < 0x7f);
     !is_ascii && text.chars().any(is_escaped)
@@ -117,7 +118,7 @@ fn shown_text(alloc: Global, text: Char16Slice<'_>) -> Result<String, fmt::Error
     Ok(shown)
 }
 
-/// A description, whose surrogate pairs are characters, and a lone surrogate is U+FFFD.
+/// Returns a description in which surrogate pairs are characters and a lone surrogate is U+FFFD.
 fn shown_description(
     alloc: Global,
     description: UnalignedSlice<'_, u16>,
@@ -135,7 +136,7 @@ fn shown_description(
     Ok(shown)
 }
 
-/// The last component of a path, if it has one.
+/// Returns the last component of a path, if it has one.
 fn shown_file_name(alloc: Global, path: Path<'_>) -> Result<Option<String>, fmt::Error> {
     match path.file_name() {
         Some(name) => Ok(Some(shown_text(alloc, name)?)),
@@ -145,7 +146,7 @@ fn shown_file_name(alloc: Global, path: Path<'_>) -> Result<Option<String>, fmt:
 
 const SEPARATOR: u16 = 0x5c;
 
-/// The first place of a unit, or else the end.
+/// Returns the index of the first occurrence of a unit, or otherwise the end.
 fn place_of_unit(units: &[u16], wanted: u16) -> usize {
     units
         .iter()
@@ -153,7 +154,7 @@ fn place_of_unit(units: &[u16], wanted: u16) -> usize {
         .unwrap_or(units.len())
 }
 
-/// The place after a separator that another one follows, or else the end.
+/// Returns the index after the first separator that another one follows, or otherwise the end.
 fn place_of_empty_component(units: &[u16]) -> usize {
     for place in 1..units.len() {
         if units[place] == SEPARATOR && units[place - 1] == SEPARATOR {
@@ -163,7 +164,8 @@ fn place_of_empty_component(units: &[u16]) -> usize {
     units.len()
 }
 
-/// Where the component `..` begins that climbs above the start of a path, or else the end.
+/// Returns the index of the component `..` that climbs above the start of a path, or otherwise the
+/// end.
 fn place_of_climb(units: &[u16]) -> usize {
     let (mut start, mut depth) = (0usize, 0usize);
     for component in units.split(|unit| *unit == SEPARATOR) {
@@ -182,7 +184,7 @@ fn place_of_climb(units: &[u16]) -> usize {
     units.len()
 }
 
-/// At which unit of a path it is refused.
+/// Returns the index of the unit at which a path is refused.
 fn place_of(units: &[u16], error: PathError) -> usize {
     match error {
         PathError::Empty => 0,
@@ -192,7 +194,7 @@ fn place_of(units: &[u16], error: PathError) -> usize {
     }
 }
 
-/// A path with its verdict, whose first unit is at an offset.
+/// Returns a path with its verdict. Its first unit is at an offset.
 fn shown_file(alloc: Global, offset: usize, string: CStr16<'_>) -> Result<File, fmt::Error> {
     let path = Path::new(string);
     let shown = shown_text(alloc, string.as_slice())?;
@@ -214,7 +216,7 @@ fn shown_file(alloc: Global, offset: usize, string: CStr16<'_>) -> Result<File, 
 }
 
 impl Shown {
-    /// Of nothing.
+    /// Returns an empty value.
     fn new(alloc: Global) -> Shown {
         Shown {
             active: None,
@@ -246,22 +248,22 @@ impl Shown {
         Ok(shown)
     }
 
-    /// Whether the variable can be read.
+    /// Returns whether the variable can be read.
     pub(crate) fn is_read(&self) -> bool {
         self.unreadable.is_none()
     }
 
-    /// Whether nothing is malformed.
+    /// Returns whether nothing is malformed.
     pub(crate) fn is_well(&self) -> bool {
         self.malformed.is_none()
     }
 
-    /// Notes what is malformed.
+    /// Records a fault.
     fn fail(&mut self, offset: usize, reason: String) {
         self.malformed = Some(Fault { offset, reason });
     }
 
-    /// Notes the attributes.
+    /// Records the attributes.
     fn set_attributes(&mut self, attributes: u32) {
         self.active = Some(attributes % 2 == 1);
         self.attributes = Some(attributes);
@@ -282,7 +284,8 @@ impl Shown {
         Ok(())
     }
 
-    /// Adds the file that a node names, whose data begin at an offset. False where it names none.
+    /// Adds the file that a node names, whose data begins at an offset. Returns `false` if it names
+    /// none.
     fn add_file(
         &mut self,
         alloc: Global,
@@ -315,8 +318,8 @@ impl Shown {
         Ok(false)
     }
 
-    /// Adds what a node names, whose data begin at an offset, where it names a file. False where it
-    /// should name one, and does not.
+    /// Adds the file that a node names, if it should name one, whose data begins at an offset.
+    /// Returns `false` if the node should name a file and does not.
     fn add_node(
         &mut self,
         alloc: Global,
@@ -337,8 +340,8 @@ impl Shown {
         }
     }
 
-    /// Adds the files that nodes name, of which the first begins at an offset, and returns the offset
-    /// after them; `None` after a node that should name a file and does not.
+    /// Adds the files that nodes name, the first of which begins at an offset, and returns the
+    /// offset after them; `None` after a node that should name a file and does not.
     fn add_nodes(
         &mut self,
         alloc: Global,
@@ -355,7 +358,7 @@ impl Shown {
         Ok(Some(offset))
     }
 
-    /// The same of device paths, with the nodes that end them.
+    /// Does what [`Shown::add_nodes`] does for device paths, including their end nodes.
     fn add_paths(
         &mut self,
         alloc: Global,
@@ -372,7 +375,7 @@ impl Shown {
         Ok(Some(offset))
     }
 
-    /// Adds what is well in bytes that are not a load option, and then what is malformed.
+    /// Adds the well-formed parts of bytes that are not a load option, and then the fault.
     fn add_parts(&mut self, alloc: Global, parts: LoadOptionParts<'_>) -> fmt::Result {
         if let Some(attributes) = parts.attributes() {
             self.set_attributes(attributes);
@@ -393,7 +396,7 @@ impl Shown {
         Ok(())
     }
 
-    /// Adds what an option says.
+    /// Adds the contents of an option.
     fn add_option(&mut self, alloc: Global, option: LoadOption<'_>) -> fmt::Result {
         let description = option.description_units();
         self.set_attributes(option.attributes());
@@ -408,7 +411,8 @@ impl Shown {
         Ok(())
     }
 
-    /// What an entry says, up to the most bytes that a variable has; or an error if memory ran out.
+    /// Returns the contents of an entry, up to the greatest size of a variable; or an error if
+    /// memory ran out.
     pub(crate) fn of_entry(alloc: Global, bytes: &[u8]) -> Result<Shown, fmt::Error> {
         if MOST_BYTES < bytes.len() {
             let reason = "the entry is longer than a variable";
@@ -456,7 +460,7 @@ impl Shown {
     }
 }
 
-/// Writes the attributes that an entry has, but for the first, which says that it is active (UEFI
+/// Writes the attributes of an entry, except for the first, which says that it is active (UEFI
 /// Specification 2.10, section 3.1.3).
 fn write_attributes<W: Write>(out: &mut W, attributes: u32) -> fmt::Result {
     if attributes < 2 {
@@ -487,7 +491,7 @@ fn write_attributes<W: Write>(out: &mut W, attributes: u32) -> fmt::Result {
 }
 
 impl File {
-    /// Writes a path with its verdict, and its last component where it is accepted.
+    /// Writes a path with its verdict, and its last component if the path is accepted.
     fn write<W: Write>(&self, out: &mut W) -> fmt::Result {
         write!(out, "  path: {}", self.path)?;
         match &self.refused {
@@ -501,7 +505,7 @@ impl File {
     }
 }
 
-/// Where the file path list begins after a description with its NUL.
+/// Returns the offset of the file path list after a description with its NUL.
 fn list_start(description: UnalignedSlice<'_, u16>) -> usize {
     description.len().saturating_mul(2).saturating_add(6)
 }

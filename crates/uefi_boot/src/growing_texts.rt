@@ -1,5 +1,5 @@
-//! Builds the library's texts in memory without a formatter, which would be called for each part of each
-//! node.
+//! Builds the library's texts in memory without a formatter, which would be called for each part of
+//! each node.
 ghost use Rattle.std.specs.Prelude.{⊤};
 
 use std::alloc::{AllocError, Global};

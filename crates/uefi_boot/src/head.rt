@@ -15,13 +15,13 @@ pub(crate) const TOO_SHORT: &str = "the file ends within the variable's attribut
 pub(crate) struct Silent {
     pub(crate) variable: Variable,
     pub(crate) reason: String,
-    /// Where it is malformed, or 0 if it can't be read.
+    /// The offset of the fault, or 0 if the variable can't be read.
     pub(crate) offset: usize,
     pub(crate) is_malformed: bool,
 }
 
-/// What the variables say that are no entries. A field is `None` if the variable is not set,
-/// malformed or can't be read.
+/// The values of the variables that are not entries. A field is `None` if the variable is not set,
+/// is malformed, or can't be read.
 #[derive(Drop)]
 pub(crate) struct Head {
     pub(crate) boot_order: Option<Vec<u16>>,
@@ -46,7 +46,7 @@ pub(crate) fn name_of(
     format!(in alloc; "{name}")
 }
 
-/// The names of entries.
+/// Returns the names of entries.
 fn names_of(
     alloc: Global,
     kind: LoadOptionKind,
@@ -70,7 +70,7 @@ fn name_of_boot(alloc: Global, number: Option<u16>) -> Result<Option<String>, Al
 }
 
 impl Head {
-    /// Notes that a variable says nothing.
+    /// Records that a variable has no usable value.
     fn fail(
         &mut self,
         variable: Variable,
@@ -89,7 +89,7 @@ impl Head {
         )
     }
 
-    /// The value of a variable, if it is set and can be read.
+    /// Returns the value of a variable, if it is set and can be read.
     fn value<'b>(
         &mut self,
         alloc: Global,
@@ -115,7 +115,7 @@ impl Head {
         Ok(None)
     }
 
-    /// The number that a variable is.
+    /// Returns the number in a variable.
     fn number(
         &mut self,
         alloc: Global,
@@ -140,7 +140,7 @@ impl Head {
         }
     }
 
-    /// The bits that a variable is.
+    /// Returns the bits in a variable.
     fn bits(
         &mut self,
         alloc: Global,
@@ -159,7 +159,7 @@ impl Head {
         Ok(Some(u64::from_le_bytes([*a, *b, *c, *d, *e, *f, *g, *h])))
     }
 
-    /// The numbers that an order has.
+    /// Returns the numbers of an order.
     fn order(
         &mut self,
         alloc: Global,
@@ -190,7 +190,7 @@ impl Head {
         }
     }
 
-    /// What the variables say.
+    /// Reads the variables.
     pub(crate) fn of(
         alloc: Global,
         variables: &Variables<'_>,
@@ -219,8 +219,8 @@ impl Head {
         Ok(head)
     }
 
-    /// Writes the line of a variable that says nothing, if it is malformed or can't be read. Returns
-    /// whether it is.
+    /// Writes the line of a variable without a usable value, if it is malformed or can't be read.
+    /// Returns whether it is.
     fn write_fault<W: Write>(&self, out: &mut W, variable: Variable) -> Result<bool, fmt::Error> {
         for silent in &self.silent {
             if silent.variable == variable {
@@ -236,7 +236,7 @@ impl Head {
         Ok(false)
     }
 
-    /// Writes why a variable says nothing: it is malformed, can't be read, or is not set.
+    /// Writes why a variable has no usable value: it is malformed, can't be read, or is not set.
     fn write_without<W: Write>(&self, out: &mut W, variable: Variable) -> fmt::Result {
         if !self.write_fault(out, variable)? {
             writeln!(out, "{variable}: not set")?;
@@ -322,12 +322,12 @@ impl Head {
         self.write_bits(out, supported, self.os_indications_supported)
     }
 
-    /// Whether each variable can be read.
+    /// Returns whether every variable can be read.
     pub(crate) fn is_read(&self) -> bool {
         self.silent.iter().all(|it| it.is_malformed)
     }
 
-    /// Whether nothing is malformed.
+    /// Returns whether nothing is malformed.
     pub(crate) fn is_well(&self) -> bool {
         self.silent.iter().all(|it| !it.is_malformed)
     }
@@ -359,8 +359,8 @@ pub(crate) fn write_timeout<W: Write>(out: &mut W, seconds: u16) -> fmt::Result 
     }
 }
 
-/// The name of a bit of `OsIndications` and `OsIndicationsSupported` (UEFI Specification 2.10,
-/// section 8.5.4).
+/// Returns the name of a bit of `OsIndications` and `OsIndicationsSupported` (UEFI Specification
+/// 2.10, section 8.5.4).
 fn indication(place: u32) -> &'static str {
     match place {
         0 => "boot to firmware UI",
@@ -374,7 +374,7 @@ fn indication(place: u32) -> &'static str {
     }
 }
 
-/// Writes the names of bits, and a line's end.
+/// Writes the names of bits, and an end of line.
 fn write_indications<W: Write>(out: &mut W, bits: u64) -> fmt::Result {
     if bits == 0 {
         return writeln!(out, "none");
@@ -405,7 +405,7 @@ struct SilentJson {
     reason: String,
 }
 
-/// What the variables say, in JSON.
+/// The values of the variables, in JSON.
 #[derive(Drop, Serialize)]
 pub(crate) struct HeadJson {
     boot_order: Option<Vec<String>>,

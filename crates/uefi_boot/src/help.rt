@@ -1,4 +1,4 @@
-//! How the program and its verbs are used.
+//! The usage texts of the program and its verbs.
 
 pub(crate) const PROGRAM: &str =
     "usage: uefi_boot            prints the boot variables of this machine, or the entry on standard input

@@ -1,4 +1,4 @@
-//! Prints what a machine's boot variables say, each entry as soon as it is read.
+//! Prints a machine's boot variables, each entry as soon as it is read.
 use crate::ends::{End, MALFORMED, Output, UNREADABLE};
 use crate::entry::{Exact, Shown, push, write_shown};
 use crate::head::{Head, HeadJson, TOO_SHORT, name_of};
@@ -28,14 +28,14 @@ struct Named {
     exact: Exact,
 }
 
-/// What follows the entries, in JSON.
+/// The JSON after the entries.
 #[derive(Drop, Serialize)]
 struct Tail {
     not_set: Vec<String>,
     passed_over: Vec<PassedOverJson>,
 }
 
-/// What is printed of all variables, so far.
+/// The listing of all variables, so far.
 #[derive(Drop)]
 struct Listing<'a> {
     alloc: Global,
@@ -49,7 +49,7 @@ struct Listing<'a> {
     is_well: bool,
 }
 
-/// What a file says of an entry.
+/// Returns the contents of an entry from a file.
 pub(crate) fn shown_entry(alloc: Global, content: &Content<'_>) -> Result<Shown, fmt::Error> {
     match content {
         Content::Bytes(bytes) => Shown::of_entry(alloc, bytes),
@@ -58,7 +58,7 @@ pub(crate) fn shown_entry(alloc: Global, content: &Content<'_>) -> Result<Shown,
     }
 }
 
-/// The order of a kind.
+/// Returns the order of a kind.
 fn order_of(kind: LoadOptionKind) -> Variable {
     match kind {
         LoadOptionKind::Driver => Variable::DriverOrder,
@@ -105,8 +105,8 @@ impl<'a> Listing<'a> {
         self.out.flush()
     }
 
-    /// Prints the entries of a kind: first those of the order, in order and once each, and then the
-    /// others by number.
+    /// Prints the entries of a kind: first the entries of the order, in order and once each, and
+    /// then the others by number.
     fn print_kind(
         &mut self,
         kind: LoadOptionKind,
@@ -148,7 +148,7 @@ impl<'a> Listing<'a> {
         self.print_kind(LoadOptionKind::PlatformRecovery, &None, buffer)
     }
 
-    /// Prints what precedes the entries.
+    /// Prints the lines before the entries.
     fn print_head(&mut self, head: &Head) -> Result<(), End> {
         self.is_read = head.is_read();
         self.is_well = head.is_well();
@@ -162,7 +162,7 @@ impl<'a> Listing<'a> {
         self.out.flush()
     }
 
-    /// Prints what follows the entries.
+    /// Prints the lines after the entries.
     fn print_tail(&mut self) -> Result<(), End> {
         if self.form == Form::Json {
             let json = to_json(self.alloc, &self.tail()?)?;

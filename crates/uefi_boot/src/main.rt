@@ -1,26 +1,33 @@
-//! Prints, checks and changes what a machine boots: one boot entry from standard input, or all that
-//! a folder or files of variables hold.
+//! Prints, checks and changes the variables that say what a machine boots: one boot entry from
+//! standard input, or all variables in a folder or in files.
 //!
-//! Without an argument, it prints the variables of the machine if standard input is a terminal.
-//! Otherwise, and for the argument `-`, it reads a variable `Boot####` from standard input: a load
-//! option (UEFI Specification 2.10, section 3.1.3), with or without the four bytes of the
-//! variable's attributes that Linux puts before it. It prints its attributes, its description, each
-//! file that it names, judged, and its optional data, as text if they are text.
+//! Without an argument, the program prints the variables of the machine if standard input is a
+//! terminal. Otherwise, and for the argument `-`, it reads a variable `Boot####` from standard
+//! input: a load option (UEFI Specification 2.10, section 3.1.3), with or without the four bytes of
+//! the variable's attributes that Linux puts before it. It prints its attributes, its description,
+//! each file that it names, with a verdict, and its optional data, as text if it is text.
 //!
 //! The arguments are files of variables, or folders of them: Linux's `efivars`, whose files are
-//! named by the variable and its GUID, or files that are named by the variable alone. It prints the
-//! orders, `BootCurrent`, `BootNext` and the other settings, and then each entry: those of the
-//! order first, in its order, and then the others by number. A file of a folder is opened only if
-//! its name is that of one of these variables, and an entry is printed as soon as its place is
-//! known. A variable that can't be read is printed with the cause.
+//! named by the variable and its GUID, or files that are named by the variable alone. The program
+//! prints the orders, `BootCurrent`, `BootNext` and the other settings, and then each entry: first
+//! the entries of the order, in its order, and then the others by number. It opens a file of a
+//! folder only if its name is the name of one of these variables, and prints an entry as soon as
+//! its position is known. For a variable that can't be read it prints the cause.
 //!
-//! With `--json` it prints the same as JSON. A first word that is a verb checks or changes variables.
+//! With `--json` it prints the same as JSON. If the first word is a verb, it checks or changes
+//! variables.
 //!
-//! Ends with 0 if all is well; with 1 if a variable is malformed, which is printed with the reason
-//! and the offset in the entry, or if a change is refused; with 2 if a read of standard input or a
-//! write of standard output failed; with 3, and `out of memory` on standard error, if memory ran
-//! out; with 4 if a variable or a folder can't be read; with 5, and a message on standard error, if
-//! the arguments are wrong; with 6 if a variable can't be written.
+//! The exit status is
+//!
+//! | status | if |
+//! |---|---|
+//! | 0 | all is well |
+//! | 1 | a variable is malformed (it is printed with reason and offset), or a change is refused |
+//! | 2 | a read of standard input or a write of standard output failed |
+//! | 3 | memory ran out; standard error has `out of memory` |
+//! | 4 | a variable or a folder can't be read |
+//! | 5 | the arguments are wrong; standard error has a message |
+//! | 6 | a variable can't be written |
 #![tactic(auto)]
 
 ghost use Rattle.std.specs.Prelude.{◌≤◌, IfOk, length};
@@ -53,7 +60,7 @@ const VERSION: &str = "uefi_boot 0.7.0\n";
 
 const OPTIONS: [&str; 4] = ["--json", "--help", "-h", "--version"];
 
-/// The bytes that a reader gives until its end, or until the buffer is full.
+/// Reads bytes from a reader until its end, or until the buffer is full.
 fn fill<R: Read>(reader: &mut R, buffer: &mut [u8]) -> io::Result<usize>
     ensures { IfOk result (λ count. count ≤ length buffer.new) }
 {
@@ -68,14 +75,15 @@ fn fill<R: Read>(reader: &mut R, buffer: &mut [u8]) -> io::Result<usize>
     Ok(filled)
 }
 
-/// How what is read is printed.
+/// The form of the output.
 #[derive(Clone, Copy, PartialEq, Eq)]
 pub(crate) enum Form {
     Lines,
     Json,
 }
 
-/// A value as JSON, on one line. No value here is one that JSON lacks, so it fails for memory alone.
+/// Returns a value as JSON, on one line. Every value here has a JSON form, so it fails only if
+/// memory runs out.
 pub(crate) fn to_json<T: Serialize>(alloc: Global, value: &T) -> Result<String, fmt::Error> {
     match serde_json::to_string(alloc, value) {
         Ok(text) => Ok(text),
@@ -100,7 +108,7 @@ fn print_text(rt: &HostRuntime, text: &str) -> Result<u8, End> {
     Ok(0)
 }
 
-/// Prints the entry that standard input is.
+/// Prints the entry on standard input.
 fn print_entry(rt: &HostRuntime, form: Form) -> Result<u8, End> {
     let alloc = rt.alloc();
     let mut buffer = [0; MOST_READ];
@@ -124,8 +132,8 @@ fn print_entry(rt: &HostRuntime, form: Form) -> Result<u8, End> {
     Ok(status)
 }
 
-/// Prints what there is without an argument: standard input, unless that is a terminal, or else the
-/// variables of the machine.
+/// Prints the default without an argument: standard input, or the variables of the machine if
+/// standard input is a terminal.
 fn print_own(rt: &HostRuntime, form: Form) -> Result<u8, End> {
     if !rt.stdin().is_terminal() {
         return print_entry(rt, form);
@@ -154,7 +162,7 @@ fn print_files(rt: &HostRuntime, names: &[String], form: Form) -> Result<u8, End
     listing::print(rt, &find_all(rt, names)?, form)
 }
 
-/// Does what the words say that are no verb's.
+/// Runs a command line whose first word is not a verb.
 fn show(rt: &HostRuntime, words: Vec<String>) -> Result<u8, End> {
     let mut names = Vec::new(rt.alloc());
     let mut form = Form::Lines;

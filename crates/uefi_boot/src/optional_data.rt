@@ -1,4 +1,4 @@
-//! Optional data of an entry, as text if they are text.
+//! Optional data of an entry, as text if it is text.
 use serde::Serialize;
 use std::alloc::Global;
 use std::fmt::{self, Write};
@@ -22,12 +22,12 @@ pub(crate) fn hexadecimal(alloc: Global, bytes: &[u8]) -> Result<String, fmt::Er
     Ok(text)
 }
 
-/// Bytes without one NUL at their end.
+/// Returns bytes without one NUL at their end.
 fn without_nul(bytes: &[u8]) -> &[u8] {
     bytes.strip_suffix(&[0]).unwrap_or(bytes)
 }
 
-/// The text of bytes that are printable ASCII, and maybe a NUL at their end.
+/// Returns the text of bytes that are printable ASCII, with or without a NUL at their end.
 fn ascii_text(alloc: Global, bytes: &[u8]) -> Result<Option<String>, fmt::Error> {
     let bytes = without_nul(bytes);
     if bytes.is_empty() || !bytes.iter().all(|byte| matches!(byte, 0x20..=0x7e)) {
@@ -40,8 +40,9 @@ fn ascii_text(alloc: Global, bytes: &[u8]) -> Result<Option<String>, fmt::Error>
     Ok(Some(text))
 }
 
-/// The text of units, and maybe a NUL at their end, if each is a character that can be shown, and half
-/// of them or more are printable ASCII. Bytes of another kind are seldom such units.
+/// Returns the text of units, with or without a NUL at their end, if each is a character that can
+/// be shown and at least half of them are printable ASCII. Other data seldom consists of such
+/// units.
 fn utf16_text(alloc: Global, units: UnalignedSlice<'_, u16>) -> Result<Option<String>, fmt::Error> {
     let mut text = String::new(alloc);
     let (mut ascii, mut others) = (0usize, 0usize);
@@ -70,7 +71,7 @@ fn utf16_text(alloc: Global, units: UnalignedSlice<'_, u16>) -> Result<Option<St
 }
 
 impl OptionalData {
-    /// What the optional data of an option say, if it has any.
+    /// Returns the contents of an option's optional data, if it has any.
     pub(crate) fn of(
         alloc: Global,
         option: &LoadOption<'_>,

@@ -1,4 +1,4 @@
-//! The variables of a machine: their names, and where their files are.
+//! The variables of a machine: their names, and the locations of their files.
 ghost use Rattle.std.specs.Prelude.{◌≤◌, IfOk, length};
 
 use crate::ends::{End, UNREADABLE, WRONG_ARGUMENTS, refuse};
@@ -8,9 +8,8 @@ use std::fmt::{self, Write};
 use std::{fs, io};
 use uefi_boot_variables::{LoadOptionKind, LoadOptionName};
 
-/// What Linux's `efivars` puts after the name of a variable that the UEFI Specification defines: its
-/// GUID
-/// (section 3.3).
+/// The suffix that Linux's `efivars` puts after the name of a variable that the UEFI Specification
+/// defines: its GUID (section 3.3).
 const GLOBAL: &str = "-8be4df61-93ca-11d2-aa0d-00e098032b8c";
 
 /// More than firmware keeps of one variable, without its attributes.
@@ -26,7 +25,7 @@ pub(crate) fn without_attributes(bytes: &[u8]) -> &[u8] {
     bytes.strip_prefix(&VARIABLE_ATTRIBUTES).unwrap_or(bytes)
 }
 
-/// Where Linux has the variables of the machine.
+/// The folder in which Linux has the variables of the machine.
 pub(crate) const OWN: &str = "/sys/firmware/efi/efivars";
 
 /// One byte more than the longest variable has, with its attributes.
@@ -50,7 +49,7 @@ pub(crate) enum Variable {
 }
 
 impl Variable {
-    /// The variable of a name, if it is one that the program reads.
+    /// Returns the variable with a name, if the program reads it.
     fn of_name(name: &str) -> Option<Variable> {
         match name {
             "BootOrder" => Some(Variable::BootOrder),
@@ -90,7 +89,7 @@ impl Variable {
         Some(LoadOptionName { kind, number })
     }
 
-    /// The name of a variable that is no load option.
+    /// Returns the name of a variable that is not a load option.
     fn word(self) -> &'static str {
         match self {
             Variable::BootOrder => "BootOrder",
@@ -114,7 +113,8 @@ impl fmt::Display for Variable {
     }
 }
 
-/// What a file holds of a variable, without its attributes, or why the file can't be read.
+/// The value of a variable in a file, without its attributes, or the reason why the file can't be
+/// read.
 #[derive(Drop)]
 pub(crate) enum Content<'b> {
     Bytes(&'b [u8]),
@@ -153,7 +153,7 @@ pub(crate) struct Variables<'a> {
 const NO_VARIABLE: &str = "no file is named as a boot variable, such as Boot0000 or BootOrder
 for one entry, write: uefi_boot < FILE";
 
-/// The part of a path after its last slash.
+/// Returns the part of a path after its last slash.
 fn file_name(path: &str) -> &str {
     match path.rsplit_once('/') {
         Some((_, name)) => name,
@@ -161,7 +161,7 @@ fn file_name(path: &str) -> &str {
     }
 }
 
-/// Whether a name would be that of an entry if its digits were upper-case.
+/// Returns whether a name would be the name of an entry if its digits were upper-case.
 fn has_lowercase_digits(name: &str) -> bool {
     match name.strip_prefix("Boot") {
         Some(digits) => digits.len() == 4 && digits.bytes().all(|byte| byte.is_ascii_hexdigit()),
@@ -177,19 +177,19 @@ pub(crate) fn unreadable(rt: &HostRuntime, path: &str, error: &io::Error) -> End
     refuse(rt, UNREADABLE, format_args!("cannot read {path}: {error}"))
 }
 
-/// Reads a file into a buffer, and returns how many bytes it has, or that the buffer is full.
+/// Reads a file into a buffer, and returns its number of bytes, or reports that the buffer is full.
 fn read_file(rt: &HostRuntime, path: &str, buffer: &mut [u8]) -> io::Result<usize>
     ensures { IfOk result (λ count. count ≤ length buffer.new) }
 {
-    // A pipe would have to be waited for.
+    // The program would wait for a pipe.
     if !fs::metadata(rt, path)?.is_file() {
         return Err(io::Error::from(io::ErrorKind::InvalidInput));
     }
     fill(&mut fs::open(rt, path)?, buffer)
 }
 
-/// How many bytes of a file are the variable's attributes: four, or none if the file is a dump of
-/// the value alone. `None` if the file is too short.
+/// Returns the number of bytes of the variable's attributes in a file: four, or none if the file is
+/// a dump of only the value. `None` if the file is too short.
 pub(crate) fn attributes_len(variable: Variable, has_guid: bool, bytes: &[u8]) -> Option<usize> {
     if has_guid {
         return if bytes.len() < VARIABLE_ATTRIBUTES.len() {
@@ -205,14 +205,14 @@ pub(crate) fn attributes_len(variable: Variable, has_guid: bool, bytes: &[u8]) -
 }
 
 impl<'a> Variables<'a> {
-    /// Notes a file that is not printed.
+    /// Records a file that is not printed.
     fn pass_over(&mut self, file: &str, reason: &'static str) -> Result<(), AllocError> {
         let file = String::from_str(self.rt.alloc(), file)?;
         self.passed_over.push(PassedOver { file, reason })?;
         Ok(())
     }
 
-    /// Adds a file, if its name is that of a boot variable, and says whether it is.
+    /// Adds a file if its name is the name of a boot variable, and returns whether it is.
     fn add(&mut self, path: &str, argument: usize, is_in_folder: bool) -> Result<bool, AllocError> {
         let file = file_name(path);
         let (name, has_guid) = match file.strip_suffix(GLOBAL) {
@@ -252,8 +252,8 @@ impl<'a> Variables<'a> {
         Ok(())
     }
 
-    /// Sorts the variables, and keeps each once: the file that has a GUID in its name, if there is
-    /// one, or else the first that was found.
+    /// Sorts the variables, and keeps each once: the file with a GUID in its name, if there is one,
+    /// or otherwise the first that was found.
     fn keep_each_once(&mut self) -> Result<(), AllocError> {
         self.sources.sort_by_key(|it| (it.variable, !it.has_guid))?;
         let mut kept: Vec<Source> = Vec::with_capacity(self.rt.alloc(), self.sources.len())?;
@@ -354,7 +354,7 @@ pub(crate) fn file_in(
     format!(in alloc; "{folder}{slash}{variable}{guid}")
 }
 
-/// Finds the variables of files, or of the folders among them.
+/// Finds the variables in files and folders.
 pub(crate) fn find_all<'a>(
     rt: &'a HostRuntime,
     arguments: &'a [String],

@@ -1,4 +1,4 @@
-//! Changes boot variables: reads what a verb needs, and has its plan carried out.
+//! Changes boot variables: reads the values that a verb needs, and carries out its plan.
 use crate::arguments::{Verb, Words};
 use crate::changes::Machine;
 use crate::ends::{End, MALFORMED, Output, UNREADABLE, WRONG_ARGUMENTS, refuse};
@@ -9,7 +9,7 @@ use std::fmt::Write;
 use uefi_boot_plans::{PlanError, Step};
 use uefi_boot_variables::{LoadOrder, read_number};
 
-/// The number that a word names: up to four hexadecimal digits, alone or after `Boot`.
+/// Returns the number that a word names: up to four hexadecimal digits, alone or after `Boot`.
 fn number_of(word: &str) -> Option<u16> {
     let digits = word.strip_prefix("Boot").unwrap_or(word);
     if digits.is_empty() || 4 < digits.len() || !digits.bytes().all(|it| it.is_ascii_hexdigit()) {
@@ -18,7 +18,7 @@ fn number_of(word: &str) -> Option<u16> {
     u16::from_str_radix(digits, 16).ok()
 }
 
-/// The number of an entry that a word names.
+/// Returns the number of an entry that a word names.
 fn number(rt: &HostRuntime, word: &str) -> Result<u16, End> {
     match number_of(word) {
         Some(number) => Ok(number),
@@ -30,12 +30,12 @@ fn number(rt: &HostRuntime, word: &str) -> Result<u16, End> {
 }
 
 impl<'a> Machine<'a> {
-    /// The word at a place after the verb; `Words::check` has counted them.
+    /// Returns the word at an index after the verb; `Words::check` has counted them.
     fn word<'w>(&self, words: &Words<'w>, place: usize) -> &'w str {
         words.plain(place).unwrap_or("")
     }
 
-    /// The number of an entry whose variable exists.
+    /// Returns the number of an entry whose variable exists.
     fn existing(&self, word: &str) -> Result<u16, End> {
         let number = number(self.rt, word)?;
         let variable = Variable::Boot(number);
@@ -46,7 +46,7 @@ impl<'a> Machine<'a> {
         Ok(number)
     }
 
-    /// The value of a variable, if it is set.
+    /// Returns the value of a variable, if it is set.
     fn value(&self, variable: Variable) -> Result<Option<Vec<u8>>, End> {
         let Some(source) = self.variables.find(variable) else {
             return Ok(None);
@@ -67,7 +67,7 @@ impl<'a> Machine<'a> {
         Err(refuse(self.rt, MALFORMED, message))
     }
 
-    /// The value of `BootOrder`, or of an order without numbers if it is not set.
+    /// Returns the value of `BootOrder`, or of an order without numbers if it is not set.
     fn order(&self) -> Result<Vec<u8>, End> {
         match self.value(Variable::BootOrder)? {
             Some(bytes) => Ok(bytes),
@@ -75,7 +75,7 @@ impl<'a> Machine<'a> {
         }
     }
 
-    /// The value of an entry that exists.
+    /// Returns the value of an entry that exists.
     fn entry(&self, number: u16) -> Result<Vec<u8>, End> {
         match self.value(Variable::Boot(number))? {
             Some(bytes) => Ok(bytes),
@@ -83,7 +83,7 @@ impl<'a> Machine<'a> {
         }
     }
 
-    /// Carries a plan out, or says why there is none.
+    /// Carries out a plan, or reports why there is none.
     fn carry(&self, variable: Variable, plan: Result<Vec<Step>, PlanError>) -> Result<u8, End> {
         let message = match plan {
             Ok(plan) => return self.carry_out(&plan),
@@ -145,7 +145,7 @@ impl<'a> Machine<'a> {
         self.carry(Variable::Boot(number), plan)
     }
 
-    /// The least number without an entry.
+    /// Returns the least number without an entry.
     fn free_number(&self) -> Result<u16, End> {
         let mut used = Vec::with_capacity(self.rt.alloc(), self.variables.sources.len())?;
         for source in &self.variables.sources {

@@ -13,14 +13,14 @@ use std::alloc::{AllocError, Global};
 use uefi_device_path::{LoadOption, LoadOptionError, set_attributes};
 use uefi_text::CStr16;
 
-/// Attributes with the first bit, `LOAD_OPTION_ACTIVE`, set or not.
+/// Returns attributes with the first bit, `LOAD_OPTION_ACTIVE`, set or cleared.
 fn with_activity(attributes: u32, active: bool) -> u32
     ensures { result ≡ activity active attributes }
 {
     attributes - attributes % 2 + u32::from(active)
 }
 
-/// The attributes of the load option that bytes are.
+/// Returns the attributes of a load option from its bytes.
 fn attributes_of(bytes: &[u8]) -> Result<u32, LoadOptionError>
     ensures ok { IfOk result (λ attributes. (option : Entry) → IsEntry option →
         bytes.now ≡ entry_bytes option → attributes ≡ option.attributes) }
@@ -34,10 +34,10 @@ fn attributes_of(bytes: &[u8]) -> Result<u32, LoadOptionError>
     }
 }
 
-/// Returns the plan that makes an entry active or not.
+/// Returns the plan that makes an entry active or inactive.
 ///
-/// Returns `MalformedEntry` if its bytes are not a load option, and then `OutOfMemory` if memory runs
-/// out.
+/// Fails with `MalformedEntry` if its bytes are not a load option, and otherwise with `OutOfMemory`
+/// if memory runs out.
 pub fn set_active(
     alloc: Global,
     number: u16,
@@ -60,7 +60,7 @@ pub fn set_active(
     Ok(Step::write(Variable::Entry(number), bytes).alone(alloc)?)
 }
 
-/// The bytes of a load option with another description.
+/// Returns the bytes of a load option with another description.
 fn described(
     alloc: Global,
     option: &LoadOption<'_>,

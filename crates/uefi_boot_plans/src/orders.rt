@@ -12,7 +12,7 @@ use uefi_boot_variables::order_edits;
 use uefi_text::UnalignedSlice;
 use uefi_text::scan::split;
 
-/// The bytes of numbers, two for each and the low byte first.
+/// Returns the bytes of numbers, two for each, the low byte first.
 fn bytes_of(alloc: Global, numbers: &[u16]) -> Result<Vec<u8>, AllocError>
     ensures { IfOk result (λ bytes. bytes.items ≡ unit_bytes numbers.now) }
 {
@@ -21,7 +21,7 @@ fn bytes_of(alloc: Global, numbers: &[u16]) -> Result<Vec<u8>, AllocError>
     Ok(bytes)
 }
 
-/// The numbers that the bytes of an order are.
+/// Returns the numbers of an order from its bytes.
 fn numbers_of(alloc: Global, order: &[u8]) -> Result<Vec<u16>, PlanError>
     ensures ok { IfOk result (λ numbers. numbers.items ≡ units_of_bytes order.now) }
     ensures odd { (result ≡ Err PlanError.MalformedOrder) ↔ (length order.now % 2 ≡ 1) }
@@ -48,7 +48,7 @@ pub fn free_number(used: &[u16]) -> Option<u16>
     None
 }
 
-/// The bytes of an order with a number in front, which stands nowhere else.
+/// Returns the bytes of an order with a number at the front, and nowhere else.
 fn with_first(alloc: Global, order: &[u8], number: u16) -> Result<Vec<u8>, PlanError>
     ensures ok { IfOk result (λ bytes. bytes.items
         ≡ unit_bytes (with_at 0 number (units_of_bytes order.now))) }
@@ -63,7 +63,8 @@ fn with_first(alloc: Global, order: &[u8], number: u16) -> Result<Vec<u8>, PlanE
     Ok(bytes_of(alloc, &numbers.as_slice()[..len])?)
 }
 
-/// Puts a number in front of an order that has room for it, and returns how many numbers there are then.
+/// Puts a number at the front of an order that has room for it, and returns the new length of the
+/// order.
 fn put_first(places: &mut [u16], len: usize, number: u16) -> usize
     requires { len < length places.old }
     ensures len { result ≡ length (with_at 0 number (take len places.old)) }
@@ -72,7 +73,8 @@ fn put_first(places: &mut [u16], len: usize, number: u16) -> usize
     order_edits::insert(places, len, 0, number).unwrap()
 }
 
-/// The plan that takes a number out of the order, if it stands there, and is else empty.
+/// Returns the plan that removes a number from the order, which is empty if the order does not
+/// contain it.
 fn delete_from_order(alloc: Global, order: &[u8], number: u16) -> Result<Vec<Step>, PlanError>
     ensures ok { let numbers = units_of_bytes order.now in IfOk result (λ plan. changes_of plan.items
         ≡ (if stands_in number numbers then ordered (without number numbers) ∷ [] else [])) }
@@ -89,7 +91,8 @@ fn delete_from_order(alloc: Global, order: &[u8], number: u16) -> Result<Vec<Ste
     Ok(order_step(alloc, &numbers.as_slice()[..kept])?.alone(alloc)?)
 }
 
-/// The step that makes numbers the order: firmware deletes a variable that is written without bytes.
+/// Returns the step that makes numbers the order. Firmware deletes a variable that is written
+/// without bytes.
 fn order_step(alloc: Global, numbers: &[u16]) -> Result<Step, AllocError>
     ensures { IfOk result (λ step. change_of step ≡ ordered numbers.now) }
 {
@@ -99,11 +102,11 @@ fn order_step(alloc: Global, numbers: &[u16]) -> Result<Step, AllocError>
     Ok(Step::write(Variable::Order, bytes_of(alloc, numbers)?))
 }
 
-/// Returns the plan that adds an entry, in front of the others: first the entry is written, and
+/// Returns the plan that adds an entry at the front of the order: it writes the entry first, and
 /// then the order that names it.
 ///
-/// Returns `MalformedOrder` if the order has an odd number of bytes, and then `OutOfMemory` if memory
-/// runs out.
+/// Fails with `MalformedOrder` if the order has an odd number of bytes, and otherwise with
+/// `OutOfMemory` if memory runs out.
 pub fn create(
     alloc: Global,
     order: &[u8],
@@ -123,7 +126,7 @@ pub fn create(
     Ok(plan)
 }
 
-/// Returns the plan that moves an entry to the front of the order, or puts it there.
+/// Returns the plan that moves an entry to the front of the order, or inserts it there.
 ///
 /// Fails as [`create`] does.
 pub fn first(alloc: Global, order: &[u8], number: u16) -> Result<Vec<Step>, PlanError>
@@ -137,9 +140,9 @@ pub fn first(alloc: Global, order: &[u8], number: u16) -> Result<Vec<Step>, Plan
     Ok(Step::write(Variable::Order, order).alone(alloc)?)
 }
 
-/// Returns the plan that deletes an entry: first the order without it is written, or deleted if no
-/// number is left, if the entry stands in the order; then `BootNext` is deleted, if it names the
-/// entry; then the entry is deleted.
+/// Returns the plan that deletes an entry. If the order contains the entry, the plan first writes
+/// the order without it, or deletes the order if no number is left. Then it deletes `BootNext`, if
+/// that names the entry. Then it deletes the entry.
 ///
 /// Fails as [`create`] does.
 pub fn delete(
@@ -171,7 +174,7 @@ pub fn order(alloc: Global, numbers: &[u16]) -> Result<Vec<Step>, AllocError>
     order_step(alloc, numbers)?.alone(alloc)
 }
 
-/// Returns the plan that makes an entry the one that the machine boots once.
+/// Returns the plan that makes the machine boot an entry once, at its next start.
 pub fn next(alloc: Global, number: u16) -> Result<Vec<Step>, AllocError>
     ensures { IfOk result (λ plan. changes_of plan.items
         ≡ written Variable.Next (unit_bytes (number ∷ [])) ∷ []) }
@@ -179,7 +182,7 @@ pub fn next(alloc: Global, number: u16) -> Result<Vec<Step>, AllocError>
     Step::write(Variable::Next, bytes_of(alloc, &[number])?).alone(alloc)
 }
 
-/// Returns the plan that makes the machine boot by its order.
+/// Returns the plan that makes the machine boot by its order again.
 pub fn clear_next(alloc: Global) -> Result<Vec<Step>, AllocError>
     ensures { IfOk result (λ plan. changes_of plan.items ≡ deleted Variable.Next ∷ []) }
 {

@@ -32,7 +32,7 @@ pub struct Step {
     pub value: Option<Vec<u8>>,
 }
 
-/// Why there is no plan.
+/// The reason why there is no plan.
 #[derive(Clone, Copy, Debug, PartialEq, Eq)]
 pub enum PlanError {
     /// The value of `BootOrder` has an odd number of bytes.
@@ -76,7 +76,7 @@ impl<T: Drop> From<AllocFailed<T>> for PlanError {
 impl Step {
     ghost use Rattle.uefi_boot_plans.specs.Plans.{change_of, deleted, written};
 
-    /// Writes a variable with a value.
+    /// Returns the step that writes a variable with a value.
     pub fn write(variable: Variable, value: Vec<u8>) -> Step
         ensures { change_of result ≡ written variable value.items }
     {
@@ -86,7 +86,7 @@ impl Step {
         }
     }
 
-    /// Deletes a variable.
+    /// Returns the step that deletes a variable.
     pub fn delete(variable: Variable) -> Step
         ensures { change_of result ≡ deleted variable }
     {
@@ -96,7 +96,7 @@ impl Step {
         }
     }
 
-    /// Returns the plan of one step.
+    /// Returns the plan that consists of this step.
     pub fn alone(self, alloc: Global) -> Result<Vec<Step>, AllocError>
         ensures { IfOk result (λ plan. plan.items ≡ self ∷ []) }
     {

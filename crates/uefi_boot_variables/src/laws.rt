@@ -1,24 +1,24 @@
-//! The laws by which users of names and orders reason. Each law is a function that does nothing: its
-//! contract is the law.
+//! The laws of names and orders, for proofs of callers. Each law is a function that does nothing:
+//! its contract is the law.
 ghost use Rattle.uefi_boot_variables.specs.Laws.{EachOnce, EachStands, NamesAreTexts, NamesOnce, NoTwiceIsApart, OnceStays, OthersKeepOrder, OthersStay, PutWhereAsked, StandsIsContains, TakenOutIsGone};
 
-/// No two names have one text, and each name can be stored as a string: so what
-/// [`LoadOptionName::write_cstr16`](crate::LoadOptionName::write_cstr16) writes is read back as that name,
-/// and as no other.
+/// No two names have the same text, and each name can be stored as a string, so that
+/// [`LoadOptionName::write_cstr16`](crate::LoadOptionName::write_cstr16) writes a string that is
+/// read back as that name, and as no other.
 pub fn names_once()
     ensures once { NamesOnce }
     ensures texts { NamesAreTexts }
 {}
 
-/// What the tests say by which contracts of edits speak: that a number stands in a list, and that
-/// no number of a list occurs twice.
+/// The meaning of the tests in contracts of edits: that a list contains a number, and that no
+/// number of a list occurs twice.
 pub fn order_tests()
     ensures stands { StandsIsContains }
     ensures apart { NoTwiceIsApart }
 {}
 
-/// An edit of an order changes the place of one number: it is gone where it was taken out, it stands where
-/// it was put, and the others stay, in their order.
+/// An edit of an order changes the place of one number: a removed number is gone, an inserted
+/// number is where it was put, and the others stay, in their order.
 pub fn order_edits()
     ensures gone { TakenOutIsGone }
     ensures others { OthersStay }
@@ -26,8 +26,8 @@ pub fn order_edits()
     ensures place { PutWhereAsked }
 {}
 
-/// An order in which each number stands once has the same numbers, none twice, and is the order itself
-/// where none stood twice.
+/// An order with each number once has the same numbers, none twice, and is the order itself if no
+/// number occurred twice.
 pub fn once_each()
     ensures stands { EachStands }
     ensures once { EachOnce }

@@ -1,8 +1,9 @@
-//! The variables that say what a machine boots: their names, and the orders in which options are tried.
+//! The variables that say what a machine boots: their names, and the orders in which options are
+//! tried.
 //!
-//! A load option is a variable whose name is a word and four digits, as `Boot001F`, and an order is a
-//! variable that lists the numbers of such names (UEFI Specification 2.10, sections 3.1 and 3.3). A
-//! [`LoadOptionName`] is such a name, read from text and written as text.
+//! A load option is a variable whose name is a word and four digits, for example `Boot001F`, and an
+//! order is a variable that lists the numbers of these names (UEFI Specification 2.10, sections 3.1
+//! and 3.3). A [`LoadOptionName`] is the name of a load option, read from text and written as text.
 #![tactic(auto)]
 
 pub mod laws;

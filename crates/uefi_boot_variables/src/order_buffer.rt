@@ -1,8 +1,8 @@
 //! Orders that are edited in the caller's memory.
 //!
-//! The memory is a slice of numbers, as firmware keeps an order once it has read it: `SetVariable` takes
-//! the address of these numbers, and twice their count as the size. Where bytes are wanted instead,
-//! [`OrderBuffer::write_bytes`] writes them.
+//! The memory is a slice of numbers, as firmware keeps an order once it has read it: `SetVariable`
+//! takes the address of these numbers, and twice their count as the size. If you need bytes
+//! instead, [`OrderBuffer::write_bytes`] writes them.
 #![tactic(auto, unfolding(crate::specs::Views::memory_of, crate::specs::Views::numbers_in, crate::specs::Views::numbers_of, crate::specs::Views::order_places))]
 
 ghost use Rattle.std.specs.Prelude.{◌≡◌, ◌==◌, ◌+◌, ◌*◌, ◌<◌, ◌≤◌, ◌↔◌, ◌∷◌, ◌++◌, [], drop, insert, length, remove, take, true, false, IfOk, IsErr, IsTrue, OnErr, OnOk};
@@ -14,10 +14,10 @@ use crate::orders::LoadOrder;
 
 /// An order in the caller's memory, in which no number occurs twice. No call allocates memory.
 ///
-/// A contract sees the list of its numbers (`numbers_in`), and what all places of the caller's memory hold
-/// (`order_places`): the numbers come first, and no call changes the places after them. Once the order is no
-/// longer used, the caller's slice holds the places of its last call, because each call keeps the slice
-/// that the order was made from (`memory_of`).
+/// A contract sees the list of its numbers (`numbers_in`), and the contents of all places of the
+/// caller's memory (`order_places`): the numbers come first, and no call changes the places after
+/// them. Once the order is no longer used, the caller's slice has the contents that the last call
+/// left, because each call keeps the slice from which the order was made (`memory_of`).
 ///
 /// ```rust
 /// let mut places = [0; 4];
@@ -38,7 +38,8 @@ pub struct OrderBuffer<'a> {
 impl<'a> OrderBuffer<'a> {
     ghost use Rattle.uefi_boot_variables.specs.Views.{memory_of, numbers_in, numbers_of, order_places, room_of};
 
-    /// Creates an order without numbers. It has room for as many as there are places, and changes none.
+    /// Creates an order without numbers, in a slice. Its room is the number of places. Changes no
+    /// place.
     pub fn new(places: &'a mut [u16]) -> Self
         ensures numbers { numbers_in result ≡ [] }
         ensures room { room_of result ≡ length places.old }
@@ -48,11 +49,11 @@ impl<'a> OrderBuffer<'a> {
         OrderBuffer { places, len: 0 }
     }
 
-    /// Takes the numbers of an order in place of its own, each where it stands first.
+    /// Replaces the numbers with the numbers of another order, each at its first occurrence.
     ///
-    /// Returns `OrderFull` if there is no room for them; the order is then unchanged. Compares each
-    /// number with those before it, and does so twice if the other order has more numbers than this one
-    /// has room for.
+    /// Fails with `OrderFull` if there is no room for them; the order is then unchanged. Compares
+    /// each number with those before it, and does so twice if the other order has more numbers than
+    /// this one has room for.
     ///
     /// ```rust
     /// let order = LoadOrder::from_bytes(&[3, 0, 1, 0, 3, 0])?;
@@ -84,7 +85,7 @@ impl<'a> OrderBuffer<'a> {
         &self.places[..self.len]
     }
 
-    /// Returns how many numbers there are.
+    /// Returns the length of the order.
     pub fn len(&self) -> usize
         ensures { result ≡ length (numbers_in self.now) }
     {
@@ -98,14 +99,14 @@ impl<'a> OrderBuffer<'a> {
         self.len == 0
     }
 
-    /// Returns whether a number stands in the order.
+    /// Returns whether the order contains a number.
     pub fn contains(&self, number: u16) -> bool
         ensures { result ≡ stands_in number (numbers_in self.now) }
     {
         self.as_slice().contains(&number)
     }
 
-    /// Puts a number that does not stand in the order at a place.
+    /// Inserts a number that the order does not contain at a place.
     fn put(&mut self, place: usize, number: u16)
         requires place { place ≤ length (numbers_in self.old) }
         requires room { length (numbers_in self.old) < room_of self.old }
@@ -119,8 +120,8 @@ impl<'a> OrderBuffer<'a> {
         self.len += 1;
     }
 
-    /// Puts a number at the end, unless it stands in the order already. Refused exactly if it does
-    /// not, and there is no room; the order is then unchanged.
+    /// Adds a number at the end, unless the order contains it. Fails exactly if the order does not
+    /// contain it and there is no room; the order is then unchanged.
     ///
     /// ```rust
     /// let mut places = [0; 1];
@@ -148,7 +149,7 @@ impl<'a> OrderBuffer<'a> {
         Ok(())
     }
 
-    /// Takes a number out, and says whether it stood in the order. The others keep their order.
+    /// Removes a number, and returns whether the order contained it. The others keep their order.
     ///
     /// ```rust
     /// let mut places = [0; 4];
@@ -170,9 +171,9 @@ impl<'a> OrderBuffer<'a> {
         stood
     }
 
-    /// Puts a number at a place among the others, which keep their order: where it stands in the
-    /// order already, it moves. A place beyond the end is the end. Refused exactly if the number
-    /// does not stand in the order, and there is no room; the order is then unchanged.
+    /// Inserts a number at a place among the others, which keep their order, or moves it there if
+    /// the order contains it. A place beyond the end means the end. Fails exactly if the order does
+    /// not contain the number and there is no room; the order is then unchanged.
     ///
     /// ```rust
     /// let mut places = [0; 3];
@@ -196,8 +197,8 @@ impl<'a> OrderBuffer<'a> {
         Ok(())
     }
 
-    /// Moves a number to the front, and says whether it stood in the order; where it did not, nothing
-    /// changes. The others keep their order.
+    /// Moves a number to the front, and returns whether the order contained it. If it did not,
+    /// nothing changes. The others keep their order.
     ///
     /// ```rust
     /// let mut places = [0; 3];
@@ -219,9 +220,9 @@ impl<'a> OrderBuffer<'a> {
         stood
     }
 
-    /// Writes the bytes of the variable, two for each number and the low byte first, at the start
-    /// of a buffer, and returns their count. Refused exactly if the buffer has fewer places; it is
-    /// then unchanged. What follows the bytes is unchanged.
+    /// Writes the bytes of the variable, two for each number, the low byte first, to the start of a
+    /// buffer, and returns their number. Fails exactly if the buffer has fewer places; it is then
+    /// unchanged. The rest of the buffer is unchanged.
     ///
     /// ```rust
     /// let mut places = [0; 4];
@@ -246,7 +247,7 @@ impl<'a> OrderBuffer<'a> {
     }
 }
 
-/// Writes numbers, two bytes for each and the low byte first.
+/// Writes numbers, two bytes for each, the low byte first.
 fn put_bytes(numbers: &[u16], dest: &mut [u8])
     requires { length dest.old ≡ 2 * length numbers.now }
     ensures { dest.new ≡ unit_bytes numbers.now }

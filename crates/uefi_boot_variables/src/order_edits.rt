@@ -1,8 +1,8 @@
-//! Edits of an order that lies in the first places of a slice.
+//! Edits of an order in the first places of a slice.
 //!
-//! `len` says how many numbers the order has; if there are fewer places, it has as many as these. A
-//! number may stand twice in such an order, and no edit leaves the number that it is about there
-//! twice. The places after the order are unchanged. No call allocates.
+//! `len` is the length of the order; if there are fewer places, it is the number of places. A
+//! number may occur twice in such an order, but an edit leaves at most one occurrence of the number
+//! that it edits. The places after the order are unchanged. No call allocates.
 #![tactic(auto)]
 
 ghost use Rattle.std.specs.Prelude.{◌≡◌, ◌+◌, ◌-◌, ◌<◌, ◌≤◌, ◌↔◌, false, insert, length, take, IfOk, IsErr, OnErr, OnOk, Some};
@@ -15,7 +15,7 @@ use std::error::Error;
 use std::fmt;
 use uefi_text::text_sink::{Printed, TextSink, print};
 
-/// Why an order takes no further number, or is not written: there is no room for it.
+/// The reason why an order takes no further number, or is not written: there is no room for it.
 #[derive(Clone, Copy, Debug, PartialEq, Eq)]
 pub struct OrderFull;
 
@@ -39,7 +39,7 @@ impl fmt::Display for OrderFull {
 
 impl Error for OrderFull {}
 
-/// Returns whether a number stands in an order.
+/// Returns whether an order contains a number.
 ///
 /// ```rust
 /// assert!(rt; order_edits::contains(&[3, 0, 9], 2, 0));
@@ -51,7 +51,7 @@ pub fn contains(places: &[u16], len: usize, number: u16) -> bool
     places[..len.min(places.len())].contains(&number)
 }
 
-/// Takes a number out of an order, wherever it stands, and returns how many numbers are left. The
+/// Removes all occurrences of a number from an order, and returns how many numbers are left. The
 /// others keep their order.
 ///
 /// ```rust
@@ -73,7 +73,8 @@ pub fn remove(places: &mut [u16], len: usize, number: u16) -> usize
     kept
 }
 
-/// Puts a number at a place, before those that stood from there on, of which the last goes.
+/// Inserts a number at a place, and moves the numbers from there on back by one; the last one is
+/// dropped.
 fn put_in(numbers: &mut [u16], place: usize, number: u16)
     requires { place < length numbers.old }
     ensures { numbers.new ≡ insert (take (length numbers.old - 1) numbers.old) place number }
@@ -87,7 +88,7 @@ fn put_in(numbers: &mut [u16], place: usize, number: u16)
     }
 }
 
-/// Puts a number at a place of an order, before those that stood from there on.
+/// Inserts a number at a place of an order, and moves the numbers from there on back by one.
 pub(crate) fn put(places: &mut [u16], len: usize, place: usize, number: u16)
     requires room { len < length places.old }
     requires within { place ≤ len }
@@ -96,10 +97,10 @@ pub(crate) fn put(places: &mut [u16], len: usize, place: usize, number: u16)
     put_in(&mut places[..len + 1], place, number);
 }
 
-/// Puts a number at a place among the others, which keep their order, and returns how many numbers
-/// there are then: where it stands in the order already, it moves. A place beyond the end is the
-/// end. Refused exactly if the number does not stand in the order, and there is no room; the places
-/// are then unchanged.
+/// Inserts a number at a place among the others, which keep their order, or moves it there if the
+/// order contains it. Returns the new length of the order. A place beyond the end means the end.
+/// Fails exactly if the order does not contain the number and there is no room; the places are then
+/// unchanged.
 ///
 /// ```rust
 /// let mut places = [3, 0, 1, 9];
@@ -124,7 +125,8 @@ pub fn insert(places: &mut [u16], len: usize, place: usize, number: u16) -> Resu
     Ok(kept + 1)
 }
 
-/// Puts the numbers of an order, each where it stands first, into places that have room for them.
+/// Writes the numbers of an order, each at its first occurrence, into places that have room for
+/// them.
 fn fill(places: &mut [u16], order: &LoadOrder<'_>) -> usize
     requires { length (once_each (numbers_of order.now)) ≤ length places.old }
     ensures len { result ≡ length (once_each (numbers_of order.now)) }
@@ -141,11 +143,11 @@ fn fill(places: &mut [u16], order: &LoadOrder<'_>) -> usize
     len
 }
 
-/// Puts the numbers of an order, each where it stands first, into the first places, and returns how many
-/// there are. Returns `OrderFull` if there are fewer places; they are then unchanged.
+/// Writes the numbers of an order, each at its first occurrence, into the first places, and returns
+/// their number. Fails with `OrderFull` if there are fewer places; they are then unchanged.
 ///
-/// Compares each number with those before it, and does so twice if the order has more numbers than there
-/// are places.
+/// Compares each number with those before it, and does so twice if the order has more numbers than
+/// there are places.
 ///
 /// ```rust
 /// let order = LoadOrder::from_bytes(&[3, 0, 1, 0, 3, 0])?;
@@ -166,8 +168,8 @@ pub fn copy(places: &mut [u16], order: &LoadOrder<'_>) -> Result<usize, OrderFul
     Ok(fill(places, order))
 }
 
-/// Moves a number of an order to the front, and returns how many numbers there are then; where it
-/// does not stand in the order, nothing changes. The others keep their order.
+/// Moves a number of an order to the front, and returns the length of the order. If the order does
+/// not contain the number, nothing changes. The others keep their order.
 ///
 /// ```rust
 /// let mut places = [3, 0, 1, 9];

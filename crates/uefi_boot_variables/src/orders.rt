@@ -1,5 +1,5 @@
-//! Orders and single numbers, as variables hold them: `BootOrder`, `DriverOrder`, `SysPrepOrder`,
-//! `BootNext` and `BootCurrent` (UEFI Specification 2.10, section 3.3).
+//! Orders and single numbers as the values of variables: `BootOrder`, `DriverOrder`,
+//! `SysPrepOrder`, `BootNext` and `BootCurrent` (UEFI Specification 2.10, section 3.3).
 #![tactic(auto, unfolding(crate::specs::Views::numbers_of))]
 
 ghost use Rattle.std.specs.Prelude.{◌≡◌, ◌==◌, ◌%◌, ◌<◌, ◌≤◌, ◌^◌, ◌↔◌, ◌∷◌, [], Contains, length, position, slice_get, slice_index, take, IfErr, IfOk, IsErr, IsTrue, Some};
@@ -17,7 +17,7 @@ use uefi_text::number_texts::put_decimal;
 use uefi_text::text_sink::{Printed, TextSink, print};
 use uefi_text::unaligned_slice::UnalignedSliceIter;
 
-/// Why bytes are no order: they are odd in number.
+/// The reason why bytes are not an order: their number is odd.
 #[derive(Clone, Copy, Debug, PartialEq, Eq)]
 pub struct OddLength;
 
@@ -41,11 +41,11 @@ impl fmt::Display for OddLength {
 
 impl Error for OddLength {}
 
-/// Why bytes are no number: they are not two. It has their count.
+/// The reason why bytes are not a number: they are not two bytes. Has the number of bytes.
 #[derive(Clone, Copy, Debug, PartialEq, Eq)]
 pub struct NotTwoBytes(pub usize);
 
-/// Puts the reason, with the count of bytes in decimal.
+/// Puts the reason, with the number of bytes in decimal.
 impl Printed for NotTwoBytes {
     ghost printed = { not_two_bytes_text };
 
@@ -65,8 +65,8 @@ impl fmt::Display for NotTwoBytes {
 
 impl Error for NotTwoBytes {}
 
-/// Reads the number in the two bytes of `BootNext` or `BootCurrent`, the low byte first. Refused
-/// exactly if there are fewer or more than two. Does not allocate.
+/// Reads the number in the two bytes of `BootNext` or `BootCurrent`, the low byte first. Fails
+/// exactly if there are fewer or more than two bytes. Does not allocate.
 ///
 /// ```rust
 /// assert_eq!(rt; read_number(&[0x1f, 0x02]), Ok(0x21f));
@@ -83,8 +83,8 @@ pub fn read_number(bytes: &[u8]) -> Result<u16, NotTwoBytes>
     }
 }
 
-/// An order: numbers of load options that lie in the bytes of a variable, wherever these begin. A
-/// contract sees it as `numbers_of` it. No call allocates.
+/// An order: numbers of load options in the bytes of a variable, at any address. A contract sees it
+/// as `numbers_of` it. No call allocates.
 ///
 /// ```rust
 /// let order = LoadOrder::from_bytes(&[3, 0, 0, 0, 0x1f, 0])?;
@@ -99,7 +99,7 @@ pub struct LoadOrder<'a> {
 }
 
 impl<'a> LoadOrder<'a> {
-    /// Reads the order in the bytes of a variable, two for each number, the low byte first. Refused
+    /// Reads the order in the bytes of a variable, two for each number, the low byte first. Fails
     /// exactly if the number of bytes is odd.
     ///
     /// ```rust
@@ -117,7 +117,7 @@ impl<'a> LoadOrder<'a> {
         }
     }
 
-    /// Returns how many numbers there are; a number that occurs twice counts twice.
+    /// Returns the length of the order; a number that occurs twice counts twice.
     pub fn len(&self) -> usize
         ensures { result ≡ length (numbers_of self.now) }
     {
@@ -131,14 +131,14 @@ impl<'a> LoadOrder<'a> {
         self.numbers.is_empty()
     }
 
-    /// Returns the number at a place, or `None` from the length on.
+    /// Returns the number at an index, or `None` if the index is not less than the length.
     pub fn get(&self, place: usize) -> Option<u16>
         ensures { result ≡ slice_get (numbers_of self.now) place }
     {
         self.numbers.get(place)
     }
 
-    /// The number at a place if there is one.
+    /// Returns the number at an index, which must exist.
     pub(crate) fn number(&self, place: usize) -> u16
         requires { place < length (numbers_of self.now) }
         ensures { result ≡ slice_index (numbers_of self.now) place }
@@ -146,7 +146,7 @@ impl<'a> LoadOrder<'a> {
         self.numbers.get(place).unwrap()
     }
 
-    /// Returns the numbers in order, and then `None` for ever.
+    /// Returns an iterator that gives the numbers in order, and then always `None`.
     pub fn iter(&self) -> UnalignedSliceIter<'a, u16>
         ensures same { items_left result ≡ numbers_of self.now }
         ensures bound { length (items_left result) < 2 ^ 64 }
@@ -155,7 +155,8 @@ impl<'a> LoadOrder<'a> {
         self.numbers.iter()
     }
 
-    /// Returns the first place of a number, or `None` if it does not stand in the order.
+    /// Returns the index of the first occurrence of a number, or `None` if the order does not
+    /// contain it.
     pub fn position(&self, number: u16) -> Option<usize>
         ensures { result ≡ position (λ other. other == number) (numbers_of self.now) }
     {
@@ -167,7 +168,7 @@ impl<'a> LoadOrder<'a> {
         None
     }
 
-    /// Whether a number stands before a place.
+    /// Returns whether a number occurs before an index.
     fn stands_before(&self, place: usize, number: u16) -> bool
         requires { place ≤ length (numbers_of self.now) }
         ensures { result ≡ stands_in number (take place (numbers_of self.now)) }
@@ -180,7 +181,7 @@ impl<'a> LoadOrder<'a> {
         false
     }
 
-    /// How many different numbers there are. Compares each number with those before it.
+    /// Returns the number of different numbers. Compares each number with those before it.
     pub(crate) fn different_len(&self) -> usize
         ensures { result ≡ length (once_each (numbers_of self.now)) }
     {
@@ -193,7 +194,7 @@ impl<'a> LoadOrder<'a> {
         count
     }
 
-    /// Returns whether a number stands in the order.
+    /// Returns whether the order contains a number.
     pub fn contains(&self, number: u16) -> bool
         ensures { IsTrue result ↔ Contains (numbers_of self.now) number }
     {

@@ -1,4 +1,4 @@
-//! What a boot manager walks: the options of an order whose variables are there.
+//! The options that a boot manager tries: the options of an order whose variables exist.
 #![tactic(auto, unfolding(crate::specs::Views::numbers_of, crate::specs::Views::options_left))]
 
 ghost use Rattle.std.specs.Prelude.{◌≡◌};
@@ -11,7 +11,7 @@ ghost use Rattle.uefi_text.specs.Runs.{GivesEach};
 use crate::orders::LoadOrder;
 use uefi_text::unaligned_slice::UnalignedSliceIter;
 
-/// The bytes of the first of the variables that has a number.
+/// Returns the bytes of the first of the variables that has a number.
 fn bytes_for<'a>(variables: &'a [(u16, &'a [u8])], number: u16) -> Option<&'a [u8]>
     ensures { option_copied result ≡ bytes_for number variables.now }
 {
@@ -23,8 +23,9 @@ fn bytes_for<'a>(variables: &'a [(u16, &'a [u8])], number: u16) -> Option<&'a [u
     None
 }
 
-/// The options of an order whose variables are there, in its order: the number and the bytes of
-/// each. A contract sees it as `options_left` of it: what remains. It does not allocate.
+/// An iterator over the options of an order whose variables exist, in its order: the number and the
+/// bytes of each. A contract sees it as `options_left` of it: the options that remain. It does not
+/// allocate.
 #[derive(Drop)]
 pub struct PresentOptions<'a> {
     order: UnalignedSliceIter<'a, u16>,
@@ -32,9 +33,9 @@ pub struct PresentOptions<'a> {
 }
 
 impl<'a> LoadOrder<'a> {
-    /// Returns the options of the order whose variables exist. For each number of the order, in
-    /// order, it gives the first of the given variables with this number, if there is one. A number
-    /// that occurs twice is given twice. Each step searches the variables.
+    /// Returns an iterator over the options of the order whose variables exist. For each number of
+    /// the order, in order, it gives the first of the given variables with this number, if there is
+    /// one. A number that occurs twice is given twice. Each step searches the variables.
     ///
     /// ```rust
     /// let order = LoadOrder::from_bytes(&[2, 0, 7, 0, 1, 0])?;
@@ -55,7 +56,7 @@ impl<'a> LoadOrder<'a> {
     }
 }
 
-/// Gives the options from the front, and then `None` for ever.
+/// Gives the options from the front, and then always `None`.
 impl<'a> Iterator for PresentOptions<'a> {
     type Item = (u16, &'a [u8]);
 

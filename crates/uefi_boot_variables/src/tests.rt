@@ -7,7 +7,7 @@ use std::process::Abort;
 use std::test::Fail;
 use uefi_text::{BufferTooSmall, CStr16};
 
-/// Names, and what they are, or `None` for texts that are no name.
+/// Names and their parts, or `None` for texts that are not names.
 const NAMES: &[(&str, Option<(LoadOptionKind, u16)>)] = &[
     ("Boot0000", Some((LoadOptionKind::Boot, 0))),
     ("Boot001F", Some((LoadOptionKind::Boot, 0x1f))),
@@ -84,7 +84,7 @@ fn names_are_written(rt: HostRuntime) -> Result<(), Fail> {
     Ok(())
 }
 
-/// Whether an order of these bytes has these numbers.
+/// Returns whether an order of these bytes has these numbers.
 fn has(bytes: &[u8], numbers: &[u16]) -> bool {
     match LoadOrder::from_bytes(bytes) {
         Ok(order) => order.iter().eq(numbers.iter().copied()),
@@ -112,7 +112,7 @@ fn numbers(rt: HostRuntime) {
     assert_eq!(rt; read_number(&[1, 0, 0, 0]), Err(NotTwoBytes(4)));
 }
 
-/// Edits of an order of three numbers in four places, and what it then is.
+/// Edits an order of three numbers in four places, and checks the result of each edit.
 fn edit(rt: &impl Abort, order: &mut OrderBuffer<'_>) {
     assert_eq!(rt; order.as_slice(), [3, 0, 7].as_slice());
     assert!(rt; order.move_to_front(7));

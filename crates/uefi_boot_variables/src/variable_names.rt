@@ -11,7 +11,7 @@ ghost use Rattle.uefi_text.specs.Views.{text_of};
 use std::fmt;
 use uefi_text::{BufferTooSmall, CStr16};
 
-/// What firmware does with a load option.
+/// The way in which firmware uses a load option.
 #[derive(Clone, Copy, Debug, PartialEq, Eq)]
 pub enum LoadOptionKind {
     /// `Boot####`: a system or an application that is started.
@@ -23,7 +23,7 @@ pub enum LoadOptionKind {
     /// `SysPrep####`: an application that prepares the system, and runs before anything is booted.
     SysPrep,
 
-    /// `PlatformRecovery####`: what the platform starts where nothing else boots.
+    /// `PlatformRecovery####`: an option that the platform starts if nothing else boots.
     PlatformRecovery,
 }
 
@@ -31,10 +31,10 @@ pub enum LoadOptionKind {
 /// hexadecimal digits, in upper case. A contract sees its text as `name_text` of it.
 #[derive(Clone, Copy, Debug, PartialEq, Eq)]
 pub struct LoadOptionName {
-    /// The kind, which the name's word stands for.
+    /// The kind, for which the name's word stands.
     pub kind: LoadOptionKind,
 
-    /// The number, by which an order names the option.
+    /// The number by which an order names the option.
     pub number: u16,
 }
 
@@ -63,7 +63,7 @@ impl Unit for u16 {
     }
 }
 
-/// The number of the unit at a place.
+/// Returns the number of the unit at an index.
 fn unit_at<U: Unit>(units: &[U], place: usize) -> u16
     requires { place < length units.now }
     ensures { result ≡ slice_index (map U.number units.now) place }
@@ -71,7 +71,7 @@ fn unit_at<U: Unit>(units: &[U], place: usize) -> u16
     units[place].number()
 }
 
-/// The upper-case hexadecimal digit of a number below 16.
+/// Returns the upper-case hexadecimal digit of a number below 16.
 fn digit(number: u16) -> u8
     requires { number < 16 }
     ensures { result ≡ name_digit number }
@@ -83,7 +83,7 @@ fn digit(number: u16) -> u8
     }
 }
 
-/// The digits of a number.
+/// Returns the digits of a number.
 fn digits(number: u16) -> [u8; 4]
     ensures { result ≡ four_digits number }
 {
@@ -95,7 +95,7 @@ fn digits(number: u16) -> [u8; 4]
     ]
 }
 
-/// The number whose digit a unit is.
+/// Returns the number whose digit a unit is.
 fn read_digit(unit: u16) -> Option<u16>
     ensures below { IfSome result (λ number. number < 16) }
     ensures exact { (number : ℕ) → number < 16 → ((result ≡ Some number) ↔ (unit ≡ name_digit number)) }
@@ -107,7 +107,7 @@ fn read_digit(unit: u16) -> Option<u16>
     }
 }
 
-/// The number whose four digits units are.
+/// Returns the number whose four digits units are.
 fn read_digits<U: Unit>(units: &[U]) -> Option<u16>
     ensures exact { (number : ℕ) → number < 2 ^ 16
         → ((result ≡ Some number) ↔ (map U.number units.now ≡ four_digits number)) }
@@ -122,7 +122,7 @@ fn read_digits<U: Unit>(units: &[U]) -> Option<u16>
     Some(((a * 16 + b) * 16 + c) * 16 + d)
 }
 
-/// Whether units are those of a text of ASCII.
+/// Returns whether units are the units of an ASCII text.
 fn are_these<U: Unit>(units: &[U], text: &str) -> bool
     ensures { IsTrue result ↔ (map U.number units.now ≡ text.now) }
 {
@@ -138,7 +138,7 @@ fn are_these<U: Unit>(units: &[U], text: &str) -> bool
     true
 }
 
-/// The kind whose word units are.
+/// Returns the kind whose word units are.
 fn read_word<U: Unit>(units: &[U]) -> Option<LoadOptionKind>
     ensures exact { (kind : LoadOptionKind)
         → ((result ≡ Some kind) ↔ (map U.number units.now ≡ word_of kind)) }
@@ -158,7 +158,7 @@ fn read_word<U: Unit>(units: &[U]) -> Option<LoadOptionKind>
     None
 }
 
-/// The name whose text units are.
+/// Returns the name whose text units are.
 fn read_name<U: Unit>(units: &[U]) -> Option<LoadOptionName>
     ensures ok { IfSome result (λ name. map U.number units.now ≡ name_text name) }
     ensures exact { (name : LoadOptionName) → name.number < 2 ^ 16
@@ -188,7 +188,7 @@ fn put_name(word: &str, number: u16, places: &mut [u16])
 }
 
 impl LoadOptionKind {
-    /// Returns the word that the names of its options begin with.
+    /// Returns the word at the start of the names of its options.
     ///
     /// ```rust
     /// assert_eq!(rt; LoadOptionKind::Driver.word(), "Driver");
@@ -208,8 +208,8 @@ impl LoadOptionKind {
 
 impl LoadOptionName {
     /// Reads a whole Rust text as a name. Returns `None` exactly if it is not a name, for example
-    /// with lower-case digits, fewer or more than four digits, or a word in another case. Does not
-    /// allocate.
+    /// because it has lower-case digits, fewer or more than four digits, or a word in another case.
+    /// Does not allocate.
     ///
     /// ```rust
     /// let name = LoadOptionName { kind: LoadOptionKind::Boot, number: 0x1f };
@@ -224,8 +224,7 @@ impl LoadOptionName {
         read_name(text.as_bytes())
     }
 
-    /// Returns the name that a string is, as [`LoadOptionName::from_text`] reads one. Does not
-    /// allocate.
+    /// Reads a string as a name, as [`LoadOptionName::from_text`] reads a text. Does not allocate.
     ///
     /// ```rust
     /// let text = CString16::try_from_str(rt.alloc(), "SysPrep000A")?;

@@ -1,4 +1,4 @@
-//! Device paths that are owned, and grow.
+//! Owned device paths, which grow.
 #![tactic(auto)]
 
 ghost use Rattle.std.specs.Prelude.{◌≡◌, ◌+◌, ◌-◌, ◌<◌, ◌≤◌, ◌∷◌, ◌++◌, ◌%◌, ◌/◌, [], List, length, take, IfOk, IfErr, OnOk, OnErr, None, unwrap_or};
@@ -24,7 +24,7 @@ use uefi_device_nodes::{DeviceSubType, DeviceType};
 use uefi_path::Path;
 
 /// A device path in its own memory, which grows. A contract sees it as the list of its nodes,
-/// without the one that ends it.
+/// without the end node.
 #[derive(Drop)]
 pub struct DevicePathBuf<A: Allocator = Global> {
     bytes: Vec<u8, A>,
@@ -42,7 +42,7 @@ impl<A: Allocator> Model for DevicePathBuf<A> {
     ghost invariant = { λ path. IsPath path.bytes.items };
 }
 
-/// This many bytes, which begin with the device path without nodes. One allocation.
+/// Returns this many bytes, beginning with the device path without nodes. Allocates once.
 pub(crate) fn empty_path<A: Allocator>(alloc: A, len: usize) -> Result<Vec<u8, A>, AllocError>
     requires { 4 ≤ len }
     ensures begins { IfOk result (λ bytes. take 4 bytes.items ≡ node_bytes end_entire) }
@@ -81,7 +81,7 @@ fn put_path<A: Allocator>(bytes: &mut Vec<u8, A>, path: &[u8])
     let _ = bytes.extend_from_slice(path);
 }
 
-/// Why a node may not stand before the end of a path, if it may not.
+/// Returns why a node must not be before the end of a path, if it must not.
 pub(crate) fn check_node<N: BuildNode>(node: &N) -> Result<(), BuildError>
     ensures { result_err result ≡ build_refusal (N.node node.now) }
 {
@@ -96,7 +96,7 @@ pub(crate) fn check_node<N: BuildNode>(node: &N) -> Result<(), BuildError>
     Ok(())
 }
 
-/// The header of a node that may stand before the end of a path.
+/// Returns the header of a node that may be before the end of a path.
 pub(crate) fn node_header<N: BuildNode>(node: &N) -> [u8; 4]
     requires { build_refusal (N.node node.now) ≡ None }
     ensures { let built = N.node node.now in result ≡ built.device_type ∷ built.sub_type
@@ -113,7 +113,8 @@ pub(crate) fn node_header<N: BuildNode>(node: &N) -> [u8; 4]
 }
 
 impl<A: Allocator> DevicePathBuf<A> {
-    /// Returns the device path without nodes, or `AllocError`. One allocation.
+    /// Creates the device path without nodes. Allocates once. Returns `AllocError` if memory runs
+    /// out.
     ///
     /// ```rust
     /// let path = DevicePathBuf::new(rt.alloc())?;
@@ -135,10 +136,11 @@ impl<A: Allocator> DevicePathBuf<A> {
         DevicePathBuf { bytes }
     }
 
-    /// Adds a node before the end: a built node, or a node of another path. Fails with `EndNode`
-    /// for a node of type End that does not end an instance, with `NodeTooLong` for more than
-    /// 65,531 bytes of data, and then with `OutOfMemory`; the path is then unchanged. Allocates if
-    /// the path has no room.
+    /// Adds a node before the end: a built node, or a node of another path.
+    ///
+    /// Fails with `EndNode` for a node of type End that does not end an instance, then with
+    /// `NodeTooLong` for more than 65,531 bytes of data, and then with `OutOfMemory` if memory runs
+    /// out. The path is then unchanged. Allocates if the path has no room.
     ///
     /// ```rust
     /// let mut path = DevicePathBuf::new(rt.alloc())?;
@@ -195,7 +197,8 @@ impl<A: Allocator> DevicePathBuf<A> {
         })
     }
 
-    /// Adds a node that names a file: the text of a path and a NUL, as [`DevicePathBuf::push_node`] adds it.
+    /// Adds a node that names a file: the text of a path and a NUL. Fails as
+    /// [`DevicePathBuf::push_node`] does.
     ///
     /// ```rust
     /// let name = CString16::try_from_str(rt.alloc(), r"\efi\a.efi")?;
@@ -216,7 +219,8 @@ impl<A: Allocator> DevicePathBuf<A> {
     }
 
     /// Adds all nodes of another path before the end, as EDK II's `AppendDevicePath` does. Fails
-    /// only with `OutOfMemory`; the path is then unchanged. Allocates where it has no room, once.
+    /// only with `OutOfMemory`; the path is then unchanged. Allocates at most once, if the path has
+    /// no room.
     ///
     /// ```rust
     /// let mut path = DevicePathBuf::from_text(rt.alloc(), "PciRoot(0x0)")?;
@@ -238,7 +242,7 @@ impl<A: Allocator> DevicePathBuf<A> {
         Ok(())
     }
 
-    /// Returns the path, borrowed.
+    /// Borrows the path.
     ///
     /// See [`DevicePathBuf::new`].
     pub fn as_device_path(&self) -> DevicePath<'_>

@@ -1,4 +1,4 @@
-//! Device paths that are built in a caller's buffer, without memory.
+//! Device paths that are built in a caller's buffer, without allocating.
 #![tactic(auto, unfolding(crate::specs::Views::builder_nodes, crate::specs::Views::builder_room))]
 
 ghost use Rattle.std.specs.Prelude.{◌≡◌, ◌<◌, ◌≤◌, ◌∷◌, ◌++◌, [], length, take, nat_lt, if◌then◌else◌, IfOk, OnErr, OnOk, None, Some};
@@ -15,8 +15,9 @@ use uefi_device_nodes::build_node::{BuildNode, RawNode};
 use uefi_device_nodes::{DeviceSubType, DeviceType, built_media as media};
 use uefi_path::Path;
 
-/// A device path that is built in a caller's buffer. A contract sees it as `builder_nodes` of it, the list
-/// of its nodes, without the one that ends it, and `builder_room` of it, the bytes of the buffer.
+/// A device path that is built in a caller's buffer. A contract sees it as `builder_nodes` of it,
+/// the list of its nodes without the end node, and as `builder_room` of it, the number of bytes of
+/// the buffer.
 #[derive(Drop)]
 pub struct DevicePathBuilder<'a> {
     buffer: &'a mut [u8],
@@ -28,7 +29,7 @@ pub struct DevicePathBuilder<'a> {
 impl<'a> DevicePathBuilder<'a> {
     ghost use Rattle.uefi_device_path.specs.Views.{builder_nodes, builder_room, nodes_of};
 
-    /// Returns the device path without nodes, at the start of a buffer. Fails with `BufferTooSmall`
+    /// Creates the device path without nodes at the start of a buffer. Fails with `BufferTooSmall`
     /// if the buffer has fewer than four bytes; the buffer is then unchanged. Does not allocate.
     ///
     /// ```rust
@@ -54,10 +55,12 @@ impl<'a> DevicePathBuilder<'a> {
         })
     }
 
-    /// Adds a node before the end: a built node, or a node of another path. Fails with `EndNode`
-    /// for a node of type End that does not end an instance, with `NodeTooLong` for more than
-    /// 65,531 bytes of data, and then with `BufferTooSmall` and the number of bytes that the path
-    /// needs; the path is then unchanged. Does not allocate.
+    /// Adds a node before the end: a built node, or a node of another path.
+    ///
+    /// Fails with `EndNode` for a node of type End that does not end an instance, then with
+    /// `NodeTooLong` for more than 65,531 bytes of data, and then with `BufferTooSmall` and the
+    /// number of bytes that the path needs, if the buffer has fewer. The path is then unchanged.
+    /// Does not allocate.
     ///
     /// ```rust
     /// let mut buffer = [0; 10];
@@ -112,8 +115,8 @@ impl<'a> DevicePathBuilder<'a> {
         })
     }
 
-    /// Adds a node that names a file: the text of a path and a NUL, as [`DevicePathBuilder::push_node`]
-    /// adds it.
+    /// Adds a node that names a file: the text of a path and a NUL. Fails as
+    /// [`DevicePathBuilder::push_node`] does.
     ///
     /// ```rust
     /// let name = CString16::try_from_str(rt.alloc(), r"\efi\a.efi")?;
@@ -136,9 +139,9 @@ impl<'a> DevicePathBuilder<'a> {
         })
     }
 
-    /// Adds all nodes of another path before the end. Fails with `BufferTooSmall` and the number of
-    /// bytes that the path then needs, if the buffer has fewer; the path is then unchanged.
-    /// Allocates nothing.
+    /// Adds all nodes of another path before the end. If the buffer is too small, fails with
+    /// `BufferTooSmall` and the number of bytes that the path then needs, and leaves the path
+    /// unchanged. Does not allocate.
     ///
     /// ```rust
     /// let card = DevicePathBuf::from_text(rt.alloc(), "SD(0x1)")?;
@@ -164,7 +167,7 @@ impl<'a> DevicePathBuilder<'a> {
         }
     }
 
-    /// Returns the path, borrowed from the builder.
+    /// Borrows the path from the builder.
     ///
     /// See [`DevicePathBuilder::with_buf`].
     pub fn as_device_path(&self) -> DevicePath<'_>
@@ -173,7 +176,7 @@ impl<'a> DevicePathBuilder<'a> {
         DevicePath::of_path(&self.buffer[..self.len])
     }
 
-    /// Returns the path, borrowed from the buffer.
+    /// Turns the builder into the path, borrowed from the buffer.
     ///
     /// See [`DevicePathBuilder::push_node`].
     pub fn finalize(self) -> DevicePath<'a>

@@ -1,4 +1,4 @@
-//! The nodes of a device path, each tested as it comes.
+//! The nodes of a device path, each checked when it is read.
 #![tactic(auto, unfolding(crate::specs::Views::checked_bytes, crate::specs::Views::checked_left, crate::specs::Views::rest_of))]
 
 ghost use Rattle.std.specs.Prelude.{◌≡◌, ◌≢◌, ℕ, ◌<◌, ◌^◌, ◌++◌, ◌∷◌, [], List, map, length, Option, None, Some, IfNone, IfSome, OnSome, Ok, Err, ⊤};
@@ -16,20 +16,20 @@ ghost use Rattle.uefi_text.specs.Runs.{GivesEach};
 use crate::errors::DevicePathError;
 use uefi_device_nodes::node::{DevicePathNode, fault_place};
 
-/// How far the bytes are read.
+/// The progress of reading the bytes.
 #[derive(Clone, Copy)]
 enum Progress {
-    /// Up to a node, or to the end.
+    /// The bytes are read up to a node, or to the end node.
     Reading,
-    /// Up to the end.
+    /// The bytes are read up to the end of the path.
     Ended,
-    /// Up to a fault.
+    /// The bytes are read up to a fault.
     Failed,
 }
 
-/// The nodes of the device path that bytes begin with, each tested as it comes. A contract sees it
-/// as `checked_left` of it, what remains; as `checked_bytes` of it, all of the bytes; and as
-/// `rest_of` it, the bytes after the path once its end was reached.
+/// The nodes of the device path at the start of bytes, each checked when it is read. A contract
+/// sees it as `checked_left` of it, the nodes that remain; as `checked_bytes` of it, all of the
+/// bytes; and as `rest_of` it, the bytes after the path once its end was reached.
 #[derive(Drop)]
 pub struct CheckedNodes<'a> {
     bytes: &'a [u8],
@@ -43,7 +43,8 @@ pub struct CheckedNodes<'a> {
 impl<'a> CheckedNodes<'a> {
     ghost use Rattle.uefi_device_path.specs.Views.{checked_bytes, checked_left, checked_node, rest_of};
 
-    /// Creates an iterator over the nodes of the device path that bytes begin with. Reads none.
+    /// Creates an iterator over the nodes of the device path at the start of bytes. Reads no node
+    /// yet.
     ///
     /// ```rust
     /// let mut nodes = CheckedNodes::new(&[1, 1, 6, 0, 2, 0x1f]);
@@ -70,7 +71,7 @@ impl<'a> CheckedNodes<'a> {
         }
     }
 
-    /// Reads one node more, where one or the end should stand.
+    /// Reads one more node, where a node or the end node should be.
     fn read(&mut self) -> Option<Result<DevicePathNode<'a>, DevicePathError>>
         requires { self.old.progress ≡ Progress.Reading }
         ensures steps { YieldsFirstBy checked_node checked_left self.old result self.new }
@@ -120,10 +121,10 @@ impl<'a> CheckedNodes<'a> {
     }
 }
 
-/// Gives each node before the one that ends the path, in order. At the first malformed node it
-/// gives the error with which [`DevicePath::from_bytes`](crate::DevicePath::from_bytes) refuses the
-/// bytes. After the last node, and after an error, it gives `None` for ever. Reads each header
-/// once, and allocates nothing.
+/// Gives each node before the end node, in order. At the first malformed node it gives the error
+/// with which [`DevicePath::from_bytes`](crate::DevicePath::from_bytes) refuses the bytes. After
+/// the last node, and after an error, it always gives `None`. Reads each header once, and does not
+/// allocate.
 impl<'a> Iterator for CheckedNodes<'a> {
     type Item = Result<DevicePathNode<'a>, DevicePathError>;
 

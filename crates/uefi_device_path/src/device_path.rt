@@ -1,4 +1,4 @@
-//! Device paths, and the nodes of one.
+//! Device paths and their nodes.
 #![tactic(auto, unfolding(crate::specs::Views::nodes_of, crate::specs::Views::nodes_left))]
 
 ghost use Rattle.std.specs.Prelude.{◌≡◌, ℕ, ◌+◌, ◌<◌, ◌≤◌, ◌^◌, ◌↔◌, ◌++◌, List, All, length, drop, IfOk, IfErr, IsErr, IsOk, OnErr, OnOk, nat_eq, Some, false};
@@ -35,8 +35,8 @@ use uefi_text::CStr16;
 use uefi_text::text_sink::print;
 use uefi_text::unit_sink::{BufferTooSmall, write_units};
 
-/// A device path that lies in borrowed bytes: nodes one after the other, and the one that ends it. A
-/// contract sees it as `nodes_of` it: the list of its nodes, without the one that ends it.
+/// A device path in borrowed bytes: nodes one after the other, and the end node. A contract sees it
+/// as `nodes_of` it: the list of its nodes, without the end node.
 #[derive(Clone, Copy)]
 pub struct DevicePath<'a> {
     bytes: &'a [u8],
@@ -85,8 +85,8 @@ impl<'a> DevicePath<'a> {
         }
     }
 
-    /// The device path that bytes begin with, and the bytes after it, if they begin with one: no
-    /// header is tested again.
+    /// Returns the device path at the start of bytes, and the bytes after it, if there is one.
+    /// Tests no header again.
     pub(crate) fn take_first(bytes: &'a [u8]) -> (Self, &'a [u8])
         requires { (nodes : List Node) × BeginWithPath bytes.now nodes }
         ensures { BeginWith bytes.now (nodes_of result.0) (node_bytes end_entire ++ result.1.now) }
@@ -104,9 +104,9 @@ impl<'a> DevicePath<'a> {
         }
     }
 
-    /// Returns the device path that bytes begin with, and the bytes after it. Fails on the first
-    /// malformed node, with its first fault in the order of its bytes and the offset of these
-    /// bytes. Does not allocate.
+    /// Borrows the device path at the start of bytes, and returns the bytes after it too. Fails on
+    /// the first malformed node, with its first fault in the order of its bytes, and the offset of
+    /// the bytes at fault. Does not allocate.
     ///
     /// ```rust
     /// let bytes = [1, 1, 6, 0, 2, 0x1f, 0x7f, 0xff, 4, 0, 9];
@@ -133,7 +133,7 @@ impl<'a> DevicePath<'a> {
         }
     }
 
-    /// Returns the device path that bytes begin with, whatever follows it. Fails as
+    /// Borrows the device path at the start of bytes; later bytes do not matter. Fails as
     /// [`DevicePath::split_first`] does.
     ///
     /// ```rust
@@ -158,7 +158,7 @@ impl<'a> DevicePath<'a> {
         }
     }
 
-    /// All bytes of the path, its end node included.
+    /// Returns all bytes of the path, including its end node.
     ///
     /// ```rust
     /// let path = DevicePath::from_bytes(&[0x7f, 0xff, 4, 0, 9, 9])?;
@@ -171,7 +171,7 @@ impl<'a> DevicePath<'a> {
         self.bytes
     }
 
-    /// Returns the nodes of the path in order, without the one that ends it.
+    /// Returns an iterator over the nodes of the path in order, without the end node.
     ///
     /// ```rust
     /// let path = DevicePathBuf::from_text(rt.alloc(), "PciRoot(0x0)/Pci(0x1F,0x2)")?;
@@ -194,8 +194,7 @@ impl<'a> DevicePath<'a> {
     /// 10.3.5.4).
     ///
     /// The call checks all names first, and fails on the first node whose data is not a string.
-    /// Then it allocates once for the text, and once more for the places of its separators, if
-    /// there are any.
+    /// Then it allocates once for the text, and once more if the text contains separators.
     ///
     /// ```rust
     /// let path = DevicePathBuf::from_text(rt.alloc(), r"SD(0x1)/\efi\boot/\a.efi")?;
@@ -216,8 +215,9 @@ impl<'a> DevicePath<'a> {
     /// Writes the file path, which [`DevicePath::file_path`] makes, to the start of a buffer, with
     /// a NUL, and returns its length without the NUL. The rest of the buffer is unchanged.
     ///
-    /// Fails with `Name` if that call refuses a name, for the same node, or else if the buffer is
-    /// too small. The buffer is then unchanged. Does not allocate.
+    /// Fails with `Name` if that call refuses a name, for the same node, and otherwise with
+    /// `BufferTooSmall` if the buffer is too small. The buffer is then unchanged. Does not
+    /// allocate.
     ///
     /// ```rust
     /// let path = DevicePathBuf::from_text(rt.alloc(), r"SD(0x1)/\a\b")?;
@@ -289,9 +289,9 @@ impl<'a> DevicePath<'a> {
         )
     }
 
-    /// Writes what is printed of the path, which [`DevicePath::display`] gives, to the start of a
-    /// buffer as UTF-16, with a NUL, and returns its length without the NUL. The rest of the buffer
-    /// is unchanged.
+    /// Writes the text of the path, which [`DevicePath::display`] prints, to the start of a buffer
+    /// as UTF-16, with a NUL, and returns its length without the NUL. The rest of the buffer is
+    /// unchanged.
     ///
     /// Fails only if the buffer is too small, and then leaves it unchanged. Makes the text twice:
     /// once to count its units, and once to write them. Does not allocate.
@@ -318,8 +318,8 @@ impl<'a> DevicePath<'a> {
         write_units(buffer, &self.display(display_only, allow_shortcuts))
     }
 
-    /// Writes this text to the start of a buffer, and borrows it from there with its NUL. Fails as
-    /// [`DevicePath::write_text`] does.
+    /// Writes the text that [`DevicePath::display`] prints to the start of a buffer, and borrows it
+    /// from there with its NUL. Fails as [`DevicePath::write_text`] does.
     ///
     /// ```rust
     /// let path = DevicePathBuf::from_text(rt.alloc(), "SD(0x1)")?;
@@ -346,8 +346,9 @@ impl<'a> DevicePath<'a> {
     }
 
     /// Returns a value that prints the path as libefivar and efibootmgr do, for a `{}` of a format:
-    /// the text that [`DevicePath::display`] gives, but with `File(..)` around the name of a file,
-    /// and with the numbers of a partition in lower case after its kind. Does not allocate.
+    /// the text that [`DevicePath::display`] gives, except for `File(..)` around the name of a
+    /// file, and for the numbers of a partition, which are in lower case after its kind. Does not
+    /// allocate.
     ///
     /// ```rust
     /// let path = DevicePathBuf::from_text(rt.alloc(), r"HD(1,MBR,0x000000AB,0x3F,0xC8)/\a.efi")?;
@@ -360,8 +361,8 @@ impl<'a> DevicePath<'a> {
         PathText::of_libefivar(&self.bytes[..self.bytes.len() - 4])
     }
 
-    /// Writes this text to the start of a buffer as UTF-16, with a NUL after it, and returns its length, as
-    /// [`DevicePath::write_text`] does.
+    /// Writes the text that [`DevicePath::display_libefivar`] prints to the start of a buffer, as
+    /// UTF-16 with a NUL, and returns its length, as [`DevicePath::write_text`] does.
     ///
     /// ```rust
     /// let path = DevicePathBuf::from_text(rt.alloc(), r"\")?;
@@ -377,8 +378,8 @@ impl<'a> DevicePath<'a> {
         write_units(buffer, &self.display_libefivar())
     }
 
-    /// Returns the instances of the path, in order: the parts between the nodes that end an
-    /// instance.
+    /// Returns an iterator over the instances of the path, in order: the parts between the nodes
+    /// that end an instance.
     ///
     /// ```rust
     /// let path = DevicePathBuf::from_text(rt.alloc(), "Uart(9600,8,N,1),SD(0x1)/Unit(0x2)")?;
@@ -435,7 +436,7 @@ impl<'a> fmt::Debug for DevicePath<'a> {
     }
 }
 
-/// [`DevicePath::from_bytes`] of the bytes.
+/// Does what [`DevicePath::from_bytes`] does.
 impl<'a> TryFrom<&'a [u8]> for DevicePath<'a> {
     type Error = DevicePathError;
 

@@ -1,4 +1,4 @@
-//! Why bytes are not a device path and no load option, and why a node is not added.
+//! The errors of reading device paths and load options, and of adding nodes.
 #![tactic(auto, using(uefi_text::proofs::Puts::puts))]
 
 ghost use Rattle.uefi_device_path.specs.ErrorTexts.{device_path_error_text, file_path_cause_text, file_path_error_text, file_path_write_error_text, load_option_cause_text, load_option_error_text, build_error_text, grow_error_text, push_text_error_text, option_build_error_text};
@@ -11,13 +11,13 @@ use uefi_text::FromSliceWithNulError;
 use uefi_text::number_texts::put_decimal;
 use uefi_text::text_sink::{Printed, TextSink, print};
 
-/// Why bytes do not begin with a device path.
+/// The reason why bytes do not begin with a device path.
 #[derive(Clone, Copy, Debug, PartialEq, Eq)]
 pub struct DevicePathError {
-    /// What is wrong with the first malformed node.
+    /// The fault of the first malformed node.
     pub cause: NodeError,
 
-    /// Where the bytes that are wrong begin, counted from the first byte: the node, its sub-type or
+    /// The offset of the bytes at fault, counted from the first byte: of the node, its sub-type or
     /// its length.
     pub offset: usize,
 }
@@ -43,10 +43,10 @@ impl fmt::Display for DevicePathError {
 
 impl Error for DevicePathError {}
 
-/// Why a node that names a file has no name.
+/// The reason why a node that should name a file has no name.
 #[derive(Clone, Copy, Debug, PartialEq, Eq)]
 pub enum FilePathCause {
-    /// Its data end in half a unit.
+    /// Its data has an odd number of bytes.
     HalfUnit,
     /// The units of its data are not a string.
     Text(FromSliceWithNulError),
@@ -81,13 +81,13 @@ impl fmt::Display for FilePathCause {
 
 impl Error for FilePathCause {}
 
-/// Why nodes have no file path.
+/// The reason why nodes have no file path.
 #[derive(Clone, Copy, Debug, PartialEq, Eq)]
 pub struct FilePathError {
-    /// What is wrong with the first node that should name a file and has no name.
+    /// The fault of the first node that should name a file and has no name.
     pub cause: FilePathCause,
 
-    /// Where its data begin, counted from the first byte of the path or the instance.
+    /// The offset of its data, counted from the first byte of the path or the instance.
     pub offset: usize,
 }
 
@@ -112,12 +112,13 @@ impl fmt::Display for FilePathError {
 
 impl Error for FilePathError {}
 
-/// Why a file path is not written into a buffer.
+/// The reason why a file path is not written into a buffer.
 #[derive(Clone, Copy, Debug, PartialEq, Eq)]
 pub enum FilePathWriteError {
     /// The nodes have no file path.
     Name(FilePathError),
-    /// The buffer has fewer places than the path has units with its NUL, which are this many.
+    /// The buffer has fewer places than the path with its NUL needs. The number is how many it
+    /// needs.
     BufferTooSmall(usize),
 }
 
@@ -151,10 +152,10 @@ impl fmt::Display for FilePathWriteError {
 
 impl Error for FilePathWriteError {}
 
-/// What is wrong with bytes that are not a load option.
+/// The fault of bytes that are not a load option.
 #[derive(Clone, Copy, Debug, PartialEq, Eq)]
 pub enum LoadOptionCause {
-    /// There are fewer bytes than the attributes and the length of the list take.
+    /// There are fewer bytes than the attributes and the length of the list need.
     TooShort,
     /// No NUL ends the description.
     DescriptionWithoutEnd,
@@ -162,7 +163,7 @@ pub enum LoadOptionCause {
     ListBeyondEnd,
     /// The file path list has no bytes, so that nothing can be loaded.
     EmptyList,
-    /// The file path list is not device paths.
+    /// The file path list does not consist of device paths.
     FilePathList(NodeError),
 }
 
@@ -192,14 +193,14 @@ impl fmt::Display for LoadOptionCause {
     }
 }
 
-/// Why bytes are not a load option.
+/// The reason why bytes are not a load option.
 #[derive(Clone, Copy, Debug, PartialEq, Eq)]
 pub struct LoadOptionError {
-    /// What is wrong.
+    /// The fault.
     pub cause: LoadOptionCause,
 
-    /// Where the bytes that are wrong begin, counted from the first byte of the load option; the end
-    /// of the bytes where some are missing.
+    /// The offset of the bytes at fault, counted from the first byte of the load option, or the
+    /// number of bytes if some are missing.
     pub offset: usize,
 }
 
@@ -226,14 +227,15 @@ impl Error for LoadOptionCause {}
 
 impl Error for LoadOptionError {}
 
-/// Why a node is not added to a device path.
+/// The reason why a node is not added to a device path.
 #[derive(Clone, Copy, Debug, PartialEq, Eq)]
 pub enum BuildError {
     /// It is of type End, and not the node that ends an instance.
     EndNode,
     /// Its length does not fit the two bytes that state it.
     NodeTooLong,
-    /// The buffer has fewer bytes than the path with the node and its end, which has this many.
+    /// The buffer has fewer bytes than the path with the node and its end needs. The number is how
+    /// many it needs.
     BufferTooSmall(usize),
     /// Memory ran out.
     OutOfMemory,
@@ -273,12 +275,12 @@ impl fmt::Display for BuildError {
 
 impl Error for BuildError {}
 
-/// Why nothing is added to the device path that a buffer begins with.
+/// The reason why nothing is added to the device path at the start of a buffer.
 #[derive(Clone, Copy, Debug, PartialEq, Eq)]
 pub enum GrowError {
     /// The buffer does not begin with a device path.
     Path(DevicePathError),
-    /// The nodes may not stand there, or the buffer is too small.
+    /// The nodes must not be there, or the buffer is too small.
     Build(BuildError),
 }
 
@@ -305,16 +307,16 @@ impl fmt::Display for GrowError {
 
 impl Error for GrowError {}
 
-/// Why the nodes of a text are not added to the device path that a buffer begins with.
+/// The reason why the nodes of a text are not added to the device path at the start of a buffer.
 #[derive(Clone, Copy, Debug, PartialEq, Eq)]
 pub enum PushTextError {
     /// The buffer does not begin with a device path.
     Path(DevicePathError),
-    /// A node has to begin at this byte of the text, and none does, as in
+    /// A node must begin at this byte of the text, and none does, as in
     /// [`PathTextError::NoNode`](crate::PathTextError).
     NoNode(usize),
-    /// The buffer has fewer bytes than the path with the nodes, which has this many, or `usize::MAX` where
-    /// they are more.
+    /// The buffer has fewer bytes than the path with the nodes needs. The number is how many it
+    /// needs, or `usize::MAX` if it needs more.
     BufferTooSmall(usize),
 }
 
@@ -349,10 +351,10 @@ impl fmt::Display for PushTextError {
 
 impl Error for PushTextError {}
 
-/// Why a load option is not written.
+/// The reason why a load option is not written.
 #[derive(Clone, Copy, Debug, PartialEq, Eq)]
 pub enum OptionBuildError {
-    /// The description holds a NUL, at this place.
+    /// The description contains a NUL, at this index.
     NulInDescription(usize),
     /// There is no device path, so that nothing can be loaded.
     EmptyList,
@@ -360,7 +362,7 @@ pub enum OptionBuildError {
     ListTooLong,
     /// The load option has more bytes than a `usize` can state.
     TooLong,
-    /// The buffer has fewer bytes than the load option, which has this many.
+    /// The buffer has fewer bytes than the load option. The number is how many the load option has.
     BufferTooSmall(usize),
     /// Memory ran out.
     OutOfMemory,

@@ -1,7 +1,7 @@
-//! How far bytes go that may be only the first part of a device path.
+//! The length of a device path of which only the first bytes may be given.
 //!
-//! Firmware hands out device paths without their lengths. Such a path is read from its first bytes on, and
-//! never beyond the bytes that its headers state.
+//! Firmware hands out device paths without their lengths. Such a path can be read from its first
+//! bytes on, and never beyond the bytes that its headers state.
 #![tactic(auto)]
 
 ghost use Rattle.std.specs.Prelude.{◌≡◌, ◌+◌, ◌<◌, ◌≤◌, IfErr, IfOk, false, length};
@@ -12,7 +12,7 @@ use crate::device_path::DevicePath;
 use crate::errors::{DevicePathError, NodeError};
 use uefi_device_nodes::node::{DevicePathNode, fault_place};
 
-/// A device path whose bytes end before it does.
+/// The state of reading a device path whose bytes end before it does.
 #[derive(Clone, Copy, Debug, PartialEq, Eq)]
 pub struct PathCut {
     /// The number of bytes of the whole nodes that come first: the next node begins there.
@@ -22,7 +22,7 @@ pub struct PathCut {
     pub needed: usize,
 }
 
-/// How far bytes go that begin like a device path.
+/// The extent of bytes that begin like a device path.
 #[derive(Clone, Copy, Debug, PartialEq, Eq)]
 pub enum PathExtent {
     /// The bytes begin with a device path of this many bytes, its end node included.
@@ -31,7 +31,8 @@ pub enum PathExtent {
     Cut(PathCut),
 }
 
-/// How many bytes a node has at least, by its first bytes: its header, or what that states.
+/// Returns the least number of bytes of a node, given its first bytes: the length of a header, or
+/// the length that the header states.
 fn begun_length(bytes: &[u8]) -> usize
     ensures length { result ≡ begun_length bytes.now }
     ensures small { result < 65536 }
@@ -42,7 +43,7 @@ fn begun_length(bytes: &[u8]) -> usize
     }
 }
 
-/// Whether bytes end before a node does that was refused for this cause.
+/// Returns whether bytes end before the end of a node that was refused for this cause.
 fn is_cut_short(cause: NodeError) -> bool
     ensures { result ≡ is_cut_short cause }
 {
@@ -53,12 +54,13 @@ fn is_cut_short(cause: NodeError) -> bool
 }
 
 impl DevicePath<'_> {
-    /// Returns how many bytes the device path has that bytes begin with, or how many there have to be to say.
+    /// Returns the number of bytes of the device path at the start of bytes, or the number of bytes
+    /// that are needed to continue.
     ///
-    /// So a caller who has an address and no length gives four bytes first, and then as many as are
-    /// needed, until the path is whole. No device path that begins with the bytes has fewer than
-    /// that. Bytes with which no device path begins, whatever follows them, are refused as by
-    /// [`DevicePath::from_bytes`]. Does not allocate (UEFI Specification 2.10, section 10.3.1).
+    /// A caller who has an address and no length gives four bytes first, and then as many as are
+    /// needed, until the path is whole. No device path that begins with the bytes is shorter than
+    /// that. Fails as [`DevicePath::from_bytes`] does if no device path begins with the bytes,
+    /// whatever follows them. Does not allocate (UEFI Specification 2.10, section 10.3.1).
     ///
     /// ```rust
     /// let bytes = [1, 1, 6, 0, 0, 0x1f, 0x7f, 0xff, 4, 0, 9];

@@ -1,5 +1,5 @@
-//! The file path of a path: the names of its nodes that name files, one after the other, in its own
-//! memory or in a caller's buffer.
+//! The file path of a device path: the names of its nodes that name files, one after the other, in
+//! its own memory or in a caller's buffer.
 #![tactic(auto)]
 
 ghost use Rattle.std.specs.Prelude.{◌≡◌, ℕ, ◌+◌, ◌<◌, ◌≤◌, ◌^◌, ◌∷◌, ◌++◌, [], ◌&&◌, ◌==◌, List, All, drop, length, if◌then◌else◌, IfOk, IfErr, OnErr, OnOk, Some, true};
@@ -23,14 +23,14 @@ use uefi_path::path_units::with_separator;
 use uefi_text::unit_sink::sink_unit;
 use uefi_text::{CString16, UnalignedSlice};
 
-/// How many units a path has so far, and whether a separator is missing after them.
+/// The number of units of a path so far, and whether a separator is missing after them.
 #[derive(Clone, Copy)]
 struct Written {
     len: usize,
     is_missing: bool,
 }
 
-/// Adds a unit to a path, and writes it where the buffer has a place for it.
+/// Adds a unit to a path, and writes it if the buffer has a place for it.
 fn put_unit(buffer: &mut [u16], written: Written, unit: u16) -> Written
     ensures written { (path old : List ℕ) → IsWritten path written old buffer.old →
         IsWritten (path ++ unit ∷ []) result old buffer.new }
@@ -55,7 +55,7 @@ fn put_missing(buffer: &mut [u16], written: Written, is_some: bool) -> Written
     written
 }
 
-/// Whether a name begins with a separator or a slash.
+/// Returns whether a name begins with a separator or a slash.
 fn is_rooted_name(name: &UnalignedSlice<'_, u16>) -> bool
     requires { IsString (items_of name.now) }
     ensures { result ≡ is_rooted (without_nul (items_of name.now)) }
@@ -63,8 +63,8 @@ fn is_rooted_name(name: &UnalignedSlice<'_, u16>) -> bool
     matches!(name.get(0), Some(0x5c | 0x2f))
 }
 
-/// Where the units of a name begin that are added: after the separator that it begins with, where the path
-/// has text.
+/// Returns the index of the first unit of a name that is added: after the separator at its start,
+/// if the path has text.
 fn name_start(written: Written, name: &UnalignedSlice<'_, u16>) -> usize
     requires { IsString (items_of name.now) }
     ensures place { result ≡ (if written.len == 0 then 0
@@ -74,7 +74,7 @@ fn name_start(written: Written, name: &UnalignedSlice<'_, u16>) -> usize
     usize::from(written.len != 0 && is_rooted_name(name))
 }
 
-/// Adds the units of a name from a place on, each slash replaced, without its NUL.
+/// Adds the units of a name from an index on, with each slash replaced, without its NUL.
 fn put_units(
     buffer: &mut [u16],
     written: Written,
@@ -95,7 +95,7 @@ fn put_units(
     made
 }
 
-/// Adds a name to a path, without the separator that it begins with where the path has text.
+/// Adds a name to a path, without the separator at its start if the path has text.
 fn put_name(buffer: &mut [u16], written: Written, name: &UnalignedSlice<'_, u16>) -> Written
     requires { IsString (items_of name.now) }
     ensures written { (path old : List ℕ) → IsWritten path written old buffer.old →
@@ -107,7 +107,7 @@ fn put_name(buffer: &mut [u16], written: Written, name: &UnalignedSlice<'_, u16>
     put_units(buffer, made, name, start)
 }
 
-/// The units of the name that data are, with their NUL.
+/// Returns the units of the name in a node's data, with their NUL.
 fn name_units(content: &[u8]) -> Result<UnalignedSlice<'_, u16>, FilePathCause>
     ensures units { IfOk result (λ name. items_of name ≡ units_of_bytes content.now) }
     ensures is_string { IfOk result (λ name. IsString (items_of name)) }
@@ -123,14 +123,14 @@ fn name_units(content: &[u8]) -> Result<UnalignedSlice<'_, u16>, FilePathCause>
     }
 }
 
-/// Whether a node names a file.
+/// Returns whether a node names a file.
 fn names_file(node: DevicePathNode<'_>) -> bool
     ensures { result ≡ is_file (node_of node.entry) }
 {
     node.device_type() == DeviceType::MEDIA && node.sub_type() == DeviceSubType::MEDIA_FILE_PATH
 }
 
-/// Adds the name of a node to a path, where it names a file.
+/// Adds the name of a node to a path, if the node names a file.
 fn put_node(
     buffer: &mut [u16],
     written: Written,
@@ -154,8 +154,8 @@ fn put_node(
     }
 }
 
-/// The number of units of the file path of the nodes that bytes are. Writes it to the start of a
-/// buffer, where this has room.
+/// Returns the number of units of the file path of nodes, given as bytes. Writes it to the start of
+/// a buffer, if the buffer has room.
 fn put_file_path(buffer: &mut [u16], bytes: &[u8]) -> Result<usize, FilePathError>
     requires { AreNodes bytes.now }
     ensures len { IfOk result (λ len. len ≡ length (file_path (nodes_in bytes.now))) }
@@ -184,7 +184,7 @@ fn put_file_path(buffer: &mut [u16], bytes: &[u8]) -> Result<usize, FilePathErro
     Ok(written.len)
 }
 
-/// Writes the file path of the nodes that bytes are, and its NUL, into as many places as these units are.
+/// Writes the file path of nodes, given as bytes, and its NUL, into exactly as many places.
 fn fill_file_path(places: &mut [u16], bytes: &[u8])
     requires nodes { AreNodes bytes.now }
     requires readable { All IsReadable (nodes_in bytes.now) }
@@ -226,7 +226,7 @@ pub(crate) fn write_file_path_in(
     Ok(len)
 }
 
-/// The file path of the nodes that bytes are, which has this many units, in its own memory.
+/// Creates the file path of nodes, given as bytes, which has this many units, in its own memory.
 fn copy_file_path<A: Allocator + Copy>(
     alloc: A,
     bytes: &[u8],
@@ -249,8 +249,8 @@ fn copy_file_path<A: Allocator + Copy>(
     }
 }
 
-/// The file path of the nodes that bytes are, in its own memory, which is asked for once each name
-/// is known to be one.
+/// Creates the file path of nodes, given as bytes, in its own memory. Allocates after every name is
+/// known to be a string.
 pub(crate) fn file_path_in<A: Allocator + Copy>(
     alloc: A,
     bytes: &[u8],

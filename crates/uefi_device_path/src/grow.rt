@@ -1,4 +1,4 @@
-//! Device paths that grow in the buffer in which they lie.
+//! Device paths that grow in their buffer.
 #![tactic(auto)]
 
 ghost use Rattle.std.specs.Prelude.{◌≡◌, ◌+◌, ◌-◌, ◌^◌, ◌≤◌, min, ◌∷◌, ◌++◌, [], List, drop, length, take, Err, IfErr, IfOk, IsOk, None, OnErr, OnOk};
@@ -28,8 +28,8 @@ fn put_node<N: BuildNode>(places: &mut [u8], header: [u8; 4], node: &N)
     end.copy_from_slice(&[0x7f, 0xff, 4, 0]);
 }
 
-/// Adds a node that may stand before the end of the path that the first `len` bytes of a buffer are, and for
-/// which there is room, and returns how many bytes the path then has.
+/// Adds a node that may be before the end of a path, and for which there is room, to the path in
+/// the first `len` bytes of a buffer. Returns the number of bytes that the path then has.
 pub(crate) fn put_at<N: BuildNode>(buffer: &mut [u8], len: usize, node: &N) -> usize
     requires within { len ≤ length buffer.now }
     requires is_path { IsPath (take len buffer.now) }
@@ -47,8 +47,8 @@ pub(crate) fn put_at<N: BuildNode>(buffer: &mut [u8], len: usize, node: &N) -> u
     end
 }
 
-/// Adds a node in this way if there is room for it; otherwise the buffer is unchanged. Returns how
-/// many bytes the path then has or needs, as far as a `usize` counts.
+/// Adds a node as [`put_at`] does if there is room for it; otherwise leaves the buffer unchanged.
+/// Returns the number of bytes that the path then has or needs, as far as a `usize` counts.
 pub(crate) fn put_if_room<N: BuildNode>(buffer: &mut [u8], len: usize, node: &N) -> usize
     requires is_path { len ≤ length buffer.now → IsPath (take len buffer.now) }
     requires unrefused { build_refusal (N.node node.now) ≡ None }
@@ -122,7 +122,7 @@ pub(crate) fn append_at(
     Ok(end)
 }
 
-/// The number of bytes of the path that a buffer begins with.
+/// Returns the number of bytes of the path at the start of a buffer.
 pub(crate) fn path_len(buffer: &[u8]) -> Result<usize, DevicePathError>
     ensures within { IfOk result (λ len. len ≤ length buffer.now) }
     ensures is_path { IfOk result (λ len. IsPath (take len buffer.now)) }
@@ -139,12 +139,12 @@ pub(crate) fn path_len(buffer: &[u8]) -> Result<usize, DevicePathError>
     }
 }
 
-/// Adds a node before the end of the device path that a buffer begins with, and returns how many
-/// bytes the path then has. The rest of the buffer is unchanged.
+/// Adds a node before the end of the device path at the start of a buffer, and returns the number
+/// of bytes that the path then has. The rest of the buffer is unchanged.
 ///
-/// Fails with `Path` if the buffer does not begin with a device path, and then as
+/// Fails with `Path` if the buffer does not begin with a device path, and otherwise as
 /// [`DevicePathBuilder::push_node`](crate::DevicePathBuilder::push_node) does; the buffer is then
-/// unchanged. Allocates nothing.
+/// unchanged. Does not allocate.
 ///
 /// ```rust
 /// let mut buffer = [0x7f, 0xff, 4, 0, 0, 0, 0, 0, 0, 0];
@@ -175,8 +175,8 @@ pub fn push_in_buf<N: BuildNode>(buffer: &mut [u8], node: &N) -> Result<usize, G
     }
 }
 
-/// Adds the nodes of another path before the end of the device path that a buffer begins with, and returns
-/// how many bytes the path then has, as [`push_in_buf`] does.
+/// Adds the nodes of another path before the end of the device path at the start of a buffer, and
+/// returns the number of bytes that the path then has, as [`push_in_buf`] does.
 ///
 /// ```rust
 /// let card = DevicePathBuf::from_text(rt.alloc(), "SD(0x1)")?;

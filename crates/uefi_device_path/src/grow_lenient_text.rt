@@ -1,5 +1,5 @@
-//! Device paths that grow, in the buffer in which they lie, by the nodes of a text as people write
-//! it, or as libefivar prints it.
+//! Device paths that grow in their buffer by the nodes of a text as people write it, or as
+//! libefivar prints it.
 #![tactic(auto)]
 
 ghost use Rattle.std.specs.Prelude.{◌≡◌, ◌+◌, ◌<◌, ◌≤◌, ◌++◌, List, drop, length, take, Err, IfErr, IfOk, OnErr, OnOk};
@@ -17,17 +17,23 @@ use crate::grow_styled_text::push_styled_text_in_buf;
 use crate::lenient_errors::PushLenientTextError;
 use uefi_node_reader::styles::TextStyle;
 
-/// Adds the nodes of a text, as people write it, to the device path that a buffer begins with,
-/// before its end, and returns how many bytes the path then has. The rest of the buffer is
+/// Adds the nodes of a text, as people write it, before the end of the device path at the start of
+/// a buffer, and returns the number of bytes that the path then has. The rest of the buffer is
 /// unchanged.
 ///
 /// The text is read as [`DevicePathBuf::from_lenient_text`](crate::DevicePathBuf) reads it; a comma
-/// in it ends an instance. Copies of its calls and names go into `scratch`, which has to be longer
-/// than the text, and then holds anything. Fails with `Path` if the buffer does not begin with a
-/// device path, then with `ScratchTooSmall` and the number of bytes that it needs, then with
-/// `NoNode` and the first node that can't be read, its first wrong byte and what has to stand
-/// there, and then with `BufferTooSmall` and the number of bytes that the path then needs; the
-/// buffer is then unchanged. Allocates nothing.
+/// in it ends an instance. Copies of its calls and names go into `scratch`, which must be longer
+/// than the text; afterwards its contents are unspecified.
+///
+/// The call fails for the first of these reasons, and leaves the buffer unchanged. Does not
+/// allocate.
+///
+/// | error | reason |
+/// |---|---|
+/// | `Path` | the buffer does not begin with a device path |
+/// | `ScratchTooSmall` | `scratch` has fewer bytes than this number |
+/// | `NoNode` | the first node that can't be read, its first wrong byte, and what must be there |
+/// | `BufferTooSmall` | the buffer has fewer bytes than this number, which the path then needs |
 ///
 /// ```rust
 /// let mut buffer = [0x7f, 0xff, 4, 0, 0, 0, 0, 0, 0, 0];
@@ -65,12 +71,12 @@ pub fn push_lenient_text_in_buf(
     push_styled_text_in_buf(TextStyle::Lenient, buffer, text, scratch)
 }
 
-/// Adds the nodes of a text that libefivar and efibootmgr print to the device path that a buffer
-/// begins with, before its end, and returns how many bytes the path then has. The rest of the
-/// buffer is unchanged.
+/// Adds the nodes of a text that libefivar and efibootmgr print before the end of the device path
+/// at the start of a buffer, and returns the number of bytes that the path then has. The rest of
+/// the buffer is unchanged.
 ///
-/// The text is read as [`DevicePathBuf::from_libefivar_text`](crate::DevicePathBuf) reads it. It fails as
-/// [`push_lenient_text_in_buf`] does.
+/// The text is read as [`DevicePathBuf::from_libefivar_text`](crate::DevicePathBuf) reads it. The
+/// call fails as [`push_lenient_text_in_buf`] does.
 ///
 /// ```rust
 /// let mut buffer = [0; 20];

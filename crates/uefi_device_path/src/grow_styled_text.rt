@@ -1,4 +1,4 @@
-//! Device paths that grow, in the buffer in which they lie, by the nodes of a text in a style.
+//! Device paths that grow in their buffer by the nodes of a text in a style.
 #![tactic(auto)]
 
 ghost use Rattle.std.specs.Prelude.{◌≡◌, ◌+◌, true, ◌<◌, ◌≤◌, ◌++◌, List, drop, length, take, Err, IfErr, IfOk, OnErr, OnOk};
@@ -20,11 +20,11 @@ use crate::lenient_errors::PushLenientTextError;
 use crate::styled_reader::put_text;
 use uefi_node_reader::styles::{TextStyle, is_copied};
 
-/// Adds the nodes that a text is read as in a style to the device path that a buffer begins with,
-/// before its end, and returns how many bytes the path then has. The rest of the buffer is
+/// Adds the nodes of a text, read in a style, before the end of the device path at the start of a
+/// buffer, and returns the number of bytes that the path then has. The rest of the buffer is
 /// unchanged.
 ///
-/// Hidden: the library for C calls it in each style, and nothing promises that it stays. Other callers have
+/// Hidden: the C library calls it with each style, and it may change. Other callers use
 /// [`crate::push_text_in_buf`], [`crate::push_lenient_text_in_buf`] and
 /// [`crate::push_libefivar_text_in_buf`].
 #[doc(hidden)]

@@ -1,4 +1,4 @@
-//! Device paths that grow, in the buffer in which they lie, by the nodes of a text.
+//! Device paths that grow in their buffer by the nodes of a text.
 #![tactic(auto)]
 
 ghost use Rattle.std.specs.Prelude.{◌≡◌, ℕ, ◌++◌, List, length, Err, IfErr, IfOk, OnErr, OnOk, false};
@@ -20,7 +20,8 @@ use crate::lenient_errors::PushLenientTextError;
 use uefi_node_reader::nodes::{node_text_once, nodes_are_read};
 use uefi_node_reader::styles::TextStyle;
 
-/// Why the nodes of a text that is not copied are not added: the second buffer is never too small then.
+/// Returns why the nodes of a text that is not copied are not added; the second buffer is then
+/// never too small.
 fn text_error(error: PushLenientTextError) -> PushTextError
     ensures { result ≡ text_error error }
 {
@@ -32,14 +33,14 @@ fn text_error(error: PushLenientTextError) -> PushTextError
     }
 }
 
-/// Adds the nodes of a text to the device path that a buffer begins with, before its end, and
-/// returns how many bytes the path then has. The rest of the buffer is unchanged.
+/// Adds the nodes of a text before the end of the device path at the start of a buffer, and returns
+/// the number of bytes that the path then has. The rest of the buffer is unchanged.
 ///
 /// The text is read as [`DevicePathBuf::from_text`](crate::DevicePathBuf) reads it; a comma in it
 /// ends an instance. Fails with `Path` if the buffer does not begin with a device path, then with
-/// `NoNode` and the byte at which the text stops being that of a path, and then with
-/// `BufferTooSmall` and the number of bytes that the path then needs; the buffer is then unchanged.
-/// Allocates nothing.
+/// `NoNode` and the byte at which the text stops being the text of a path, and then with
+/// `BufferTooSmall` and the number of bytes that the path then needs. The buffer is then unchanged.
+/// Does not allocate.
 ///
 /// ```rust
 /// let mut buffer = [0x7f, 0xff, 4, 0, 0, 0, 0, 0, 0];

@@ -26,8 +26,8 @@ use uefi_device_nodes::DevicePathNode;
 use uefi_path::PathBuf;
 use uefi_text::CStr16;
 
-/// An instance of a device path: the nodes between two that end one, without these. A contract sees it as
-/// `instance_nodes` of it.
+/// An instance of a device path: the nodes between two nodes that end an instance, without these. A
+/// contract sees it as `instance_nodes` of it.
 ///
 /// ```rust
 /// let path = DevicePathBuf::from_text(rt.alloc(), "SD(0x1),SD(0x2)")?;
@@ -41,16 +41,17 @@ pub struct DevicePathInstance<'a> {
     pub ghost are_nodes: { AreNodes bytes.now },
 }
 
-/// The instances of a device path, in order. A contract sees it as `instances_left` of it: what
-/// remains.
+/// An iterator over the instances of a device path, in order. A contract sees it as
+/// `instances_left` of it: the instances that remain.
 #[derive(Drop)]
 pub struct DevicePathInstanceIterator<'a> {
-    /// What is left to cut; `None` after the last instance.
+    /// The bytes that are left to cut; `None` after the last instance.
     rest: Option<&'a [u8]>,
     pub ghost are_nodes: { ForSome rest (λ bytes. AreNodes bytes.now) },
 }
 
-/// The bytes of the first instance, and those after the node that ends it, if there is one.
+/// Returns the bytes of the first instance, and the bytes after the node that ends it, if there is
+/// one.
 pub(crate) fn cut_instance(bytes: &[u8]) -> (&[u8], Option<&[u8]>)
     requires { AreNodes bytes.now }
     ensures first { AreNodes result.0.now }
@@ -79,7 +80,7 @@ impl<'a> DevicePathInstance<'a> {
         self.bytes
     }
 
-    /// Returns the nodes of the instance, in order.
+    /// Returns an iterator over the nodes of the instance, in order.
     pub fn node_iter(&self) -> DevicePathNodeIterator<'a>
         ensures same { nodes_left result ≡ instance_nodes self.now }
         ensures bound { length (nodes_left result) < 2 ^ 64 }
@@ -108,8 +109,9 @@ impl<'a> DevicePathInstance<'a> {
     /// buffer, with a NUL, and returns its length without the NUL. The rest of the buffer is
     /// unchanged.
     ///
-    /// Fails with `Name` if that call refuses a name, for the same node, or else if the buffer is
-    /// too small. The buffer is then unchanged. Does not allocate.
+    /// Fails with `Name` if that call refuses a name, for the same node, and otherwise with
+    /// `BufferTooSmall` if the buffer is too small. The buffer is then unchanged. Does not
+    /// allocate.
     ///
     /// ```rust
     /// let path = DevicePathBuf::from_text(rt.alloc(), r"\a\b,SD(0x1)")?;
@@ -213,7 +215,7 @@ impl<'a> DevicePathInstanceIterator<'a> {
     }
 }
 
-/// Gives them from the front, and then `None` for ever.
+/// Gives the instances from the front, and then always `None`.
 impl<'a> Iterator for DevicePathInstanceIterator<'a> {
     type Item = DevicePathInstance<'a>;
 

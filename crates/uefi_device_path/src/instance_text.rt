@@ -37,8 +37,9 @@ impl<'a> DevicePathInstance<'a> {
         PathText::of(self.bytes, display_only, allow_shortcuts)
     }
 
-    /// Writes this text to the start of a buffer as UTF-16, with a NUL after it, and returns its length, as
-    /// [`DevicePath::write_text`](crate::DevicePath) does.
+    /// Writes the text that [`DevicePathInstance::display`] prints to the start of a buffer, as
+    /// UTF-16 with a NUL, and returns its length, as [`DevicePath::write_text`](crate::DevicePath)
+    /// does.
     ///
     /// ```rust
     /// let path = DevicePathBuf::from_text(rt.alloc(), "SD(0x1),SD(0x2)")?;
@@ -63,7 +64,8 @@ impl<'a> DevicePathInstance<'a> {
         write_units(buffer, &self.display(display_only, allow_shortcuts))
     }
 
-    /// The same text, written to the start of a buffer and borrowed from there with its NUL.
+    /// Writes the text that [`DevicePathInstance::display`] prints to the start of a buffer, and
+    /// borrows it from there with its NUL.
     ///
     /// ```rust
     /// let path = DevicePathBuf::from_text(rt.alloc(), "SD(0x1),SD(0x2)")?;

@@ -1,6 +1,5 @@
-//! The laws by which users of device paths and load options reason. They speak of the definitions that
-//! the contracts of the working calls cite. Each law is a function that does nothing: its contract is the
-//! law.
+//! The laws of device paths and load options, for proofs of callers. They are about the definitions
+//! that other contracts cite. Each law is a function that does nothing: its contract is the law.
 ghost use Rattle.uefi_device_path.specs.Laws.{AcceptedWithMore, BuiltIsRead, BytesOnce, FaultsWithin, InstancesShown, LibefivarShown, NamesInARow, NeverBoth, OneName, OnlyFilesCount, OptionsNeverBoth, OptionsOnce, PathsAreRead, PathsOnce, PathsShown, PrintedIsRead, PrintedStops, ReadIsPrinted, ReadMeans, ReadNeverStops, ReadOnce, ReadTold, ReadingStopsOnce, RefusalsAreRead, RefusedByHeader, RelativeNamesArePushed, StopMeans, StopsOnce, TextsNeverBoth, TextsOnce};
 
 use uefi_device_nodes::laws::nodes_are_shown;
@@ -12,43 +11,43 @@ use uefi_node_reader::nodes::{node_text_once, nodes_are_read};
 use uefi_node_reader::styles::{faults_lie_within, styled_nodes_are_read};
 use uefi_path::laws::join_components;
 
-/// Bytes and nodes determine one another: bytes begin with one path at most, no two paths have the same
-/// bytes, and the bytes of nodes are read as these nodes.
+/// Bytes and nodes determine one another: bytes begin with at most one path, no two paths have the
+/// same bytes, and the bytes of nodes are read as these nodes.
 pub fn paths_once()
     ensures read { PathsOnce }
     ensures bytes { BytesOnce }
     ensures built { BuiltIsRead }
 {}
 
-/// Bytes that begin with a path do so whatever follows, and are never refused.
+/// Bytes that begin with a path do so whatever follows them, and are never refused.
 pub fn accepted_paths()
     ensures with_more { AcceptedWithMore }
     ensures never_both { NeverBoth }
 {}
 
-/// `path_of_bytes` is what bytes are read as: the nodes of the path that they begin with, or the error for
-/// which they are refused.
+/// `path_of_bytes` is the result of reading bytes: the nodes of the path at their start, or the
+/// error for which they are refused.
 pub fn paths_are_read()
     ensures path { PathsAreRead }
     ensures refusal { RefusalsAreRead }
 {}
 
-/// Bytes that are refused for what the header of a node says, as `UnknownEnd`, `LengthBelowHeader` or
-/// `EndWithData`, are refused for it at the same offset whatever follows this header. The other causes say
-/// that the bytes end too early, so that more bytes may be a path.
+/// Bytes that are refused for the contents of a node's header, as `UnknownEnd`, `LengthBelowHeader`
+/// or `EndWithData`, are refused for it at the same offset whatever follows this header. The other
+/// causes mean that the bytes end too early, so that they may begin a path if more bytes follow.
 pub fn refused_by_header()
     ensures { RefusedByHeader }
 {}
 
-/// No two load options have the same bytes, and those of a load option are never refused.
+/// No two load options have the same bytes, and the bytes of a load option are never refused.
 pub fn options_once()
     ensures bytes { OptionsOnce }
     ensures never_both { OptionsNeverBoth }
 {}
 
-/// No two lists of nodes of which the text tells all have the same text, so that
-/// [`DevicePathBuf::from_text`](crate::DevicePathBuf) gives of what was printed the nodes that it was
-/// printed of.
+/// Two different lists of nodes have different texts, if the text of each list determines all of
+/// its nodes. So [`DevicePathBuf::from_text`](crate::DevicePathBuf) reads a printed text as the
+/// nodes from which it was printed.
 pub fn texts_once()
     ensures { TextsOnce }
 {
@@ -56,8 +55,8 @@ pub fn texts_once()
     node_text_once();
 }
 
-/// A text of nodes of which the text tells all is never refused as `NoNode`, and any other text at one byte
-/// at most.
+/// A text that determines all of its nodes is never refused as `NoNode`, and any other text is
+/// refused at one byte at most.
 pub fn stopped_texts()
     ensures once { StopsOnce }
     ensures never_both { TextsNeverBoth }
@@ -67,9 +66,9 @@ pub fn stopped_texts()
 }
 
 /// A text is read in a style as exactly one list of nodes, or it has exactly one fault, whose byte
-/// stands neither before its node nor after the end of the text. The printed text of the nodes that
-/// were read tells all of them. A printed text that tells all of its nodes is read as these nodes,
-/// exactly and leniently. In the style of printed texts no other text is read.
+/// is neither before its node nor after the end of the text. The printed text of the nodes that
+/// were read determines all of them. A printed text that determines all of its nodes is read as
+/// these nodes, exactly and leniently. In the style of printed texts no other text is read.
 pub fn styled_texts()
     ensures once { ReadOnce }
     ensures stops { ReadingStopsOnce }
@@ -87,9 +86,9 @@ pub fn styled_texts()
     faults_lie_within();
 }
 
-/// A file path is made of the names of the nodes that name files, and of nothing else: one name is
-/// the whole path, names that begin with no separator are pushed one after the other, and the
-/// components are those of the names in a row, where none of these is empty.
+/// A file path consists of the names of the nodes that name files, and of nothing else: a single
+/// name is the whole path, names that begin with no separator are pushed one after the other, and
+/// the components are the components of the names in a row, if none of these is empty.
 pub fn file_paths()
     ensures one { OneName }
     ensures others { OnlyFilesCount }
@@ -99,8 +98,9 @@ pub fn file_paths()
     join_components();
 }
 
-/// No text of a device path, in libefivar's style too, or of an instance holds a control character, nor one
-/// that turns the direction of a text or ends its line: none that [`is_escaped`](crate::is_escaped).
+/// No text of a device path or an instance, in libefivar's style too, contains a control character,
+/// or a character that changes the direction of a text or ends its line: no character for which
+/// [`is_escaped`](crate::is_escaped) holds.
 pub fn nothing_is_hidden()
     ensures paths { PathsShown }
     ensures instances { InstancesShown }

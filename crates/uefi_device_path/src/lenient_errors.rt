@@ -1,4 +1,4 @@
-//! Why a text as people write it is not read as a device path.
+//! The errors of reading a text as people write it as a device path.
 #![tactic(auto, using(uefi_text::proofs::Puts::puts))]
 
 ghost use Rattle.uefi_device_path.specs.LenientErrorTexts.{text_fault_text, lenient_text_error_text, push_lenient_text_error_text};
@@ -11,17 +11,17 @@ pub use uefi_node_reader::faults::Expected;
 use uefi_text::number_texts::put_decimal;
 use uefi_text::text_sink::{Printed, TextSink, print};
 
-/// Where no node is read from a text: its first wrong byte, and what has to stand there.
+/// The position at which no node is read from a text: its first wrong byte, and what must be there.
 #[derive(Clone, Copy, Debug, PartialEq, Eq)]
 pub struct TextFault {
-    /// The byte of the text where the node begins that can't be read.
+    /// The byte of the text at which the node that can't be read begins.
     pub node: usize,
 
-    /// The byte that is wrong, or the length of the text if its end comes too early. In a number, digits or a
-    /// name, it is the first byte of that.
+    /// The byte that is wrong, or the length of the text if its end comes too early. If a number,
+    /// digits or a name are wrong, it is their first byte.
     pub byte: usize,
 
-    /// What has to stand there.
+    /// What must be there.
     pub expected: Expected,
 }
 
@@ -48,10 +48,10 @@ impl fmt::Display for TextFault {
 
 impl Error for TextFault {}
 
-/// Why a text is not read as a device path, as people write it.
+/// The reason why a text, as people write it, is not read as a device path.
 #[derive(Clone, Copy, Debug, PartialEq, Eq)]
 pub enum LenientTextError {
-    /// A node has to begin at a byte of the text, and none can be read there.
+    /// A node must begin at a byte of the text, and none can be read there.
     NoNode(TextFault),
     /// Memory ran out.
     OutOfMemory,
@@ -80,17 +80,18 @@ impl fmt::Display for LenientTextError {
 
 impl Error for LenientTextError {}
 
-/// Why the nodes of a text, as people write it, are not added to the device path that a buffer begins with.
+/// The reason why the nodes of a text, as people write it, are not added to the device path at the
+/// start of a buffer.
 #[derive(Clone, Copy, Debug, PartialEq, Eq)]
 pub enum PushLenientTextError {
     /// The buffer does not begin with a device path.
     Path(DevicePathError),
-    /// The second buffer has fewer bytes than this: one more than the text.
+    /// The second buffer has fewer bytes than this number: one more than the text.
     ScratchTooSmall(usize),
-    /// A node has to begin at a byte of the text, and none can be read there.
+    /// A node must begin at a byte of the text, and none can be read there.
     NoNode(TextFault),
-    /// The buffer has fewer bytes than the path with the nodes, which has this many, or `usize::MAX` where
-    /// they are more.
+    /// The buffer has fewer bytes than the path with the nodes needs. The number is how many it
+    /// needs, or `usize::MAX` if it needs more.
     BufferTooSmall(usize),
 }
 

@@ -1,4 +1,5 @@
-//! Device paths read from texts as people write them, and from those that libefivar prints.
+//! Device paths that are read from texts as people write them, and from texts that libefivar
+//! prints.
 #![tactic(auto)]
 
 ghost use Rattle.uefi_device_path.specs.StyledReading.{GivesText, path_read};
@@ -10,7 +11,7 @@ use crate::styled_reader::read_styled_path;
 use std::alloc::Allocator;
 use uefi_node_reader::styles::TextStyle;
 
-/// The path that a text is read as in a style.
+/// Returns the path that a text is read as in a style.
 fn read_from<A: Allocator + Copy>(
     style: TextStyle,
     alloc: A,
@@ -26,20 +27,23 @@ fn read_from<A: Allocator + Copy>(
 }
 
 impl<A: Allocator + Copy> DevicePathBuf<A> {
-    /// Reads a path from a text of the UEFI Specification as people write it: names and digits in either
-    /// case, numbers in decimal or after `0x`, zeros before them, blanks in a call, numbers left out at its
-    /// end, `File(..)`, and, but after a comma, a file's name that has a backslash without its first one.
+    /// Reads a path from a text of the UEFI Specification as people write it: names and digits in
+    /// either case, numbers in decimal or after `0x`, leading zeros, blanks in a call, numbers left
+    /// out at its end, `File(..)`, and, except after a comma, a file's name that contains a
+    /// backslash and omits its first one.
     ///
-    /// A call in which other programs print hexadecimal numbers without `0x`, such as `Fibre(5006,0)`, is
-    /// refused. `efibootmgr` prints the identifier of an NVMe node with its bytes in the other order.
+    /// A call in which other programs print hexadecimal numbers without `0x`, such as
+    /// `Fibre(5006,0)`, is refused. `efibootmgr` prints the identifier of an NVMe node with its
+    /// bytes in the other order.
     ///
-    /// A text that [`DevicePathBuf::from_text`] reads is read as the same path. The path that is read prints
-    /// as a text that `from_text` reads as that path.
+    /// A text that [`DevicePathBuf::from_text`] reads is read as the same path. The path that is
+    /// read prints as a text that `from_text` reads as that path.
     ///
-    /// Allocates one byte more than the text has, for copies of its calls and names, which it frees; then
-    /// the text is judged, and `NoNode` says where the first node begins that can't be read, which byte of
-    /// it is wrong, and what has to stand there; then it allocates once, for the whole path. `OutOfMemory`
-    /// if one of the two requests is refused, the first of which comes before the text is judged.
+    /// Allocates one byte more than the text has, for copies of its calls and names, and frees it
+    /// at the end. Then checks the text, and fails with `NoNode` if a node can't be read: the error
+    /// has the start of the first such node, the byte that is wrong, and what must be there. Then
+    /// allocates once, for the whole path. Fails with `OutOfMemory` if memory runs out at either
+    /// allocation; the first comes before the text is checked.
     ///
     /// ```rust
     /// let path = DevicePathBuf::from_lenient_text(rt.alloc(), "pciroot(0)/pci(31, 2)")?;
@@ -55,13 +59,13 @@ impl<A: Allocator + Copy> DevicePathBuf<A> {
         read_from(TextStyle::Lenient, alloc, text)
     }
 
-    /// Reads a path from a text that libefivar prints, and efibootmgr with it.
+    /// Reads a path from a text that libefivar and efibootmgr print.
     ///
-    /// libefivar prints some nodes otherwise than the specification. The identifier of an NVMe node has
-    /// its bytes in order, and `Ata` has three numbers. Its `Fibre`, `SAS` and `UsbClass` leave out
-    /// what distinguishes two nodes, and in `PciRoot` and `PcieRoot` a text may stand in place of the
-    /// number, which begins with `0x`; these are refused. All other nodes are read as
-    /// [`DevicePathBuf::from_lenient_text`] reads them. It fails and allocates as that call does.
+    /// libefivar prints some nodes differently from the specification. The identifier of an NVMe
+    /// node has its bytes in order, and `Ata` has three numbers. Its `Fibre`, `SAS` and `UsbClass`
+    /// leave out what distinguishes two nodes, and `PciRoot` and `PcieRoot` may have a text instead
+    /// of the number, which begins with `0x`; these are refused. All other nodes are read as
+    /// [`DevicePathBuf::from_lenient_text`] reads them. Fails and allocates as that call does.
     ///
     /// ```rust
     /// let text = "NVMe(0x1,00-25-38-5B-71-B0-03-1C)";

@@ -1,10 +1,11 @@
-//! Device paths and boot load options of UEFI firmware, read where they lie.
+//! Device paths and boot load options of UEFI firmware, read in place.
 //!
 //! A *device path* is a list of nodes, packed in bytes, that says where a device or a file is (UEFI
-//! Specification 2.10, chapter 10). A *load option* is what a variable `Boot####` holds: attributes, a
-//! description, device paths and optional data (section 3.1.3). [`DevicePath::from_bytes`] and
-//! [`LoadOption::from_bytes`] test all lengths once, at the door, and return views that borrow: no later
-//! call fails for a length, reads beyond the end, or loops without consuming a node.
+//! Specification 2.10, chapter 10). A *load option* is the value of a variable `Boot####`:
+//! attributes, a description, device paths and optional data (section 3.1.3).
+//! [`DevicePath::from_bytes`] and [`LoadOption::from_bytes`] test all lengths once, and return
+//! views that borrow the bytes: no later call fails because of a length, reads beyond the end, or
+//! loops without consuming a node.
 //!
 //! ```rust
 //! use uefi_device_path::{DevicePath, DeviceType};
@@ -16,13 +17,13 @@
 //! }
 //! ```
 //!
-//! [`DevicePathNode::as_enum`] gives the view of a node's kind, with a call for each field, and
+//! [`DevicePathNode::as_enum`] returns the view for a node's kind, with a call for each field, and
 //! [`build`] has a struct for each kind of node that can be pushed on a path.
 //!
 //! A contract sees a node as `node_of` it, a record of its type, its sub-type and its data; a path
-//! as `nodes_of` it, the list of its nodes without the one that ends it; and a load option as
-//! `entry_of` it. A refusal says what is wrong and at which offset, and is the only one that holds
-//! of the bytes. No call allocates but those that say so.
+//! as `nodes_of` it, the list of its nodes without the end node; and a load option as `entry_of`
+//! it. An error says what is wrong and at which offset, and no other error fits the bytes. Only
+//! calls that say so allocate.
 #![tactic(auto)]
 
 pub mod build;
@@ -66,7 +67,7 @@ pub use errors::{
 pub use extent::{PathCut, PathExtent};
 pub use grow::{append_in_buf, push_in_buf};
 pub use grow_lenient_text::{push_lenient_text_in_buf, push_libefivar_text_in_buf};
-// What the library for C is made of: callers in Rattle have a call for each style.
+// The C library uses this; callers in Rattle have a call for each style.
 #[doc(hidden)]
 pub use grow_styled_text::push_styled_text_in_buf;
 pub use grow_text::push_text_in_buf;
@@ -81,7 +82,7 @@ pub use option_edits::set_attributes;
 pub use path_list::{DevicePaths, check_paths};
 pub use path_reader::PathTextError;
 pub use path_text::PathText;
-// What the library for C is made of, as above.
+// The C library uses this too.
 #[doc(hidden)]
 pub use text_extent::styled_text_extent;
 pub use text_extent::{lenient_text_extent, libefivar_text_extent};
@@ -93,7 +94,7 @@ pub use uefi_device_nodes::{acpi, bios_boot_spec, hardware, media, messaging};
 pub use uefi_field_texts::forms::{AllowShortcuts, DisplayOnly};
 pub use uefi_field_texts::guid::Guid;
 pub use uefi_field_texts::shown_texts::is_escaped;
-// What the library for C is made of, as above.
+// The C library uses this too.
 #[doc(hidden)]
 pub use uefi_device_nodes::node::fault_place;
 #[doc(hidden)]

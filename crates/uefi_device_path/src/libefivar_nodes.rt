@@ -1,4 +1,4 @@
-//! Nodes as libefivar prints them, and efibootmgr with it.
+//! Nodes as libefivar and efibootmgr print them.
 #![tactic(auto, using(uefi_text::proofs::Puts::puts))]
 
 ghost use Rattle.std.specs.Fmt.{WritesInCalls};
@@ -17,11 +17,11 @@ use uefi_text::text_sink::{Printed, TextSink};
 struct LoweredSink<'s, S: TextSink> {
     sink: &'s mut S,
 
-    /// How many commas are still to come.
+    /// The number of commas that remain.
     commas: usize,
 }
 
-/// A character, in lower case if no comma is still to come.
+/// Returns a character, in lower case if no comma remains.
 fn lowered(commas: usize, character: char) -> char
     ensures { result ≡ lowered commas character }
 {
@@ -32,7 +32,7 @@ fn lowered(commas: usize, character: char) -> char
     }
 }
 
-/// How many of these commas are still to come after a character.
+/// Returns how many of these commas remain after a character.
 fn commas_after(commas: usize, character: char) -> usize
     ensures { result ≡ commas_after commas character }
 {
@@ -44,7 +44,7 @@ fn commas_after(commas: usize, character: char) -> usize
 }
 
 impl<'s, S: TextSink> LoweredSink<'s, S> {
-    /// The sink before any text.
+    /// Returns the sink, before any text.
     fn of(sink: &'s mut S, commas: usize) -> Self
         ensures same_reference { result.sink.ghost_name ≡ sink.entry.ghost_name }
         ensures same { result.sink.now ≡ sink.old }
@@ -82,7 +82,7 @@ impl<'s, S: TextSink> TextSink for LoweredSink<'s, S> {
     }
 }
 
-/// Puts the text of a value into such a sink.
+/// Puts the text of a value into a sink that writes lower case.
 fn put_value<S: TextSink, P: Printed>(sink: &mut LoweredSink<'_, S>, value: &P)
     ensures same_reference { sink.new.sink.ghost_name ≡ sink.old.sink.ghost_name }
     ensures text { WritesInCalls S.puts sink.old.sink.now
@@ -99,7 +99,7 @@ fn put_lowered<S: TextSink, P: Printed>(sink: &mut S, commas: usize, value: &P)
     put_value(&mut lowered, value);
 }
 
-/// Whether a node names a file.
+/// Returns whether a node names a file.
 fn is_file(node: DevicePathNode<'_>) -> bool
     ensures { result ≡ is_file_node (node_of node.entry) }
 {
@@ -108,7 +108,7 @@ fn is_file(node: DevicePathNode<'_>) -> bool
         && node.data().len() % 2 == 0
 }
 
-/// Whether a node is of a partition.
+/// Returns whether a node is a partition.
 fn is_partition(node: DevicePathNode<'_>) -> bool
     ensures { result ≡ is_partition (node_of node.entry) }
 {
@@ -128,7 +128,7 @@ pub(crate) fn put_node<S: TextSink>(sink: &mut S, node: DevicePathNode<'_>)
         return;
     }
     if is_partition(node) {
-        // The kind of its table stands after the first comma.
+        // The kind of its table is after the first comma.
         put_lowered(sink, 2, &text);
         return;
     }

@@ -23,7 +23,7 @@ use std::fmt;
 use std::hash::{Hash, Hasher};
 use uefi_text::{CString16, FromSliceWithNulError, UnalignedSlice};
 
-/// A boot load option that lies in borrowed bytes. A contract sees it as `entry_of` it.
+/// A boot load option in borrowed bytes. A contract sees it as `entry_of` it.
 ///
 /// ```rust
 /// let option = LoadOption::from_bytes(b"\x01\0\0\0\x04\0a\0\0\0\x7f\xff\x04\0x\0")?;
@@ -49,9 +49,9 @@ pub struct LoadOption<'a> {
 impl<'a> LoadOption<'a> {
     ghost use Rattle.uefi_device_path.specs.Views.{entry_of, nodes_of, parts_of, paths_left};
 
-    /// Reads the bytes as a load option. Fails for the first of these faults: fewer than six bytes,
-    /// a description without NUL, a file path list beyond the end or of no bytes, and a node of the
-    /// list. Does not allocate.
+    /// Borrows bytes as a load option. Fails for the first of these faults: fewer than six bytes, a
+    /// description without NUL, a file path list beyond the end or without bytes, and a malformed
+    /// node in the list. Does not allocate.
     ///
     /// ```rust
     /// let option = LoadOption::from_bytes(b"\x01\0\0\0\x04\0a\0\0\0\x7f\xff\x04\0")?;
@@ -75,12 +75,13 @@ impl<'a> LoadOption<'a> {
         }
     }
 
-    /// Returns the load option that the bytes are, or what is well in them up to the first fault:
-    /// the attributes, the description, the device paths before the fault and the nodes before it.
-    /// What is refused, and for what, is as [`LoadOption::from_bytes`] has it. Allocates nothing.
+    /// Borrows bytes as a load option, or returns the well-formed parts before the first fault: the
+    /// attributes, the description, the device paths before the fault, and the nodes before it.
+    /// Fails for the same bytes, and with the same fault, as [`LoadOption::from_bytes`]. Does not
+    /// allocate.
     ///
-    /// Firmware such as EDK II boots an entry whose first path is whole, whatever follows that path in the
-    /// list: of such an entry the first of [`LoadOptionParts::device_paths`] is that path.
+    /// Firmware such as EDK II boots an entry whose first path is whole, whatever follows that path
+    /// in the list. For such an entry the first of [`LoadOptionParts::device_paths`] is that path.
     ///
     /// ```rust
     /// let bytes = b"\x01\0\0\0\x09\0a\0\0\0\x7f\xff\x04\0\x03\x1a\x05\0\x01";
@@ -102,7 +103,7 @@ impl<'a> LoadOption<'a> {
         }
     }
 
-    /// The same, field by field.
+    /// Does what [`LoadOption::read_parts`] does, field by field.
     fn read(bytes: &'a [u8]) -> Result<Self, LoadOptionParts<'a>>
         ensures entry { IfOk result (λ option. IsEntry (entry_of option)) }
         ensures ok { IfOk result (λ option. bytes.now ≡ entry_bytes (entry_of option)) }
@@ -147,7 +148,7 @@ impl<'a> LoadOption<'a> {
         }
     }
 
-    /// All bytes of the load option.
+    /// Returns all bytes of the load option.
     pub fn as_bytes(&self) -> &'a [u8]
         ensures bytes { result.now ≡ entry_bytes (entry_of self.now) }
         ensures entry { IsEntry (entry_of self.now) }
@@ -192,9 +193,9 @@ impl<'a> LoadOption<'a> {
         self.attributes / 256 % 32
     }
 
-    /// Returns the description as a string in its own memory. Refused as
-    /// [`UnalignedSlice::to_cstring16`] refuses its units: if it holds a surrogate, and then as
-    /// `OutOfMemory`. One allocation.
+    /// Returns the description as a string in its own memory. Fails as
+    /// [`UnalignedSlice::to_cstring16`] does for its units: with `InvalidChar` if it contains a
+    /// surrogate, and otherwise with `OutOfMemory` if memory runs out. Allocates once.
     ///
     /// ```rust
     /// let option = LoadOption::from_bytes(b"\x01\0\0\0\x04\0a\0\0\0\x7f\xff\x04\0")?;
@@ -214,9 +215,9 @@ impl<'a> LoadOption<'a> {
         self.description_units().to_cstring16(alloc)
     }
 
-    /// Returns the description in UTF-8: each pair of surrogates is one character, and U+FFFD
-    /// stands for each surrogate without a partner (Unicode Standard, section 3.9), so that nothing
-    /// is refused but memory. Takes memory for the units, and for the text as it grows.
+    /// Returns the description in UTF-8. Each pair of surrogates is one character, and each
+    /// surrogate without a partner becomes U+FFFD (Unicode Standard, section 3.9), so that the call
+    /// fails only if memory runs out. Allocates for the units, and for the text as it grows.
     ///
     /// ```rust
     /// let option = LoadOption::from_bytes(b"\x01\0\0\0\x04\0a\0\0\xd8\0\0\x7f\xff\x04\0")?;
@@ -229,8 +230,8 @@ impl<'a> LoadOption<'a> {
         String::from_utf16_lossy(alloc, &units[..units.len() - 1])
     }
 
-    /// Returns the code units of the description, its NUL included, wherever they lie. They may
-    /// contain surrogates: [`UnalignedSlice::to_cstr16`] and its neighbours say whether they are a
+    /// Returns the code units of the description, including its NUL, at any address. They may
+    /// contain surrogates: [`UnalignedSlice::to_cstr16`] and similar calls check whether they are a
     /// string.
     ///
     /// ```rust
@@ -251,7 +252,7 @@ impl<'a> LoadOption<'a> {
         self.list
     }
 
-    /// Returns the device paths of the file path list, in order.
+    /// Returns an iterator over the device paths of the file path list, in order.
     ///
     /// ```rust
     /// let option = LoadOption::from_bytes(b"\x01\0\0\0\x09\0a\0\0\0\x03\x1a\x05\0\x01\x7f\xff\x04\0")?;
@@ -274,8 +275,8 @@ impl<'a> LoadOption<'a> {
     }
 
     /// Returns the code units that the bytes after the file path list encode, two bytes for each,
-    /// the low byte first: a command line, where the loader takes one. `None` exactly if the number
-    /// of bytes is odd. The units may hold NULs and surrogates.
+    /// the low byte first: a command line, if the loader takes one. `None` exactly if the number of
+    /// bytes is odd. The units may contain NULs and surrogates.
     ///
     /// ```rust
     /// let option = LoadOption::from_bytes(b"\x01\0\0\0\x04\0a\0\0\0\x7f\xff\x04\0q\0\0\0")?;
@@ -336,7 +337,7 @@ impl<'a> fmt::Debug for LoadOption<'a> {
     }
 }
 
-/// [`LoadOption::from_bytes`] of the bytes.
+/// Does what [`LoadOption::from_bytes`] does.
 impl<'a> TryFrom<&'a [u8]> for LoadOption<'a> {
     type Error = LoadOptionError;
 

@@ -1,4 +1,4 @@
-//! What is well in bytes that are not a load option.
+//! The well-formed parts of bytes that are not a load option.
 #![tactic(auto, unfolding(crate::specs::Views::parts_of))]
 
 ghost use Rattle.std.specs.Prelude.{◌≡◌, ◌+◌, ◌<◌, ◌^◌, [], All, MatchOption, None, Some, length};
@@ -20,8 +20,8 @@ use crate::path_text::PathText;
 use uefi_field_texts::forms::{AllowShortcuts, DisplayOnly};
 use uefi_text::UnalignedSlice;
 
-/// What is well in bytes that are not a load option, up to the first fault, and that fault. A contract sees
-/// it as `parts_of` it.
+/// The well-formed parts of bytes that are not a load option, up to the first fault, and that
+/// fault. A contract sees it as `parts_of` it.
 ///
 /// ```rust
 /// let bytes = b"\x01\0\0\0\x09\0a\0\0\0\x7f\xff\x04\0\x03\x1a\x05\0\x01";
@@ -127,7 +127,7 @@ impl<'a> LoadOptionParts<'a> {
         }
     }
 
-    /// Returns what is wrong first, and where.
+    /// Returns the first fault, with its offset.
     pub fn error(&self) -> LoadOptionError
         ensures { result ≡ (parts_of self.now).error }
     {
@@ -151,7 +151,7 @@ impl<'a> LoadOptionParts<'a> {
         self.description
     }
 
-    /// Returns the whole device paths before the fault.
+    /// Returns an iterator over the whole device paths before the fault.
     pub fn device_paths(&self) -> DevicePaths<'a>
         ensures same { paths_left result ≡ (parts_of self.now).paths }
         ensures are_paths { ArePaths (paths_left result) }
@@ -161,7 +161,7 @@ impl<'a> LoadOptionParts<'a> {
         DevicePaths::of(self.paths)
     }
 
-    /// Returns the nodes before the fault, of the device path in which it lies.
+    /// Returns an iterator over the nodes before the fault, in the device path that contains it.
     pub fn node_iter(&self) -> DevicePathNodeIterator<'a>
         ensures same { nodes_left result ≡ (parts_of self.now).nodes }
         ensures inner { All IsInner (nodes_left result) }
@@ -171,7 +171,7 @@ impl<'a> LoadOptionParts<'a> {
         DevicePathNodeIterator::of(self.nodes)
     }
 
-    /// Returns what is printed of these nodes, as
+    /// Returns a value that prints these nodes, as
     /// [`DevicePath::display`](crate::DevicePath::display) prints a path.
     ///
     /// ```rust

@@ -1,4 +1,5 @@
-//! Device paths beside others: which begin with others, which are short, and which devices they name.
+//! Comparisons of device paths: which paths begin with others, which are short forms, and which
+//! devices they name.
 #![tactic(auto)]
 
 ghost use Rattle.std.specs.Prelude.{◌≡◌, ◌↔◌, ◌++◌, ◌∷◌, [], IsTrue, List, MatchOption};
@@ -11,8 +12,8 @@ use crate::device_path::DevicePath;
 use uefi_device_nodes::DevicePathNode;
 use uefi_device_nodes::media::HardDrive;
 
-/// What a short-form device path begins with: such a path leaves out where the device is, and firmware looks
-/// for it (UEFI Specification 2.10, section 3.1.2).
+/// The first node of a short-form device path. Such a path leaves out where the device is, and
+/// firmware looks for the device (UEFI Specification 2.10, section 3.1.2).
 #[derive(Clone, Copy, Debug, PartialEq, Eq)]
 pub enum ShortForm {
     /// A partition, by its number and signature: `HD(..)`.
@@ -27,7 +28,7 @@ pub enum ShortForm {
     Uri,
 }
 
-/// The short form that a path has if this is its first node.
+/// Returns the short form of a path with this first node.
 fn form_of(node: DevicePathNode<'_>) -> Option<ShortForm>
     ensures { result ≡ short_form_of (node_of node.entry) }
 {
@@ -41,7 +42,7 @@ fn form_of(node: DevicePathNode<'_>) -> Option<ShortForm>
     }
 }
 
-/// Whether two nodes name one partition.
+/// Returns whether two nodes name the same partition.
 fn name_one_partition(node: DevicePathNode<'_>, other: DevicePathNode<'_>) -> bool
     ensures { IsTrue result ↔ NameOnePartition (node_of node.entry) (node_of other.entry) }
 {
@@ -53,21 +54,22 @@ fn name_one_partition(node: DevicePathNode<'_>, other: DevicePathNode<'_>) -> bo
         && drive.partition_signature() == other.partition_signature()
 }
 
-/// Whether two nodes are equal.
+/// Returns whether two nodes are equal.
 fn are_equal(node: DevicePathNode<'_>, other: DevicePathNode<'_>) -> bool
     ensures { IsTrue result ↔ (node_of node.entry ≡ node_of other.entry) }
 {
     node.as_bytes() == other.as_bytes()
 }
 
-/// Whether two paths have the same nodes.
+/// Returns whether two paths have the same nodes.
 fn have_same_nodes(path: DevicePath<'_>, other: DevicePath<'_>) -> bool
     ensures { IsTrue result ↔ (nodes_of path.entry ≡ nodes_of other.entry) }
 {
     path.as_bytes() == other.as_bytes()
 }
 
-/// Whether the first node of a short form names the device, the file or the resource that a node names.
+/// Returns whether the first node of a short form names the same device, file or resource as a
+/// node.
 fn is_named(first: DevicePathNode<'_>, node: DevicePathNode<'_>) -> bool
     ensures { IsTrue result ↔ Names (node_of first.entry) (node_of node.entry) }
 {
@@ -99,7 +101,7 @@ impl<'a> DevicePath<'a> {
     }
 
     /// Returns the path without the nodes of another at its start, or `None` if it does not begin
-    /// with them.
+    /// with these nodes.
     ///
     /// ```rust
     /// let path = DevicePathBuf::from_text(rt.alloc(), "PciRoot(0x0)/Pci(0x1F,0x2)")?;
@@ -134,7 +136,7 @@ impl<'a> DevicePath<'a> {
         self.strip_prefix(prefix).is_some()
     }
 
-    /// Returns the short form that the path has, by its first node, or `None` for any other path.
+    /// Returns the kind of short form of the path, by its first node, or `None` for any other path.
     ///
     /// ```rust
     /// let path = DevicePathBuf::from_text(rt.alloc(), r"\efi\a.efi")?;
@@ -149,12 +151,13 @@ impl<'a> DevicePath<'a> {
         form_of(first)
     }
 
-    /// Returns whether this full path is one that a short form stands for: nodes that say where the
-    /// device is, then a node that the first one of the short form names, and then the same nodes.
+    /// Returns whether this full path is an expansion of a short form: nodes that say where the
+    /// device is, then a node that the first node of the short form names, and then the rest of the
+    /// short form.
     ///
-    /// A partition is named by its number, the type of its signature and its signature; a file and a URI by
-    /// an equal node. No path is the expansion of a short form of a USB device: its nodes don't say which
-    /// class or serial number the device has.
+    /// A partition is named by its number, the type of its signature and its signature; a file and
+    /// a URI by an equal node. No path is the expansion of a short form of a USB device, because
+    /// its nodes don't say which class or serial number the device has.
     ///
     /// ```rust
     /// let short = DevicePathBuf::from_text(rt.alloc(), r"HD(1,MBR,0x76543210,0x3F,0x1000)/\a.efi")?;

@@ -9,8 +9,8 @@ ghost use Rattle.std.specs.Iterator.{YieldsFirstBy, item_count};
 
 use uefi_device_nodes::DevicePathNode;
 
-/// The nodes of a device path or an instance, in order. A contract sees it as `nodes_left` of it:
-/// what remains.
+/// An iterator over the nodes of a device path or an instance, in order. A contract sees it as
+/// `nodes_left` of it: the nodes that remain.
 #[derive(Drop)]
 pub struct DevicePathNodeIterator<'a> {
     rest: &'a [u8],
@@ -31,7 +31,7 @@ impl<'a> DevicePathNodeIterator<'a> {
     }
 }
 
-/// Gives them from the front, and then `None` for ever.
+/// Gives the nodes from the front, and then always `None`.
 impl<'a> Iterator for DevicePathNodeIterator<'a> {
     type Item = DevicePathNode<'a>;
 

@@ -1,4 +1,4 @@
-//! Load options that are written, into a caller's buffer or into memory.
+//! Load options that are written to a caller's buffer or to their own memory.
 #![tactic(auto, unfolding(crate::specs::Views::option_entry))]
 
 ghost use Rattle.std.specs.Prelude.{◌≡◌, ◌+◌, ◌*◌, ◌<◌, ◌≤◌, ◌++◌, length, map, IfOk, IfErr, IfSome, IsNone, None, unwrap_or};
@@ -19,7 +19,8 @@ use uefi_text::scan::{find_nul, split};
 /// The longest file path list that the header of a load option can state.
 const LONGEST_LIST: usize = 0xffff;
 
-/// How many bytes device paths have together, or `None` if these are more than a header can state.
+/// Returns the total number of bytes of device paths, or `None` if it is more than a header can
+/// state.
 fn list_length(paths: &[DevicePath<'_>]) -> Option<usize>
     ensures len { IfSome result (λ len. len ≡ length (list_bytes (map nodes_of paths.now))) }
     ensures within { IfSome result (λ len. len ≤ 0xffff) }
@@ -76,8 +77,8 @@ fn put_paths(bytes: &mut [u8], paths: &[DevicePath<'_>])
     }
 }
 
-/// The fields of a load option that is written (UEFI Specification 2.10, section 3.1.3). A contract sees
-/// them as `option_entry` them: the load option.
+/// The fields of a load option to write (UEFI Specification 2.10, section 3.1.3). A contract sees
+/// them as `option_entry` of them: the load option.
 #[derive(Clone, Copy)]
 pub struct LoadOptionBuilder<'a> {
     attributes: u32,
@@ -94,9 +95,10 @@ struct Lengths {
 }
 
 impl<'a> LoadOptionBuilder<'a> {
-    /// These fields: the attributes; the code units of the description, without NUL, as
-    /// [`CStr16::to_u16_slice`](uefi_text::CStr16::to_u16_slice) has them; the device paths of the file path
-    /// list, in order; and the bytes after it. Nothing is tested before the load option is written.
+    /// Creates a builder from the attributes; the code units of the description without NUL, for
+    /// example [`CStr16::to_u16_slice`](uefi_text::CStr16::to_u16_slice); the device paths of the
+    /// file path list, in order; and the bytes after it. Nothing is tested before the load option
+    /// is written.
     ///
     /// ```rust
     /// let option = LoadOptionBuilder::new(1, &[0x61], &[], &[]);
@@ -121,7 +123,8 @@ impl<'a> LoadOptionBuilder<'a> {
         }
     }
 
-    /// How long the list and the whole are, where the fields are a load option that can be written.
+    /// Returns the lengths of the list and of the whole, if the fields are a load option that can
+    /// be written.
     fn lengths(&self) -> Result<Lengths, OptionBuildError>
         ensures list { IfOk result (λ lengths.
             lengths.list ≡ length (list_bytes (option_entry self.now).paths)) }
@@ -147,7 +150,7 @@ impl<'a> LoadOptionBuilder<'a> {
         }
     }
 
-    /// Writes the load option into as many bytes as it has.
+    /// Writes the load option into exactly as many bytes.
     fn put(&self, bytes: &mut [u8], list: usize)
         requires list { list ≡ length (list_bytes (option_entry self.now).paths) }
         requires stated { list ≤ 0xffff }
@@ -163,14 +166,15 @@ impl<'a> LoadOptionBuilder<'a> {
         copy_bytes(optional, self.optional);
     }
 
-    /// Writes the load option to the start of a buffer, and returns how many bytes it has. The rest
-    /// of the buffer is unchanged. [`LoadOption::from_bytes`](crate::LoadOption::from_bytes) of
-    /// these bytes gives the same fields, and the fields of what it gave are written as the same
-    /// bytes.
+    /// Writes the load option to the start of a buffer, and returns its length in bytes. The rest
+    /// of the buffer is unchanged. [`LoadOption::from_bytes`](crate::LoadOption::from_bytes) reads
+    /// the same fields from these bytes, and the fields that it reads from any load option are
+    /// written as the same bytes.
     ///
-    /// Refused for the first of these: a NUL in the description, no device path, a file path list
-    /// of more than 65,535 bytes, a length that is no `usize`, and a buffer of fewer bytes, with
-    /// the length that it needs. The buffer is then unchanged. Does not allocate.
+    /// Fails for the first of these faults: a NUL in the description, no device path, a file path
+    /// list of more than 65,535 bytes, a length that does not fit in a `usize`, and a buffer that
+    /// is too small, with the length that it needs. The buffer is then unchanged. Does not
+    /// allocate.
     ///
     /// ```rust
     /// let path = DevicePathBuf::new(rt.alloc())?;
@@ -197,9 +201,9 @@ impl<'a> LoadOptionBuilder<'a> {
         Ok(lengths.whole)
     }
 
-    /// Returns the bytes of the load option, in their own memory. Refused as
-    /// [`LoadOptionBuilder::write`] refuses the fields, and then as `OutOfMemory`. One allocation,
-    /// of the size of the load option.
+    /// Returns the bytes of the load option, in their own memory. Fails as
+    /// [`LoadOptionBuilder::write`] does for the fields, and otherwise with `OutOfMemory` if memory
+    /// runs out. Allocates once, with the size of the load option.
     ///
     /// ```rust
     /// let path = DevicePathBuf::from_text(rt.alloc(), "SD(0x1)")?;

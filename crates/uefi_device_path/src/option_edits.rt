@@ -1,4 +1,4 @@
-//! Load options of which one field is replaced.
+//! Load options with one field replaced.
 #![tactic(auto)]
 
 ghost use Rattle.std.specs.Prelude.{◌≡◌, ◌↔◌, ◌+◌, ◌*◌, ◌<◌, ◌≤◌, ◌^◌, ◌++◌, drop, length, IfOk, IfErr, IsOk, None, OnErr, OnOk};
@@ -19,7 +19,7 @@ use crate::option_builder::put_description;
 use uefi_device_nodes::build_node::copy_bytes;
 use uefi_text::CStr16;
 
-/// Whether bytes are a load option.
+/// Checks that bytes are a load option.
 fn check_option(bytes: &[u8]) -> Result<(), LoadOptionError>
     ensures accepts { IsOk result
         ↔ ((entry : Entry) × IsEntry entry × (bytes.now ≡ entry_bytes entry)) }
@@ -33,7 +33,7 @@ fn check_option(bytes: &[u8]) -> Result<(), LoadOptionError>
     }
 }
 
-/// Writes attributes over those that bytes begin with.
+/// Writes attributes over the attributes at the start of bytes.
 fn put_attributes(bytes: &mut [u8], attributes: u32)
     requires { 4 ≤ length bytes.now }
     ensures { bytes.new ≡ four_bytes attributes ++ drop 4 bytes.old }
@@ -47,9 +47,9 @@ fn put_attributes(bytes: &mut [u8], attributes: u32)
     ]);
 }
 
-/// Replaces the attributes of the load option that the bytes are. All other bytes are unchanged.
+/// Replaces the attributes of a load option in its bytes. All other bytes are unchanged.
 ///
-/// Fails as [`LoadOption::from_bytes`] does; the bytes are then unchanged. Allocates nothing.
+/// Fails as [`LoadOption::from_bytes`] does; the bytes are then unchanged. Does not allocate.
 ///
 /// ```rust
 /// let mut bytes = *b"\x01\0\0\0\x04\0a\0\0\0\x7f\xff\x04\0";
@@ -74,7 +74,7 @@ pub fn set_attributes(bytes: &mut [u8], attributes: u32) -> Result<(), LoadOptio
     Ok(())
 }
 
-/// Writes the header of a load option, a description, and what stands after the description.
+/// Writes the header of a load option, a description, and the bytes after the description.
 fn put_parts(bytes: &mut [u8], header: &[u8], units: &[u16], rest: &[u8])
     requires header { length header.now ≡ 6 }
     requires whole { length bytes.now ≡ 8 + 2 * length units.now + length rest.now }
@@ -88,7 +88,7 @@ fn put_parts(bytes: &mut [u8], header: &[u8], units: &[u16], rest: &[u8])
 }
 
 impl<'a> LoadOption<'a> {
-    /// The bytes after the description.
+    /// Returns the bytes after the description.
     fn after_description(&self) -> &'a [u8]
         ensures bytes { result.now ≡ drop (8 + 2 * length (entry_of self.now).description)
             (entry_bytes (entry_of self.now)) }
@@ -99,7 +99,7 @@ impl<'a> LoadOption<'a> {
         rest
     }
 
-    /// The number of bytes of the load option with another description.
+    /// Returns the number of bytes of the load option with another description.
     fn described_len(&self, units: &[u16]) -> usize
         ensures { result ≡ length (entry_bytes (with_description units.now (entry_of self.now))) }
     {
@@ -107,7 +107,7 @@ impl<'a> LoadOption<'a> {
         8 + 2 * units.len() + rest.len()
     }
 
-    /// Writes the load option with another description into as many bytes as it has.
+    /// Writes the load option with another description into exactly as many bytes.
     fn put_described(&self, bytes: &mut [u8], units: &[u16])
         requires { length bytes.now
             ≡ length (entry_bytes (with_description units.now (entry_of self.now))) }
@@ -119,12 +119,12 @@ impl<'a> LoadOption<'a> {
         put_parts(bytes, header, units, rest);
     }
 
-    /// Writes the load option with another description to the start of a buffer, and returns how
-    /// many bytes it then has. All other fields keep their bytes. What follows the load option in
-    /// the buffer is unchanged.
+    /// Writes the load option with another description to the start of a buffer, and returns the
+    /// number of bytes that it then has. All other fields keep their bytes. The rest of the buffer
+    /// is unchanged.
     ///
-    /// Fails only with `BufferTooSmall`, which holds that length, if the buffer has fewer bytes; the
-    /// buffer is then unchanged. Allocates nothing.
+    /// Fails only with `BufferTooSmall` and that length, if the buffer has fewer bytes; the buffer
+    /// is then unchanged. Does not allocate.
     ///
     /// ```rust
     /// let option = LoadOption::from_bytes(b"\x01\0\0\0\x04\0a\0\0\0\x7f\xff\x04\0")?;

@@ -1,4 +1,4 @@
-//! Device paths that lie packed, one after the other.
+//! Device paths that are packed one after the other.
 #![tactic(auto, unfolding(crate::specs::Views::paths_left))]
 
 ghost use Rattle.std.specs.Prelude.{◌≡◌, ◌≤◌, ◌<◌, ◌^◌, ◌↔◌, length, IsOk, OnOk, IfErr};
@@ -12,19 +12,19 @@ use crate::device_path::DevicePath;
 use crate::errors::DevicePathError;
 use uefi_device_nodes::node::fault_place;
 
-/// Where bytes stop being device paths, and why.
+/// The offset at which bytes stop being device paths, and the reason.
 #[derive(Clone, Copy)]
 pub(crate) struct ListFault<'a> {
     /// The whole paths before the fault.
     pub(crate) paths: &'a [u8],
-    /// The nodes before the fault, of the path in which it lies.
+    /// The nodes before the fault, in the path that contains it.
     pub(crate) nodes: &'a [u8],
     pub(crate) error: DevicePathError,
     pub ghost packed: { ArePacked paths.now },
     pub ghost are_nodes: { AreNodes nodes.now },
 }
 
-/// Looks for the first fault of bytes that should be one device path or more, and nothing else.
+/// Finds the first fault of bytes that should be one or more device paths, and nothing else.
 pub(crate) fn find_fault(bytes: &[u8]) -> Result<(), ListFault<'_>>
     ensures ok { OnOk result (IsPathList bytes.now) }
     ensures refusal { IfErr result (λ fault. ListRefusedFor bytes.now fault.error) }
@@ -56,10 +56,10 @@ pub(crate) fn find_fault(bytes: &[u8]) -> Result<(), ListFault<'_>>
     }
 }
 
-/// Whether bytes are one device path or more, and nothing else.
+/// Checks that bytes are one or more device paths, and nothing else.
 ///
-/// Fails at the first path that is malformed with the error of [`DevicePath::split_first`], whose
-/// offset counts from the first byte of all. Does not allocate.
+/// Fails at the first malformed path with the error of [`DevicePath::split_first`], except that the
+/// offset counts from the first of all bytes. Does not allocate.
 ///
 /// ```rust
 /// assert_eq!(rt; check_paths(&[0x7f, 0xff, 4, 0, 0x7f, 0xff, 4, 0]), Ok(()));
@@ -80,7 +80,8 @@ pub fn check_paths(bytes: &[u8]) -> Result<(), DevicePathError>
     }
 }
 
-/// Device paths that lie packed, in order. A contract sees it as `paths_left` of it: what remains.
+/// An iterator over packed device paths, in order. A contract sees it as `paths_left` of it: the
+/// paths that remain.
 #[derive(Drop)]
 pub struct DevicePaths<'a> {
     rest: &'a [u8],
@@ -101,7 +102,7 @@ impl<'a> DevicePaths<'a> {
     }
 }
 
-/// Gives them from the front, and then `None` for ever.
+/// Gives the paths from the front, and then always `None`.
 impl<'a> Iterator for DevicePaths<'a> {
     type Item = DevicePath<'a>;
 

@@ -1,4 +1,4 @@
-//! Device paths read from their texts.
+//! Device paths that are read from their texts.
 #![tactic(auto)]
 
 ghost use Rattle.std.specs.Prelude.{◌≡◌, ℕ, ◌<◌, ◌-◌, ◌^◌, min, true, false, if◌then◌else◌, ◌∷◌, ◌++◌, [], List, length, drop, IfOk, IfErr, MatchOption, OnOk, Err, Some};
@@ -20,11 +20,11 @@ use uefi_node_reader::styles::TextStyle;
 use uefi_text::number_texts::put_decimal;
 use uefi_text::text_sink::{Printed, TextSink, print};
 
-/// Why a text is not read as a device path.
+/// The reason why a text is not read as a device path.
 #[derive(Clone, Copy, Debug, PartialEq, Eq)]
 pub enum PathTextError {
-    /// A node has to begin at this byte, and none does: no text of a node stands here that `/`, `,` or the
-    /// end of the text follows.
+    /// A node must begin at this byte, and none does: there is no text of a node here that is
+    /// followed by `/`, `,` or the end of the text.
     NoNode(usize),
     /// Memory ran out.
     OutOfMemory,
@@ -53,7 +53,8 @@ impl fmt::Display for PathTextError {
 
 impl Error for PathTextError {}
 
-/// The path whose text bytes are, in memory that is asked for once they are known to be the text of one.
+/// Returns the path of a text, given as bytes. Allocates after the bytes are known to be the text
+/// of a path.
 fn read_path<A: Allocator + Copy>(alloc: A, text: &[u8]) -> Result<DevicePathBuf<A>, PathTextError>
     ensures told { IfOk result (λ path. AreTold path) }
     ensures ok { IfOk result (λ path. nodes_text false false path ≡ text.now) }
@@ -71,8 +72,8 @@ impl<A: Allocator + Copy> DevicePathBuf<A> {
     /// Reads a path from its text, as it is printed to be read back, without shorter names (UEFI
     /// Specification 2.10, section 10.6.1).
     ///
-    /// The text is judged first: `NoNode` has the byte at which it stops being the text of a path. Then the
-    /// call allocates once, for the whole path, and fails with `OutOfMemory` only there.
+    /// Checks the text first: fails with `NoNode` and the byte at which it stops being the text of
+    /// a path. Then allocates once, for the whole path, and fails with `OutOfMemory` only there.
     ///
     /// ```rust
     /// let path = DevicePathBuf::from_text(rt.alloc(), "PciRoot(0x0)/Pci(0x1F,0x2)")?;

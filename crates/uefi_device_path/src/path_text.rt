@@ -1,4 +1,4 @@
-//! Device paths as people read them.
+//! Device paths as text for people.
 #![tactic(auto, using(uefi_text::proofs::Puts::puts), unfolding(crate::specs::Views::printed_path))]
 
 ghost use Rattle.std.specs.Fmt.{WritesInCalls};
@@ -13,7 +13,7 @@ use std::fmt;
 use uefi_device_nodes::{AllowShortcuts, DevicePathNode, DisplayOnly};
 use uefi_text::text_sink::{Printed, TextSink, print};
 
-/// The first of the nodes that bytes are, and the bytes of the others.
+/// Returns the first of some nodes, given as bytes, and the bytes of the others.
 fn cut_node(bytes: &[u8]) -> (DevicePathNode<'_>, &[u8])
     requires are_nodes { AreNodes bytes.now }
     requires some { length bytes.now ≢ 0 }
@@ -27,7 +27,7 @@ fn cut_node(bytes: &[u8]) -> (DevicePathNode<'_>, &[u8])
 /// How nodes are printed.
 #[derive(Clone, Copy)]
 enum Form {
-    /// As the UEFI Specification has them.
+    /// As the UEFI Specification defines them.
     Specified(DisplayOnly, AllowShortcuts),
     /// As libefivar prints them.
     Libefivar,
@@ -45,7 +45,7 @@ fn put_node<S: TextSink>(sink: &mut S, form: Form, node: DevicePathNode<'_>)
     }
 }
 
-/// Puts the nodes that bytes are, with a slash between each two.
+/// Puts nodes, given as bytes, with a slash between each two.
 fn put_instance<S: TextSink>(sink: &mut S, form: Form, bytes: &[u8])
     requires { AreNodes bytes.now }
     ensures { WritesInCalls S.puts sink.old (instance_text_in form (nodes_in bytes.now)) sink.new }
@@ -64,7 +64,7 @@ fn put_instance<S: TextSink>(sink: &mut S, form: Form, bytes: &[u8])
     }
 }
 
-/// Puts the instances of the nodes that bytes are, with a comma between each two.
+/// Puts the instances of nodes, given as bytes, with a comma between each two.
 fn put_path<S: TextSink>(sink: &mut S, form: Form, bytes: &[u8])
     requires { AreNodes bytes.now }
     ensures { WritesInCalls S.puts sink.old (path_text_in form (nodes_in bytes.now)) sink.new }
@@ -80,7 +80,8 @@ fn put_path<S: TextSink>(sink: &mut S, form: Form, bytes: &[u8])
     }
 }
 
-/// What is printed of a device path. A contract sees it as `printed_path` of it: the text, in UTF-8.
+/// A value that prints a device path. A contract sees it as `printed_path` of it: the text, in
+/// UTF-8.
 #[derive(Clone, Copy)]
 pub struct PathText<'a> {
     bytes: &'a [u8],
@@ -120,7 +121,7 @@ impl<'a> PathText<'a> {
     }
 }
 
-/// The text.
+/// Puts the text.
 impl<'a> Printed for PathText<'a> {
     ghost use Rattle.uefi_device_path.specs.Views.{printed_path};
 

@@ -1,4 +1,4 @@
-//! Device paths read from texts in a style.
+//! Device paths that are read from texts in a style.
 #![tactic(auto)]
 
 ghost use Rattle.std.specs.Prelude.{take, true, false, if◌then◌else◌, drop, ◌++◌, ◌∷◌, ◌≡◌, ◌+◌, ◌-◌, ◌<◌, ◌≤◌, ◌^◌, min, [], List, IfOk, IfErr, MatchOption, OnOk, Err, length};
@@ -26,7 +26,7 @@ use uefi_node_reader::styles::{
 };
 use uefi_node_reader::text_node::TextNode;
 
-/// The node that ends an instance.
+/// Returns the node that ends an instance.
 fn instance_end() -> RawNode<'static>
     ensures { raw_node result ≡ end_instance }
 {
@@ -61,7 +61,7 @@ impl BuildNode for ReadNode<'_> {
     }
 }
 
-/// What stands after a comma that a text begins with, or `None`.
+/// Returns the text after a comma at the start of a text, or `None`.
 pub(crate) fn after_comma(text: &[u8]) -> Option<&[u8]>
     requires { 0 < length text.now }
     ensures { MatchOption result (is_after_instance text.now ≡ false) (λ rest. text.now ≡ 44 ∷ rest.now) }
@@ -72,7 +72,8 @@ pub(crate) fn after_comma(text: &[u8]) -> Option<&[u8]>
     }
 }
 
-/// Where a node has to begin: at the start of an instance here, else after the slash that stands here.
+/// Returns the text at which a node must begin: this text at the start of an instance, and
+/// otherwise the text after the slash at its start.
 pub(crate) fn node_start(at_start: bool, text: &[u8]) -> &[u8]
     requires { 0 < length text.now }
     ensures { result.now ≡ (if at_start then text.now else drop 1 text.now) }
@@ -80,15 +81,16 @@ pub(crate) fn node_start(at_start: bool, text: &[u8]) -> &[u8]
     if at_start { text } else { &text[1..] }
 }
 
-/// Whether what is left of a text stands after a comma: a file's name begins with a backslash there.
+/// Returns whether the rest of a text comes directly after a comma: a file's name begins with a
+/// backslash there.
 fn follows_comma(text: &[u8], rest: &[u8]) -> bool
     ensures { result ≡ follows_comma text.now rest.now }
 {
     rest.len() < text.len() && text[text.len() - rest.len() - 1] == b','
 }
 
-/// The node that is read in a style where this place of a text begins, and what stands after it, or the
-/// fault of the place. The buffer then holds anything.
+/// Returns the node that is read in a style at the start of this text, and the text after it, or
+/// the fault. Afterwards the contents of the buffer are unspecified.
 pub(crate) fn first_styled_node<'s, 't: 's>(
     style: TextStyle,
     scratch: &'s mut [u8],
@@ -103,7 +105,7 @@ pub(crate) fn first_styled_node<'s, 't: 's>(
     Ok((ReadNode { node }, rest))
 }
 
-/// The fault of a text, by that of this rest, where no node is read.
+/// Returns the fault of a text, given the fault of this rest, at which no node is read.
 fn fault_at(text: &[u8], rest: &[u8], found: NodeFault) -> TextFault
     requires rest { length rest.now ≤ length text.now }
     requires byte { found.byte ≤ length rest.now }
@@ -164,7 +166,7 @@ pub(crate) fn put_text(
     Ok(end)
 }
 
-/// The path that a text is read as, in memory that is asked for once the text is known to be read.
+/// Returns the path that a text is read as. Allocates after the text is known to be readable.
 pub(crate) fn read_styled_path<A: Allocator + Copy>(
     style: TextStyle,
     alloc: A,

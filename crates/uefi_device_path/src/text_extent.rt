@@ -1,4 +1,4 @@
-//! How far the path goes that a text begins with, where something else follows it.
+//! The end of the path at the start of a text, if something else follows it.
 #![tactic(auto)]
 
 ghost use Rattle.std.specs.Prelude.{◌≡◌};
@@ -12,7 +12,7 @@ use crate::styled_reader::put_text;
 use std::alloc::Allocator;
 use uefi_node_reader::styles::TextStyle;
 
-/// Whether a node should end there.
+/// Returns whether a node should end there.
 fn is_end(expected: Expected) -> bool
     ensures { result ≡ is_end expected }
 {
@@ -22,11 +22,11 @@ fn is_end(expected: Expected) -> bool
     }
 }
 
-/// Returns how many bytes of a text are the path that it begins with, read in a style, or the fault
-/// of the text. The buffer then holds anything.
+/// Returns the number of bytes at the start of a text that are a path in a style, or the fault of
+/// the text. Afterwards the contents of the buffer are unspecified.
 ///
-/// Hidden: the library for C calls it, and nothing promises that it stays. Other callers have
-/// [`lenient_text_extent`] and [`libefivar_text_extent`].
+/// Hidden: the C library calls it, and it may change. Other callers use [`lenient_text_extent`] and
+/// [`libefivar_text_extent`].
 #[doc(hidden)]
 pub fn styled_text_extent(
     style: TextStyle,
@@ -36,7 +36,7 @@ pub fn styled_text_extent(
     requires { HasScratch style text.now scratch.old }
     ensures { result ≡ text_extent style text.now }
 {
-    // The law says that the wrong byte lies in the text, or at its end.
+    // The law says that the wrong byte is in the text, or at its end.
     styled_texts();
     let fault = match put_text(style, &mut [], 4, text, scratch) {
         Ok(_) => return Ok(text.len()),
@@ -51,7 +51,7 @@ pub fn styled_text_extent(
     }
 }
 
-/// The same, with memory for the buffer.
+/// Does what [`styled_text_extent`] does, and allocates the buffer.
 fn extent_in<A: Allocator + Copy>(
     style: TextStyle,
     alloc: A,
@@ -69,14 +69,14 @@ fn extent_in<A: Allocator + Copy>(
     }
 }
 
-/// Returns how many bytes of a text are the path that it begins with, as people write it, where
+/// Returns the number of bytes at the start of a text, as people write it, that are a path, if
 /// other text may follow: programs such as efibootmgr print optional data directly after the last
 /// node.
 ///
-/// The path is all of the text if [`DevicePathBuf::from_lenient_text`](crate::DevicePathBuf) reads that. If
-/// the call refuses the text at a byte where a node should end, the path is what stands before this byte.
-/// Any other text is refused as by that call. Allocates one byte more than the text has, for copies, before
-/// the text is judged.
+/// The path is the whole text if [`DevicePathBuf::from_lenient_text`](crate::DevicePathBuf) reads
+/// it. If that call refuses the text at a byte where a node should end, the path is the text before
+/// this byte. For any other text, fails as that call does. Allocates one byte more than the text
+/// has, for copies, before the text is checked.
 ///
 /// ```rust
 /// let text = r"HD(1,MBR,0x12345678)/File(\a.efi)RC";
@@ -92,8 +92,8 @@ pub fn lenient_text_extent<A: Allocator + Copy>(
     extent_in(TextStyle::Lenient, alloc, text)
 }
 
-/// The same of a text that libefivar and efibootmgr print, as
-/// [`DevicePathBuf::from_libefivar_text`](crate::DevicePathBuf) reads it.
+/// Does what [`lenient_text_extent`] does for a text that libefivar and efibootmgr print, which
+/// [`DevicePathBuf::from_libefivar_text`](crate::DevicePathBuf) reads.
 ///
 /// ```rust
 /// let end = libefivar_text_extent(rt.alloc(), "NVMe(0x1,00-25-38-5B-71-B0-03-1C)..BO")?;

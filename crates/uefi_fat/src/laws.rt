@@ -2,16 +2,17 @@
 //! cite. Each law is a function that does nothing: its contract is the law.
 ghost use Rattle.uefi_fat.specs.Laws.{FatNamesOfOneFile, IsBetweenTrimmed, NeitherEndIsTrimmed, SameFileAsTrimmed, SameFileIsEquivalence, SameFileWhereTrimmedSame, SameFileWithoutCase, ShortNamesAreFatNames, TrimmedOnce};
 
-/// What is trimmed off a name are spaces before it, and spaces and dots after it, and all of them; and
-/// trimming once is enough.
+/// Trimming removes exactly the spaces at the start of a name, and the spaces and dots at its end.
+/// Trimming once is enough.
 pub fn trimming()
     ensures between { IsBetweenTrimmed }
     ensures ends { NeitherEndIsTrimmed }
     ensures once { TrimmedOnce }
 {}
 
-/// Being of one file is an equivalence. It holds of a name and its trimmed part, and of names that
-/// are the same without case. A file can have either both of such names or neither.
+/// Naming the same file is an equivalence. It holds for a name and its trimmed part, and for names
+/// that are the same without case. Of two names for the same file, a file can have either both or
+/// neither.
 pub fn one_file()
     ensures equivalence { SameFileIsEquivalence }
     ensures same { SameFileWhereTrimmedSame }

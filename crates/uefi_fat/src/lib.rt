@@ -3,10 +3,10 @@
 //! allocates.
 //!
 //! The file system trims a name before it looks for the file: spaces at the start, and spaces and
-//! dots at the end. It compares names without case. So `BOOT`, `boot.` and ` Boot ` name one file,
-//! which [`same_fat_file`] says. [`check_fat_name`] says whether a file can have a name, and why
-//! not. [`is_short_name`] is the test for the 8.3 names that old directory entries hold, and
-//! [`str_to_fat`] and [`fat_to_str`] go between these and strings.
+//! dots at the end. It compares names without case. So `BOOT`, `boot.` and ` Boot ` name the same
+//! file, which [`same_fat_file`] tests. [`check_fat_name`] says whether a file can have a name, and
+//! why not. [`is_short_name`] is the test for the 8.3 names of old directory entries, and
+//! [`str_to_fat`] and [`fat_to_str`] convert between these names and strings.
 //!
 //! ```rust
 //! use uefi_fat::{check_fat_name, same_fat_file, trimmed};
@@ -21,7 +21,7 @@
 //! assert!(rt; check_fat_name(name).is_ok());
 //! ```
 //!
-//! A contract sees a name as `units_of` it: a list of code units. `specs/` says which part of it
+//! A contract sees a name as `units_of` it: a list of code units. `specs/` defines which part of it
 //! counts.
 #![tactic(auto)]
 

@@ -1,4 +1,5 @@
-//! The part of a name that counts, which names are names of files, and which are names of one file.
+//! The part of a name that counts, the names that files can have, and the names that mean the same
+//! file.
 ghost use Rattle.std.specs.Prelude.{◌≡◌, ◌↔◌, IsOk, IsTrue, find, Some};
 ghost use Rattle.std.specs.List.{prefix_len, suffix_len};
 ghost use Rattle.std.specs.Result.{result_err};
@@ -18,16 +19,16 @@ use uefi_text::text_sink::{Printed, TextSink, print};
 /// The most characters of a name.
 const MOST: usize = 255;
 
-/// Why no file on a FAT volume has a name.
+/// The reason why no file on a FAT volume has a name.
 #[derive(Clone, Copy, Debug, PartialEq, Eq)]
 pub enum FatNameError {
-    /// The trimmed name is empty. So it is of `.` and `..`, which name folders.
+    /// The trimmed name is empty. So are those of `.` and `..`, which name folders.
     Empty,
 
     /// The trimmed name has more than 255 characters.
     TooLong,
 
-    /// The trimmed name holds this character, the first one that no name may hold.
+    /// The trimmed name contains this character, the first that no name may contain.
     IllegalChar(Char16),
 }
 
@@ -60,14 +61,14 @@ impl fmt::Display for FatNameError {
 
 impl Error for FatNameError {}
 
-/// How many units at the start are spaces.
+/// Returns the number of spaces at the start.
 fn spaces_before(units: &[u16]) -> usize
     ensures { result ≡ prefix_len is_space units.now }
 {
     units.iter().take_while(|unit| **unit == 0x20).count()
 }
 
-/// How many units at the end are spaces or dots.
+/// Returns the number of spaces and dots at the end.
 fn ends_after(units: &[u16]) -> usize
     ensures { result ≡ suffix_len is_space_or_dot units.now }
 {
@@ -78,14 +79,14 @@ fn ends_after(units: &[u16]) -> usize
         .count()
 }
 
-/// The name after the spaces at its start.
+/// Returns the name without the spaces at its start.
 fn without_spaces_before<'a>(name: Char16Slice<'a>) -> Char16Slice<'a>
     ensures { units_of result ≡ without_leading is_space (units_of name.entry) }
 {
     name.part(spaces_before(name.units()), name.len())
 }
 
-/// The name before the spaces and dots at its end.
+/// Returns the name without the spaces and dots at its end.
 fn without_ends_after<'a>(name: Char16Slice<'a>) -> Char16Slice<'a>
     ensures { units_of result ≡ without_trailing is_space_or_dot (units_of name.entry) }
 {
@@ -106,7 +107,7 @@ pub fn trimmed<'a>(name: Char16Slice<'a>) -> Char16Slice<'a>
     without_ends_after(without_spaces_before(name))
 }
 
-/// Whether no name may hold the character.
+/// Returns whether no name may contain the character.
 fn is_illegal(character: Char16) -> bool
     ensures { result ≡ is_illegal character }
 {
@@ -116,7 +117,7 @@ fn is_illegal(character: Char16) -> bool
     )
 }
 
-/// The first character that no name may hold.
+/// Returns the first character that no name may contain.
 fn find_illegal(name: Char16Slice<'_>) -> Option<Char16>
     ensures { result ≡ find is_illegal (units_of name.entry) }
 {
@@ -128,7 +129,7 @@ fn find_illegal(name: Char16Slice<'_>) -> Option<Char16>
     None
 }
 
-/// Why a name is refused, if it is.
+/// Returns why a name is refused, if it is.
 fn judge(name: Char16Slice<'_>) -> Option<FatNameError>
     ensures { result ≡ name_refusal (units_of name.entry) }
 {
@@ -166,7 +167,7 @@ pub fn check_fat_name(name: Char16Slice<'_>) -> Result<(), FatNameError>
     }
 }
 
-/// Returns whether a file on a FAT volume can have a name, as [`check_fat_name`] says.
+/// Returns whether a file on a FAT volume can have a name, as [`check_fat_name`] does.
 ///
 /// ```rust
 /// let name = CString16::try_from_str(rt.alloc(), "[1] my file.txt")?;
@@ -180,11 +181,11 @@ pub fn is_fat_name(name: Char16Slice<'_>) -> bool
     check_fat_name(name).is_ok()
 }
 
-/// Returns whether two names mean one file on a FAT volume: their trimmed parts are equal without
-/// case.
+/// Returns whether two names mean the same file on a FAT volume: whether their trimmed parts are
+/// equal without case.
 ///
-/// A file may also have a short name that somebody made up for it, such as `LONGNA~1.TXT`. No name
-/// says which.
+/// A file may also have a short name that the file system made up for it, such as `LONGNA~1.TXT`.
+/// The long name does not determine it.
 ///
 /// ```rust
 /// let name = CString16::try_from_str(rt.alloc(), "shimx64.efi")?;

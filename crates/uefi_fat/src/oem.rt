@@ -16,28 +16,28 @@ use uefi_text::BufferTooSmall;
 use uefi_text::case::upper;
 use uefi_text::strs::Char16Slice;
 
-/// What stands for a character that no short name takes.
+/// The replacement for a character that short names cannot contain.
 const UNDERSCORE: u8 = 0x5f;
 
-/// What [`str_to_fat`] wrote.
+/// The result of [`str_to_fat`].
 #[derive(Clone, Copy, Debug, PartialEq, Eq)]
 pub struct FatBytes {
-    /// How many bytes.
+    /// The number of bytes.
     pub len: usize,
 
-    /// Whether one of them is `_` in place of a character that no short name takes: then the name
-    /// needs to be kept as a long one too.
+    /// Whether one of the bytes is a `_` that replaces a character that short names cannot contain.
+    /// The name then needs a long name too.
     pub is_replaced: bool,
 }
 
-/// Whether a short name leaves the unit out.
+/// Returns whether a short name leaves the unit out.
 fn is_left_out(unit: u16) -> bool
     ensures { result ≡ is_space_or_dot unit }
 {
     unit == 0x20 || unit == 0x2e
 }
 
-/// The byte of a unit.
+/// Returns the byte of a unit.
 fn fat_byte(unit: u16) -> u8
     ensures { result ≡ fat_byte unit }
 {
@@ -49,7 +49,8 @@ fn fat_byte(unit: u16) -> u8
 }
 
 /// Writes units to the start of a buffer in the characters of short names, as [`str_to_fat`] writes
-/// a name. The units may contain surrogates, as names on FAT volumes may: no short name takes one.
+/// a name. The units may contain surrogates, as names on FAT volumes may; short names cannot
+/// contain one.
 ///
 /// ```rust
 /// let mut buffer = [0; 3];
@@ -79,11 +80,11 @@ pub fn units_to_fat(units: &[u16], buffer: &mut [u8]) -> FatBytes
 }
 
 /// Writes a name to the start of a buffer in the characters of short names, as `StrToFat` does:
-/// each character in upper case, or `_` where no short name takes it, and no byte for a space or a
-/// dot.
+/// each character in upper case, or `_` if short names cannot contain it, and no byte for a space
+/// or a dot.
 ///
-/// Ends with the buffer or the name, whichever is first; what is after the bytes is unchanged, and no NUL
-/// is written. [`is_short_name`](crate::is_short_name) has the characters.
+/// Stops at the end of the buffer or of the name, whichever is first. The rest of the buffer is
+/// unchanged, and no NUL is written. [`is_short_name`](crate::is_short_name) lists the characters.
 ///
 /// ```rust
 /// let name = CString16::try_from_str(rt.alloc(), "a+b c.efi")?;
@@ -111,7 +112,7 @@ fn widen(places: &mut [u16], bytes: &[u8])
     }
 }
 
-/// How many bytes are before the first NUL, or how many there are if there is none.
+/// Returns the number of bytes before the first NUL, or the number of all bytes if there is none.
 fn text_len(bytes: &[u8]) -> usize
     ensures len { result ≡ position_or_len is_nul bytes.now }
     ensures within { result ≤ length bytes.now }
@@ -119,11 +120,11 @@ fn text_len(bytes: &[u8]) -> usize
     bytes.iter().take_while(|byte| **byte != 0).count()
 }
 
-/// Writes the string of bytes in the characters of short names to the start of a buffer, as
+/// Writes bytes in the characters of short names as a string to the start of a buffer, as
 /// `FatToStr` does: a unit for each byte before the first NUL, or for each byte if there is none,
-/// and adds a NUL. Returns its length without the NUL. The rest of the buffer is unchanged.
+/// and a NUL. Returns its length without the NUL. The rest of the buffer is unchanged.
 ///
-/// Fails only if the buffer is too small, and then leaves it unchanged. Two passes.
+/// Fails only if the buffer is too small, and then leaves it unchanged. Makes two passes.
 ///
 /// ```rust
 /// let mut buffer = [0xffff; 4];

@@ -1,4 +1,4 @@
-//! The 8.3 names of old directory entries, and which characters they take.
+//! The 8.3 names of old directory entries, and the characters that they can contain.
 ghost use Rattle.std.specs.Prelude.{◌≡◌, ◌<◌, ◌↔◌, IfSome, IsTrue, length, position};
 ghost use Rattle.std.specs.List.{list_all};
 ghost use Rattle.uefi_fat.specs.ShortNames.{IsShortName, IsShortPart, has_case, is_fat_unit, is_short_unit};
@@ -9,7 +9,7 @@ use uefi_text::case::{lower, upper};
 use uefi_text::chars::Char16;
 use uefi_text::strs::Char16Slice;
 
-/// What stands between the base of a short name and its extension.
+/// The dot between the base of a short name and its extension.
 const DOT: u16 = 0x2e;
 
 /// The most characters of a base.
@@ -18,14 +18,14 @@ const MOST_OF_BASE: usize = 8;
 /// The most characters of an extension.
 const MOST_OF_EXTENSION: usize = 3;
 
-/// Whether upper or lower case changes the unit.
+/// Returns whether upper or lower case changes the unit.
 fn has_case(unit: u16) -> bool
     ensures { result ≡ has_case unit }
 {
     upper(unit) != unit || lower(unit) != unit
 }
 
-/// Whether a short name takes the unit, in upper case.
+/// Returns whether short names can contain the unit, in upper case.
 pub(crate) fn is_fat_unit(unit: u16) -> bool
     ensures { result ≡ is_fat_unit unit }
 {
@@ -44,14 +44,14 @@ pub(crate) fn is_fat_unit(unit: u16) -> bool
         )
 }
 
-/// Whether the character stands in short names: they take it, and it is in upper case.
+/// Returns whether short names can contain the character as it is, in upper case.
 fn is_short_character(character: Char16) -> bool
     ensures { result ≡ is_short_unit character }
 {
     is_fat_unit(u16::from(character)) && character.to_uppercase() == character
 }
 
-/// Whether each of the characters stands in short names.
+/// Returns whether short names can contain each of the characters as it is.
 fn are_short_characters(part: Char16Slice<'_>) -> bool
     ensures { result ≡ list_all is_short_unit (units_of part.entry) }
 {
@@ -63,7 +63,8 @@ fn are_short_characters(part: Char16Slice<'_>) -> bool
     true
 }
 
-/// Whether characters are a base or an extension of a short name, of at most `most`.
+/// Returns whether characters are a base or an extension of a short name, with at most `most`
+/// characters.
 fn is_short_part(part: Char16Slice<'_>, most: usize) -> bool
     ensures { IsTrue result ↔ IsShortPart most (units_of part.entry) }
 {
@@ -76,7 +77,7 @@ fn is_short_part(part: Char16Slice<'_>, most: usize) -> bool
     are_short_characters(part)
 }
 
-/// The place of the first dot.
+/// Returns the index of the first dot.
 fn first_dot(units: &[u16]) -> Option<usize>
     ensures place { result ≡ position is_dot units.now }
     ensures within { IfSome result (λ dot. dot < length units.now) }
@@ -84,11 +85,11 @@ fn first_dot(units: &[u16]) -> Option<usize>
     units.iter().position(|unit| *unit == DOT)
 }
 
-/// Returns whether a name is an 8.3 name, as it stands in a directory entry: 1 to 8 characters, and
-/// then maybe a dot and 1 to 3 more.
+/// Returns whether a name is an 8.3 name, in the form of a directory entry: 1 to 8 characters,
+/// optionally followed by a dot and 1 to 3 more.
 ///
-/// The characters are capital letters, digits and the marks ``! # $ % & ' ( ) - @ ^ _ ` { } ~``. The
-/// letters are those that have a case: `A` to `Z`, and U+00C0 to U+00DE but U+00D7.
+/// The characters are capital letters, digits and the marks ``! # $ % & ' ( ) - @ ^ _ ` { } ~``.
+/// The letters are those that have a case: `A` to `Z`, and U+00C0 to U+00DE except U+00D7.
 ///
 /// ```rust
 /// let name = CString16::try_from_str(rt.alloc(), "LONGNA~1.TXT")?;

@@ -1,5 +1,5 @@
-//! Rows of names: what EDK II's FAT driver and its collation for English make of them, but where
-//! `docs/DIFFERENCES.md` says otherwise.
+//! Rows of names, with the results of EDK II's FAT driver and its collation for English, except
+//! where `docs/DIFFERENCES.md` says otherwise.
 use crate::{
     FatBytes, FatNameError, check_fat_name, fat_to_str, is_fat_name, is_short_name, same_fat_file,
     str_to_fat, trimmed,
@@ -8,7 +8,7 @@ use std::alloc::Global;
 use std::test::Fail;
 use uefi_text::{BufferTooSmall, CString16, Char16};
 
-/// Names, and what is left of each.
+/// Names, and the trimmed part of each.
 const TRIMMED: &[(&str, &str)] = &[
     ("boot.efi", "boot.efi"),
     ("  boot.efi", "boot.efi"),
@@ -138,7 +138,7 @@ fn refusal(alloc: Global, name: &str) -> Result<Option<FatNameError>, Fail> {
     Ok(check_fat_name(name.as_cstr16().as_slice()).err())
 }
 
-/// The first illegal character is reported, and the length before any.
+/// The first illegal character is reported, but a length that is too great is reported before any.
 #[test]
 fn refusals(rt: HostRuntime) -> Result<(), Fail> {
     let mut long = String::from_str(rt.alloc(), "a?*")?;
@@ -153,7 +153,8 @@ fn refusals(rt: HostRuntime) -> Result<(), Fail> {
     Ok(())
 }
 
-/// Whether a name has these bytes in a buffer of `room` places, which keeps what follows them.
+/// Returns whether a name has these bytes in a buffer of `room` places, whose other places are
+/// unchanged.
 fn has_bytes(
     alloc: Global,
     name: &str,
@@ -187,7 +188,8 @@ fn bytes_of_names(rt: HostRuntime) -> Result<(), Fail> {
     Ok(())
 }
 
-/// Whether bytes become these units before a NUL in a buffer of `room` places, or how many they are.
+/// Returns whether bytes become these units before a NUL in a buffer of `room` places, or how many
+/// they are.
 fn has_units(bytes: &[u8], room: usize, units: &[u16]) -> bool {
     let mut buffer = [7; 6];
     if buffer.len() < room || buffer.len() <= units.len() {

@@ -15,17 +15,18 @@ use crate::separators::cut_last;
 use uefi_text::strs::Char16Slice;
 
 /// An iterator over the beginnings of a path, the longest first. A contract sees it as
-/// `ancestors_left` of it: those that remain.
+/// `ancestors_left` of it: the beginnings that remain.
 #[derive(Clone, Copy)]
 pub struct Ancestors<'a> {
-    /// The next one; `None` after the first component alone.
+    /// The next beginning; `None` after the first component alone.
     rest: Option<Char16Slice<'a>>,
 }
 
 impl<'a> Path<'a> {
-    /// Returns the canonical text of the path, then the same without its last component, and so on
-    /// down to the first component alone. A path without components has none. Those after the first
-    /// are the successive parents of a valid path.
+    /// Returns an iterator over the beginnings: the canonical text of the path, then the same text
+    /// without its last component, and so on down to the first component alone. A path without
+    /// components has no beginnings. The beginnings after the first are the successive parents of a
+    /// valid path.
     ///
     /// ```rust
     /// let text = CString16::try_from_str(rt.alloc(), r"\efi\boot\a.efi")?;
@@ -48,7 +49,7 @@ impl<'a> Path<'a> {
     }
 }
 
-/// Gives the beginnings, the longest first, and then `None` for ever.
+/// Gives the beginnings, the longest first, and then always `None`.
 impl<'a> Iterator for Ancestors<'a> {
     type Item = Char16Slice<'a>;
 

@@ -1,5 +1,6 @@
-//! Paths compared without case, and matched against patterns. Case and patterns are those of the
-//! firmware's Unicode collation (UEFI Specification 2.10, section 21.1). No call allocates.
+//! Paths that are compared without case, and matched against patterns. The rules of case and of
+//! patterns are those of the firmware's Unicode collation (UEFI Specification 2.10, section 21.1).
+//! No call allocates.
 ghost use Rattle.std.specs.Prelude.{◌+◌, ◌*◌, ◌≤◌, ◌≡◌, ◌<◌, ◌^◌, ◌↔◌, All, IfSome, IsSome, IsTrue, drop, length};
 ghost use Rattle.uefi_path.specs.Components.{components_of};
 ghost use Rattle.uefi_path.specs.Separators.{canonical};
@@ -17,7 +18,7 @@ use std::cmp::Ordering;
 use uefi_text::counted::CountedReader;
 
 impl<'a> Path<'a> {
-    /// Returns whether both paths are equal without case: their canonical texts are.
+    /// Returns whether both paths are equal without case: whether their canonical texts are.
     ///
     /// ```rust
     /// let text = CString16::try_from_str(rt.alloc(), r"\EFI\Boot")?;
@@ -32,7 +33,7 @@ impl<'a> Path<'a> {
         self.canonical().eq_ignore_case(other.canonical())
     }
 
-    /// Returns how both paths compare without case: as their canonical texts do. `Equal` exactly if
+    /// Compares two paths without case, by their canonical texts. The result is `Equal` exactly if
     /// [`Path::eq_ignore_case`] holds.
     ///
     /// ```rust
@@ -49,8 +50,8 @@ impl<'a> Path<'a> {
         self.canonical().cmp_ignore_case(other.canonical())
     }
 
-    /// Returns whether the components of this path begin with those of the base, without case, as
-    /// [`Path::starts_with`] does with case.
+    /// Returns whether the components of this path begin with the components of the base, without
+    /// case. [`Path::starts_with`] is the comparison with case.
     ///
     /// ```rust
     /// let text = CString16::try_from_str(rt.alloc(), r"\EFI\Boot")?;
@@ -65,8 +66,8 @@ impl<'a> Path<'a> {
         self.strip_prefix_ignore_case(base).is_some()
     }
 
-    /// Returns the components of this path after as many as the base has, if it starts with the
-    /// base without case; otherwise `None`.
+    /// Removes as many components as the base has from the start of this path, and returns the
+    /// rest, if this path starts with the base without case. Otherwise returns `None`.
     ///
     /// ```rust
     /// let text = CString16::try_from_str(rt.alloc(), r"\EFI\Boot\a.efi")?;
@@ -86,11 +87,12 @@ impl<'a> Path<'a> {
         self.components().strip_ignore_case(base.components())
     }
 
-    /// Returns whether a pattern matches this path: each of its components the one at the same
-    /// place, as `CStr16::matches` does, and both have as many. So neither `*` nor `?` takes a
-    /// separator, and one that stands between `[` and `]` ends a component too. Once the components
-    /// are known, reads at most (p + 1) * (t + 1) units of each, where the pattern has p units and
-    /// this path t. [`Path::matches_counted`] promises that.
+    /// Returns whether a pattern matches this path: whether both have the same number of
+    /// components, and each component of the pattern matches the component of the path at the same
+    /// index, as `CStr16::matches` does. So neither `*` nor `?` matches a separator, and a
+    /// separator between `[` and `]` ends a component too. Once the components are known, reads at
+    /// most (p + 1) * (t + 1) units of each, if the pattern has p units and this path t.
+    /// [`Path::matches_counted`] promises that.
     ///
     /// ```rust
     /// let pattern = CString16::try_from_str(rt.alloc(), r"\efi\*\shim*.efi")?;
@@ -108,8 +110,8 @@ impl<'a> Path<'a> {
         self.matches_counted(pattern, &mut own, &mut other)
     }
 
-    /// Returns what [`Path::matches`] does, with the units of the components read through two
-    /// readers, whose counts go on. No unit of the text that a reader had is read.
+    /// Does what [`Path::matches`] does, and reads the units of the components through two readers,
+    /// whose counts continue. The units that the readers had before are not read.
     ///
     /// ```rust
     /// use uefi_text::counted::CountedReader;

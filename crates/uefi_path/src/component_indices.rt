@@ -1,4 +1,4 @@
-//! The components of a path, each with the place where it begins in the text.
+//! The components of a path, each with the index at which it begins in the text.
 #![tactic(auto, using(crate::proofs::Rules::indices_rules), unfolding(crate::specs::ComponentIndices::indices_left))]
 
 ghost use Rattle.std.specs.Prelude.{◌≡◌, ◌≢◌, ◌+◌, ◌<◌, ◌^◌, [], All, length, map};
@@ -14,11 +14,11 @@ use crate::pathbuf::PathBuf;
 use std::alloc::Allocator;
 use uefi_text::strs::Char16Slice;
 
-/// An iterator over the components of a path, each with the place where it begins in the path's
-/// text. A contract sees it as `indices_left` of it: what remains.
+/// An iterator over the components of a path, each with the index at which it begins in the path's
+/// text. A contract sees it as `indices_left` of it: the items that remain.
 #[derive(Drop)]
 pub struct ComponentIndices<'a> {
-    /// Where the next component begins.
+    /// The index at which the next component begins.
     place: usize,
     components: Components<'a>,
     pub ghost room: { components_left components ≢ []
@@ -28,7 +28,7 @@ pub struct ComponentIndices<'a> {
 impl<'a> ComponentIndices<'a> {
     ghost use Rattle.uefi_path.specs.ComponentIndices.{BeginAtPlaces, indexed_units, indices_left};
 
-    /// These components of a path, with their places in its text.
+    /// Returns an iterator over components of a path, with their indices in its text.
     fn of(path: Path<'_>, components: Components<'a>) -> Self
         requires same { components_left components ≡ components_of (path_text path) }
         requires texts { All IsText (components_left components) }
@@ -50,9 +50,9 @@ impl<'a> ComponentIndices<'a> {
 impl<'a> Path<'a> {
     ghost use Rattle.uefi_path.specs.ComponentIndices.{BeginAtPlaces, indexed_units, indices_left};
 
-    /// Returns the components, as [`Path::components`], each with the place where it begins: how
-    /// many characters of the text stand before it, a leading separator included. Does not
-    /// allocate.
+    /// Returns the components, as [`Path::components`] does, each with the index at which it
+    /// begins: the number of characters of the text before it, including a leading separator. Does
+    /// not allocate.
     ///
     /// ```rust
     /// let text = CString16::try_from_str(rt.alloc(), r"\efi\boot")?;
@@ -76,7 +76,7 @@ impl<'a> Path<'a> {
 impl<A: Allocator + Copy> PathBuf<A> {
     ghost use Rattle.uefi_path.specs.ComponentIndices.{BeginAtPlaces, indexed_units, indices_left};
 
-    /// Returns the components with their places, as [`Path::component_indices`].
+    /// Returns the components with their indices, as [`Path::component_indices`] does.
     ///
     /// ```rust
     /// let text = CString16::try_from_str(rt.alloc(), "efi/boot")?;
@@ -95,7 +95,7 @@ impl<A: Allocator + Copy> PathBuf<A> {
     }
 }
 
-/// Gives the components in order, and then `None` for ever.
+/// Gives the components in order, and then always `None`.
 impl<'a> Iterator for ComponentIndices<'a> {
     type Item = (usize, Char16Slice<'a>);
 

@@ -1,24 +1,24 @@
-//! What a component is: `.`, `..`, or a name. `specs/NormalForms.antt` says which units are which.
+//! The kinds of components: `.`, `..`, or a name. `specs/NormalForms.antt` defines them.
 ghost use Rattle.std.specs.Prelude.{◌≡◌};
 ghost use Rattle.uefi_path.specs.NormalForms.{kind};
 ghost use Rattle.uefi_text.specs.Views.{units_of};
 
 use uefi_text::strs::Char16Slice;
 
-/// What a component is.
+/// The kind of a component.
 #[derive(Clone, Copy)]
 pub(crate) enum Kind {
-    /// `.`, which stays where it is.
+    /// `.`, which stays in the same folder.
     Dot,
 
     /// `..`, which goes up.
     DotDot,
 
-    /// Any other one: a name, which goes down.
+    /// Any other component: a name, which goes down.
     Name,
 }
 
-/// What the component is.
+/// Returns the kind of a component.
 #[inline(always)]
 pub(crate) fn kind_of(component: Char16Slice<'_>) -> Kind
     ensures { result ≡ kind (units_of component.entry) }

@@ -1,4 +1,5 @@
-//! The components of a path, cut one after the other. `specs/Views.antt` says which are still to come.
+//! The components of a path, cut one after the other. `specs/Views.antt` defines which components
+//! remain.
 #![tactic(auto, using(crate::proofs::Rules::cuts_rules), unfolding(crate::specs::Views::components_left))]
 
 ghost use Rattle.std.specs.Prelude.{◌≡◌, ℕ, ◌+◌, ◌*◌, ◌<◌, ◌^◌, ◌↔◌, [], ◌∷◌, ◌++◌, ◌≤◌, All, List, None, Option, drop, false, length, IfSome, IsSome, IsTrue};
@@ -19,21 +20,21 @@ use std::fmt;
 use uefi_text::counted::CountedReader;
 use uefi_text::strs::{CStr16, Char16Slice};
 
-/// An iterator over the components of a path. A contract sees it as `components_left` of it: what
-/// remains.
+/// An iterator over the components of a path. A contract sees it as `components_left` of it: the
+/// components that remain.
 #[derive(Drop)]
 pub struct Components<'a> {
-    /// What is left to cut; `None` after the last component.
+    /// The text that is left to cut; `None` after the last component.
     rest: Option<Rest<'a>>,
 }
 
-/// What is left of a text to cut into components: its units from a place on.
+/// The part of a text that is left to cut into components: its units from an index on.
 #[derive(Clone, Copy)]
 pub(crate) struct Rest<'a> {
     text: Char16Slice<'a>,
     start: usize,
 
-    /// Those among these units. Their places are counted in the whole text.
+    /// The separators among these units. Their indices are counted in the whole text.
     separators: Separators<'a>,
     pub ghost within: { start ≤ length (units_of text) },
     pub ghost all: { places_left separators ≡ places_from start (drop start (units_of text)) },
@@ -53,7 +54,8 @@ impl<'a> Rest<'a> {
         }
     }
 
-    /// A text from a place on, of which all separators are known by their places. Looks at no unit.
+    /// Returns the text from an index on. All of its separators are known by their indices. Reads
+    /// no unit.
     pub(crate) fn placed(text: Char16Slice<'a>, start: usize, places: &'a [usize]) -> Rest<'a>
         requires within { start ≤ length (units_of text) }
         requires all { places.now ≡ places_from start (drop start (units_of text)) }
@@ -66,14 +68,14 @@ impl<'a> Rest<'a> {
         }
     }
 
-    /// The units that are left.
+    /// Returns the units that are left.
     fn units(self) -> Char16Slice<'a>
         ensures { units_of result ≡ uncut_units self.entry }
     {
         self.text.part(self.start, self.text.len())
     }
 
-    /// The first component, and what is left after it.
+    /// Returns the first component, and the rest after it.
     #[inline(always)]
     fn cut(self) -> (Char16Slice<'a>, Option<Rest<'a>>)
         ensures { slice_split is_separator (uncut_units self.entry)
@@ -93,7 +95,7 @@ impl<'a> Rest<'a> {
         (self.text.part(self.start, place), Some(after))
     }
 
-    /// What is left before the last component, and that component.
+    /// Returns the rest before the last component, and that component.
     fn cut_back(self) -> (Option<Rest<'a>>, Char16Slice<'a>)
         ensures { slice_split is_separator (uncut_units self.entry)
             ≡ pieces_of_rest result.0 ++ units_of result.1 ∷ [] }
@@ -107,7 +109,7 @@ impl<'a> Components<'a> {
     ghost use Rattle.uefi_path.specs.Runs.{GivesNoNulIn};
     ghost use Rattle.uefi_path.specs.Views.{components_left, uncut_units};
 
-    /// The components of the path of a string, of which the rest is the canonical text.
+    /// Returns the components of the path of a string whose canonical text is the rest.
     pub(crate) fn of_canonical(string: CStr16<'_>, rest: Rest<'a>) -> Components<'a>
         requires { uncut_units rest ≡ canonical (text_of string) }
         ensures same { components_left result ≡ components_of (text_of string.entry) }
@@ -127,7 +129,7 @@ impl<'a> Components<'a> {
         Components { rest: Some(rest) }
     }
 
-    /// The pieces between the separators of a text, of which there is one where it has none.
+    /// Returns the pieces between the separators of a text: one piece if it has no separator.
     pub(crate) fn between(text: Char16Slice<'a>) -> Components<'a>
         ensures { components_left result ≡ slice_split is_separator (units_of text.entry) }
     {
@@ -143,7 +145,7 @@ impl<'a> Components<'a> {
         Components { rest: self.rest }
     }
 
-    /// Whether none is left.
+    /// Returns whether no component is left.
     #[tactic(auto, using(crate::proofs::Joining::slice_split_some), unfolding(crate::specs::Views::components_left))]
     pub(crate) fn is_done(&self) -> bool
         ensures { IsTrue result ↔ (components_left self.now ≡ []) }
@@ -154,7 +156,7 @@ impl<'a> Components<'a> {
         }
     }
 
-    /// Whether one of them is empty.
+    /// Returns whether one of the components is empty.
     pub(crate) fn has_empty(self) -> bool
         ensures { result ≡ false → All (λ piece. IsTrue (is_non_empty piece)) (components_left self.entry) }
     {
@@ -166,7 +168,7 @@ impl<'a> Components<'a> {
         false
     }
 
-    /// Those after the components of a base, if they begin with these.
+    /// Returns the components after those of a base, if they begin with those of the base.
     pub(crate) fn strip(self, base: Components<'_>) -> Option<Components<'a>>
         requires texts { All IsText (components_left self) }
         requires bound { length (components_left self) < 2 ^ 64 }
@@ -189,7 +191,7 @@ impl<'a> Components<'a> {
         Some(rest)
     }
 
-    /// As [`Components::strip`], without case.
+    /// Does what [`Components::strip`] does, without case.
     pub(crate) fn strip_ignore_case(self, base: Components<'_>) -> Option<Components<'a>>
         requires texts { All IsText (components_left self) }
         requires bound { length (components_left self) < 2 ^ 64 }
@@ -215,8 +217,8 @@ impl<'a> Components<'a> {
         Some(rest)
     }
 
-    /// Whether each of these matches the pattern at its place, and there are as many of both. The units of
-    /// both are read through the readers.
+    /// Returns whether both have the same number of components, and each component matches the
+    /// pattern at its index. Reads the units of both through the readers.
     pub(crate) fn match_each<'p>(
         self,
         patterns: Components<'p>,
@@ -244,7 +246,7 @@ impl<'a> Components<'a> {
         rest.is_done()
     }
 
-    /// Whether they end with those of a child.
+    /// Returns whether the components end with those of a child.
     pub(crate) fn end_with(self, child: Components<'_>) -> bool
         ensures { IsTrue result ↔ ((front : List (List ℕ))
             × (components_left self.entry ≡ front ++ components_left child.entry)) }
@@ -263,7 +265,7 @@ impl<'a> Components<'a> {
     }
 }
 
-/// Gives the components in order, and then `None` for ever.
+/// Gives the components in order, and then always `None`.
 impl<'a> Iterator for Components<'a> {
     type Item = Char16Slice<'a>;
 
@@ -280,8 +282,8 @@ impl<'a> Iterator for Components<'a> {
         Some(component)
     }
 
-    /// After the last component none are left. Before it there is at least one, and at most one
-    /// more than characters are left: a separator stands between two.
+    /// After the last component none are left. Before it, at least one is left, and at most one
+    /// more than there are characters, because a separator is between two components.
     fn size_hint(&self) -> (usize, Option<usize>)
         ensures lower { IsWithinCount result.0 (item_count components_left self.now) }
         ensures upper { IfSome result.1 (UpTo (item_count components_left self.now)) }
@@ -294,7 +296,7 @@ impl<'a> Iterator for Components<'a> {
     }
 }
 
-/// Gives the components from the last one on.
+/// Gives the components from the last one backwards.
 impl<'a> DoubleEndedIterator for Components<'a> {
     ghost use Rattle.uefi_path.specs.Views.{components_left};
 

@@ -1,4 +1,4 @@
-//! The units of a text, and how often one was read.
+//! The units of a text, with a count of how often one was read.
 #![tactic(auto, unfolding(crate::specs::Views::counted_text, crate::specs::Views::reads_of))]
 
 ghost use Rattle.std.specs.Prelude.{◌≡◌, ◌+◌, ◌<◌, ◌^◌, length, slice_index};
@@ -8,9 +8,9 @@ ghost use Rattle.uefi_text.specs.Views.{read_units, text_of};
 use uefi_text::counted::CountedReader;
 use uefi_text::strs::CStr16;
 
-/// The code units of a text, of which contracts count each read. It is there so that
-/// [`crate::PathBuf::push_counted`] can promise to read each unit of what it pushes once. The count
-/// stands in contracts alone: no running program has it. A contract sees the text as `counted_text`
+/// The code units of a text, of which contracts count each read. With this type,
+/// [`crate::PathBuf::push_counted`] can promise to read each unit of its argument once. The count
+/// exists only in contracts: no running program has it. A contract sees the text as `counted_text`
 /// of it, and the number of reads as `reads_of` it.
 ///
 /// ```rust
@@ -28,7 +28,7 @@ pub struct CountedUnits<'a> {
 impl<'a> CountedUnits<'a> {
     ghost use Rattle.uefi_path.specs.Views.{counted_text, reads_of};
 
-    /// Returns the units of a string's text, none of them read. Does not allocate.
+    /// Creates a reader of a string's text, before any read. Does not allocate.
     pub fn new(string: CStr16<'a>) -> CountedUnits<'a>
         ensures text { counted_text result ≡ text_of string.entry }
         ensures count { reads_of result ≡ 0 }

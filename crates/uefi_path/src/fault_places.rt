@@ -1,4 +1,4 @@
-//! Where the component begins for which a path is refused.
+//! The index of the component for which a path is refused.
 #![tactic(auto, using(crate::proofs::Rules::faults_rules))]
 
 ghost use Rattle.std.specs.Prelude.{◌≡◌, ◌↔◌, IfErr, IsOk, MatchOption, MatchResult, None, Some};
@@ -9,18 +9,18 @@ ghost use Rattle.uefi_path.specs.Views.{path_text};
 use crate::path::Path;
 use crate::validation::{PathError, depth_after, find_fault};
 
-/// Why a path is refused, and where.
+/// The reason why a path is refused, and the component's index.
 #[derive(Clone, Copy, Debug, PartialEq, Eq)]
 pub struct PathFault {
-    /// Why: the error of [`validate_path`](crate::validate_path).
+    /// The reason: the error of [`validate_path`](crate::validate_path).
     pub error: PathError,
 
-    /// Where the component at fault begins in the text of the path: how many characters stand
-    /// before it, a leading separator included. 0 where the text is empty.
+    /// The index at which the component at fault begins in the text of the path: the number of
+    /// characters before it, including a leading separator. It is 0 if the text is empty.
     pub place: usize,
 }
 
-/// Why a path is refused and where, if it is.
+/// Returns why a path is refused, and where, if it is refused.
 fn find_path_fault(path: Path<'_>) -> Option<PathFault>
     ensures { MatchOption result (verdict (path_text path.entry) ≡ None)
         (λ fault. IsRefusedAt (path_text path.entry) fault) }
@@ -43,8 +43,8 @@ fn find_path_fault(path: Path<'_>) -> Option<PathFault>
     None
 }
 
-/// Whether a path is accepted, as [`validate_path`](crate::validate_path) says; or why not, and
-/// where its first component at fault begins. Does not allocate.
+/// Checks a path, as [`validate_path`](crate::validate_path) does. The error also has the index at
+/// which the first component at fault begins. Does not allocate.
 ///
 /// ```rust
 /// let text = CString16::try_from_str(rt.alloc(), r"\efi\b?ot")?;

@@ -13,10 +13,10 @@ use crate::component_kinds::{Kind, kind_of};
 use crate::path::Path;
 use uefi_text::strs::Char16Slice;
 
-/// What stands between a stem and an extension.
+/// The dot between a stem and an extension.
 const DOT: u16 = 0x2e;
 
-/// The place of the last dot that is not at the start.
+/// Returns the index of the last dot that is not at the start.
 fn last_dot(name: &[u16]) -> Option<usize>
     ensures { IsLastDot name.now result }
 {
@@ -28,7 +28,7 @@ fn last_dot(name: &[u16]) -> Option<usize>
     None
 }
 
-/// The place of the dot between the stem and the extension of a name.
+/// Returns the index of the dot between the stem and the extension of a name.
 fn extension_dot(name: Char16Slice<'_>) -> Option<usize>
     ensures cut { MatchOption result (HasNoExtension (units_of name.entry)) (λ dot.
         IsNamed (units_of name.entry) (take dot (units_of name.entry))
@@ -54,8 +54,8 @@ pub(crate) fn stem_len(name: Char16Slice<'_>) -> usize
 
 impl<'a> Path<'a> {
     /// Returns the last component up to its extension: the text before its last dot, or the whole
-    /// component if it has no dot after its first character or is `..`. `None` if there is no
-    /// component.
+    /// component if it has no dot after its first character or is `..`. Returns `None` if there is
+    /// no component.
     ///
     /// ```rust
     /// let text = CString16::try_from_str(rt.alloc(), r"\efi\boot.tar.gz")?;
@@ -72,8 +72,8 @@ impl<'a> Path<'a> {
         Some(name.part(0, stem_len(name)))
     }
 
-    /// Returns the text after the last dot of the last component, which may be empty; `None` if the
-    /// component has no dot after its first character, is `..`, or does not exist.
+    /// Returns the text after the last dot of the last component, which may be empty. Returns
+    /// `None` if the component has no dot after its first character, is `..`, or does not exist.
     ///
     /// ```rust
     /// let text = CString16::try_from_str(rt.alloc(), r"\efi\.efi")?;

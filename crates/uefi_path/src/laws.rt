@@ -11,8 +11,8 @@ ghost use Rattle.uefi_path.specs.Laws.{CanonicalIsEqual, ComponentsRebuild, Pare
 ghost use Rattle.uefi_path.specs.Laws.{AreParentsWhereSame, FewerParents, ParentsArePrefixes, ParentsOfAreParents, WalkingUpEnds};
 ghost use Rattle.uefi_path.specs.Laws.{NormalFormWhereSame, NormalFormsAgree, NormalFormsExist, NormalFormsOnce, NormalHoldsNames, NormalIsNoLonger, NormalIsNormal, NormalIsValid, NormalPathsAgree};
 
-/// Every text has exactly one list of components, `components_of` it: none where its canonical text
-/// is empty, else one more than separators in it.
+/// Every text has exactly one list of components, `components_of` it: an empty list if its
+/// canonical text is empty, and otherwise one more than the canonical text has separators.
 pub fn split_once()
     ensures split { TextsHaveComponents }
     ensures once { ComponentsOnce }
@@ -27,8 +27,8 @@ pub fn validity()
     ensures { ValidWhereUnrefused }
 {}
 
-/// A path is refused as empty, or for its first component that names no file or climbs above the root: those
-/// before it are good and none of them climbs.
+/// A path is refused as empty, or for its first component that names no file or climbs above the
+/// root: every component before that one is good, and none of them climbs.
 pub fn refused_for_first()
     ensures { RefusedForFirst }
 {}
@@ -39,7 +39,7 @@ pub fn parent_congruence()
 {}
 
 /// Paths are totally ordered, equality is an equivalence, and two paths are equal exactly if
-/// neither is less: where their canonical texts are the same.
+/// neither is less, which means that their canonical texts are the same.
 pub fn order_agrees()
     ensures total { OrderIsTotal }
     ensures ties { OrderTiesEqual }
@@ -47,33 +47,35 @@ pub fn order_agrees()
     ensures equal { EqualWhereSameCanonical }
 {}
 
-/// Plain paths are a monoid under `Path::join`: how they are grouped does not matter, and the empty
-/// path changes nothing on either side.
+/// Plain paths are a monoid under `Path::join`: their grouping does not matter, and the empty path
+/// changes nothing on either side.
 pub fn join_monoid()
     ensures associative { PushingIsAssociative }
     ensures after { EmptyAfterIsUnit }
     ensures before { EmptyBeforeIsUnit }
 {}
 
-/// The components of two joined paths are those of the first and then those of the second, where
-/// the first ends in no separator, or is empty or the root, and the second begins with none.
+/// The components of two joined paths are the components of the first, followed by those of the
+/// second, if the first does not end in a separator, or is empty or the root, and the second begins
+/// with none.
 pub fn join_components()
     ensures joined { ComponentsAreJoined }
     ensures full { FullTextsTakeMore }
 {}
 
-/// Two valid paths, of which the second begins with no separator, join to a valid one.
+/// If the second of two valid paths begins with no separator, they join to a valid path.
 pub fn join_valid()
     ensures { JoinedAreValid }
 {}
 
-/// Equal paths with at least one component stay equal when the same path is joined to both. With
-/// none they may not: `\a` joined to the empty path and to the root makes `\a` and `\\a`.
+/// Equal paths with at least one component stay equal when the same path is joined to both. Equal
+/// paths without components may not: `\a` joined to the empty path and to the root makes `\a` and
+/// `\\a`.
 pub fn join_congruence()
     ensures { JoinedAreSame }
 {}
 
-/// The parent of a plain path begins with no separator, and holds no two of them in a row.
+/// The parent of a plain path begins with no separator, and contains no two separators in a row.
 #[tactic(auto, using(crate::proofs::ParentForm::parent_text_not_doubled, crate::proofs::ParentForm::prefix_parent_text))]
 pub fn parent_shape()
     ensures relative { ParentIsRelative }
@@ -92,8 +94,8 @@ pub fn push_components()
     ensures { ComponentsRebuild }
 {}
 
-/// Joining one good component to a valid path that has components, and taking the parent, gives an
-/// equal path.
+/// Joining one good component to a valid path that has components, and then taking the parent,
+/// gives an equal path.
 pub fn join_then_parent()
     ensures parent { ParentOfJoined }
     ensures equal { CanonicalIsEqual }
@@ -106,7 +108,7 @@ pub fn parents_enumerate()
 {}
 
 /// Walking up from any path ends, and passes `parents_of` it and nothing else. A plain path of n
-/// components has at most n - 1 successive parents, or none where n is 0.
+/// components has at most n - 1 successive parents, or none if n is 0.
 pub fn parent_count()
     ensures ends { WalkingUpEnds }
     ensures parents { ParentsOfAreParents }
@@ -114,8 +116,9 @@ pub fn parent_count()
     ensures fewer { FewerParents }
 {}
 
-/// Each list of pieces has exactly one normal form, `normal_of` it. Two lists have the same one
-/// exactly if deleting `.`, and names with the `..` right after them, leads from both to some list.
+/// Each list of pieces has exactly one normal form, `normal_of` it. Two lists have the same normal
+/// form exactly if both lead to some common list by deleting `.`, and names with the `..` right
+/// after them.
 pub fn normal_unique()
     ensures exists { NormalFormsExist }
     ensures once { NormalFormsOnce }
@@ -123,9 +126,10 @@ pub fn normal_unique()
     ensures agree { NormalFormsAgree }
 {}
 
-/// The normal path of a valid path is valid, holds neither `.` nor `..`, and is its own normal
-/// path. Two valid paths have equal ones exactly if such steps lead from the components of both to
-/// some list of pieces. A normal path has no more units than the path that it is made of.
+/// The normal path of a valid path is valid, contains neither `.` nor `..`, and is its own normal
+/// path. Two valid paths have equal normal paths exactly if these steps lead from the components of
+/// both to some common list of pieces. A normal path has no more units than the path from which it
+/// is made.
 pub fn normal_once()
     ensures valid { NormalIsValid }
     ensures names { NormalHoldsNames }
@@ -141,7 +145,7 @@ pub fn named_once()
 {}
 
 /// The beginnings of a path that has components are its canonical text and its shorter prefixes,
-/// which are the successive parents of a valid one ([`parents_enumerate`]).
+/// which are the successive parents of a valid path ([`parents_enumerate`]).
 #[tactic(auto, using(crate::proofs::TakenComponents::beginnings_are_prefixes))]
 pub fn ancestors_enumerate()
     ensures { BeginningsArePrefixes }

@@ -1,14 +1,15 @@
 //! Paths over UCS-2 strings, as UEFI firmware encodes them: components between backslashes.
 //!
 //! A [`Path`] is a view of a string of `uefi_text`, and a [`PathBuf`] owns one. One leading
-//! [`SEPARATOR`] makes no difference: the *canonical text* of a path is its text without it. Two paths are
-//! equal exactly when their canonical texts are, and they are ordered as these are. A path's *components*
-//! are the pieces between the separators of its canonical text, empty ones too. The empty path and
-//! the lone separator have none.
+//! [`SEPARATOR`] makes no difference: the *canonical text* of a path is its text without it. Two
+//! paths are equal exactly when their canonical texts are, and paths are ordered by their canonical
+//! texts. A path's *components* are the pieces between the separators of its canonical text,
+//! including empty pieces. The empty path and a lone separator have no components.
 //!
-//! A `PathBuf` replaces each `/` that it takes over by a separator; a `Path` replaces nothing.
-//! [`validate_path`] says whether each component may name a file and none climbs above where the path
-//! starts. [`Path::normalize`] gives the one path without `.` and `..` that such a path leads to.
+//! A `PathBuf` replaces each `/` of its input with a separator; a `Path` replaces nothing.
+//! [`validate_path`] checks that each component may name a file and that none climbs above the
+//! start of the path. [`Path::normalize`] gives the one path without `.` and `..` to which a valid
+//! path leads.
 //!
 //! ```rust
 //! use std::alloc::AllocError;
@@ -27,12 +28,12 @@
 //! assert!(rt; validate_path(file.as_path()).is_ok());
 //! ```
 //!
-//! [`laws`] are what users may reason by: one list of components for each text, equality and order,
-//! what joining does, and what climbing does.
+//! [`laws`] has the laws for proofs of callers: one list of components for each text, equality and
+//! order, the effect of joining, and the effect of climbing.
 //!
 //! A contract sees a [`PathBuf`] as its text, a [`Path`] as `path_text` of it, and [`Components`]
-//! as `components_left` of it: the pieces that remain. Only this crate knows the places of the
-//! separators: no clause outside speaks of one.
+//! as `components_left` of it: the pieces that remain. Only this crate knows the indices of the
+//! separators: no clause outside mentions one.
 #![tactic(auto)]
 
 mod ancestors;

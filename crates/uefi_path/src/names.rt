@@ -1,5 +1,5 @@
-//! The names of a normal path, found from the last component on. A `..` there says how many names
-//! before it go, so that none has to be kept on the way: no call allocates.
+//! The names of a normal path, found from the last component backwards. A `..` there says how many
+//! names before it are cancelled, so that no name has to be saved on the way. No call allocates.
 #![tactic(auto, using(crate::proofs::Rules::kept_names_rules))]
 
 ghost use Rattle.std.specs.Prelude.{◌≡◌, ◌+◌, ◌<◌, ◌≤◌, ◌^◌, ◌++◌, ◌∷◌, [], All, IsNone, List, None, ℕ, if◌then◌else◌, length, option_map};
@@ -18,19 +18,20 @@ use crate::path::Path;
 use crate::slashed::{cut_last, to_cut};
 use uefi_text::strs::Char16Slice;
 
-/// The names of a normal path that remain, from the last one on. In contracts they are `names_left`
-/// of it.
+/// The names of a normal path that remain, from the last one backwards. In contracts they are
+/// `names_left` of it.
 #[derive(Clone, Copy)]
 pub(crate) struct NamesFromLast<'a> {
-    /// What is left to cut, from its end; `None` before the first component.
+    /// The text that is left to cut, from its end; `None` before the first component.
     rest: Option<Char16Slice<'a>>,
 
-    /// How many names before it go: the `..` that were cut and took none yet.
+    /// The number of names before it that are cancelled: the `..` that were cut and have cancelled
+    /// none yet.
     climbs: usize,
 }
 
 impl<'a> NamesFromLast<'a> {
-    /// Those of a path that is valid once its slashes are separators.
+    /// Returns the names of a path that is valid once its slashes are separators.
     pub(crate) fn of(path: Path<'a>) -> NamesFromLast<'a>
         requires { verdict (with_separators (path_text path)) ≡ None }
         ensures names { names_left result
@@ -48,7 +49,7 @@ impl<'a> NamesFromLast<'a> {
         }
     }
 
-    /// Whether the piece that was cut stays, which is a name that no `..` takes.
+    /// Returns whether the piece that was cut stays: whether it is a name that no `..` cancels.
     fn keeps(&mut self, piece: Char16Slice<'_>) -> bool
         requires { self.now.climbs + 1 < 2 ^ 64 }
         ensures kept { (pieces : List (List ℕ)) →

@@ -1,4 +1,5 @@
-//! Normal paths, which hold names alone: no `.` and no `..`. `specs/NormalForms.antt` says what they are.
+//! Normal paths, which contain only names: no `.` and no `..`. `specs/NormalForms.antt` defines
+//! them.
 #![tactic(auto, using(crate::proofs::Rules::normal_paths_rules))]
 
 ghost use Rattle.std.specs.Prelude.{◌≡◌, ◌+◌, ◌<◌, ◌^◌, All, IfErr, IfOk, IsTrue, None, length, max, Some};
@@ -22,7 +23,7 @@ use uefi_text::chars::SEPARATOR;
 use uefi_text::owned_strs::CString16;
 use uefi_text::text_sink::{Printed, TextSink, print};
 
-/// Why a path has no normal path.
+/// The reason why a path has no normal path.
 #[derive(Clone, Copy, Debug, PartialEq, Eq)]
 pub enum NormalizeError {
     /// The path is not valid, for this reason.
@@ -55,7 +56,7 @@ impl fmt::Display for NormalizeError {
 
 impl Error for NormalizeError {}
 
-/// The path of names, joined, in memory that it owns.
+/// Creates an owned path from names by joining them.
 fn join_names<A: Allocator + Copy>(
     alloc: A,
     names: NamesFromLast<'_>,
@@ -73,8 +74,8 @@ fn join_names<A: Allocator + Copy>(
     PathBuf::from_string(alloc, CString16::try_from_vec(units).unwrap())
 }
 
-/// The normal path of a valid one. Where all its components are known to be names that is its canonical
-/// text.
+/// Returns the normal path of a valid path. If all its components are known to be names, that is
+/// its canonical text.
 fn make_normal<A: Allocator + Copy>(
     alloc: A,
     path: Path<'_>,
@@ -94,14 +95,14 @@ fn make_normal<A: Allocator + Copy>(
 
 /// Normal paths.
 impl<'a> Path<'a> {
-    /// Returns the normal path, which is owned. Each component `.` is deleted, and each name with a
-    /// `..` right after it, until neither is left. A name is any component except `.` and `..`. If
-    /// nothing is left, the normal path is a lone separator.
+    /// Creates the normal path. Deletes each component `.`, and each name with a `..` right after
+    /// it, until neither is left. A name is any component except `.` and `..`. If nothing is left,
+    /// the normal path is a lone separator.
     ///
-    /// A path that is not valid is refused as `Invalid`, with the reason that
-    /// [`validate_path`](crate::validation::validate_path) reports; `OutOfMemory` comes last.
-    /// Allocates as [`PathBuf::from`] does: once for the text, and once more for the places of its
-    /// separators, if there are any.
+    /// If the path is not valid, the result is `Invalid`, with the reason that
+    /// [`validate_path`](crate::validation::validate_path) reports. If it is valid and memory runs
+    /// out, the result is `OutOfMemory`. Allocates as [`PathBuf::from`] does: once for the text,
+    /// and once more if the text contains separators.
     ///
     /// ```rust
     /// let text = CString16::try_from_str(rt.alloc(), r"\efi\.\boot\..\debian")?;

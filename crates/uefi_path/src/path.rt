@@ -1,4 +1,4 @@
-//! Paths that are borrowed. `specs/Views.antt` says what a path shows.
+//! Borrowed paths. `specs/Views.antt` defines how a contract sees them.
 #![tactic(auto, unfolding(crate::specs::Views::path_text, crate::specs::Views::components_left))]
 
 ghost use Rattle.std.specs.Prelude.{◌≡◌, ℕ, ◌+◌, ◌<◌, ◌≤◌, ◌^◌, ◌↔◌, [], ◌∷◌, ◌++◌, All, List, None, drop, length, option_map, IfSome, IsSome, IsTrue, nat_eq, Some};
@@ -25,14 +25,14 @@ use uefi_text::chars::SEPARATOR;
 use uefi_text::strs::{CStr16, Char16Slice};
 
 /// A borrowed path: any string, read as components between separators. A contract sees it as
-/// `path_text` of it: its whole text, a leading separator included.
+/// `path_text` of it: its whole text, including a leading separator.
 #[derive(Clone, Copy)]
 pub struct Path<'a> {
     string: CStr16<'a>,
 }
 
 impl<'a> Path<'a> {
-    /// Returns the path of a string. No slash is replaced. Does not allocate.
+    /// Creates a path from a string, without replacing slashes. Does not allocate.
     ///
     /// ```rust
     /// let text = CString16::try_from_str(rt.alloc(), r"\efi\boot")?;
@@ -57,9 +57,10 @@ impl<'a> Path<'a> {
         self.string
     }
 
-    /// Returns the components: the pieces between the separators of the canonical text, empty ones
-    /// too, and none of the empty text. They are the only list of pieces without separators that
-    /// joins to that text, where a list of one empty piece does not count. Does not allocate.
+    /// Returns an iterator over the components: the pieces between the separators of the canonical
+    /// text, including empty pieces, and no pieces of the empty text. They are the only list of
+    /// pieces without separators that joins to that text, except that a list of one empty piece
+    /// does not count. Does not allocate.
     ///
     /// ```rust
     /// let text = CString16::try_from_str(rt.alloc(), r"\efi\boot\")?;
@@ -83,7 +84,8 @@ impl<'a> Path<'a> {
         Components::of_canonical(self.string, Rest::of(text))
     }
 
-    /// Returns the last component, or `None` if there is none. It may be empty. Does not allocate.
+    /// Returns the last component, which may be empty, or `None` if there is no component. Does not
+    /// allocate.
     ///
     /// ```rust
     /// let text = CString16::try_from_str(rt.alloc(), r"\efi\shimx64.efi")?;
@@ -101,7 +103,7 @@ impl<'a> Path<'a> {
     }
 
     /// Returns whether the components of this path begin with those of the base. So `\a\bc` starts
-    /// with `a` and with `\a\bc`, and not with `\a\b`; and every path starts with the empty one.
+    /// with `a` and with `\a\bc`, but not with `\a\b`; and every path starts with the empty path.
     /// Does not allocate.
     ///
     /// ```rust
@@ -118,8 +120,9 @@ impl<'a> Path<'a> {
         self.strip_prefix(base).is_some()
     }
 
-    /// Returns the components of this path after those of the base, if it starts with the base, as
-    /// [`Path::starts_with`] says; otherwise `None`. Does not allocate.
+    /// Removes the components of the base from the start of this path, and returns the rest, if
+    /// this path starts with the base, as [`Path::starts_with`] says. Otherwise returns `None`.
+    /// Does not allocate.
     ///
     /// ```rust
     /// let text = CString16::try_from_str(rt.alloc(), r"\efi\boot\bootx64.efi")?;
@@ -141,7 +144,7 @@ impl<'a> Path<'a> {
     }
 
     /// Returns whether the components of this path end with those of another. So `\a\bc` ends with
-    /// `bc` and with `a\bc`, and not with `c`; and every path ends with the empty one. Does not
+    /// `bc` and with `a\bc`, but not with `c`; and every path ends with the empty path. Does not
     /// allocate.
     ///
     /// ```rust
@@ -158,7 +161,8 @@ impl<'a> Path<'a> {
         self.components().end_with(child.components())
     }
 
-    /// Returns whether the text is empty. A lone separator is not, though it equals the empty path.
+    /// Returns whether the text is empty. A lone separator is not empty, although it equals the
+    /// empty path.
     ///
     /// ```rust
     /// let empty = CString16::new(rt.alloc())?;
@@ -172,7 +176,7 @@ impl<'a> Path<'a> {
         self.string.is_empty()
     }
 
-    /// Where the text without one leading separator begins.
+    /// Returns where the text without one leading separator begins.
     pub(crate) fn canonical_start(&self) -> usize
         ensures start { drop result (path_text self.now) ≡ canonical (path_text self.now) }
         ensures within { result ≤ length (path_text self.now) }
@@ -196,7 +200,7 @@ impl<'a> Path<'a> {
     }
 }
 
-/// As [`Path::new`].
+/// Does what [`Path::new`] does.
 impl<'a> From<CStr16<'a>> for Path<'a> {
     ghost from_gives = { λ string result. path_text result ≡ text_of string };
 
@@ -220,7 +224,7 @@ impl<'a> Eq for Path<'a> {
     ghost laws = { on_texts_equal (λ path. canonical (path_text path)) };
 }
 
-/// The order of the canonical texts, by code unit: components are not compared one by one, so `a\\b`
+/// Compares the canonical texts by code unit. Components are not compared one by one, so `a\\b`
 /// comes after `a!`.
 impl<'a> PartialOrd for Path<'a> {
     ghost partial_cmp = { as_partial_cmp (on (λ path. canonical (path_text path)) (slice_cmp nat_cmp)) };
@@ -232,7 +236,7 @@ impl<'a> PartialOrd for Path<'a> {
     }
 }
 
-/// `Equal` exactly for equal paths.
+/// Returns `Equal` exactly for equal paths.
 impl<'a> Ord for Path<'a> {
     ghost cmp = { on (λ path. canonical (path_text path)) (slice_cmp nat_cmp) };
 
@@ -263,7 +267,7 @@ impl<'a> fmt::Debug for Path<'a> {
     }
 }
 
-/// The string of one separator. Does not allocate.
+/// Returns the string of one separator. Does not allocate.
 ///
 /// ```rust
 /// assert_eq!(rt; separator_str().num_chars(), 1);

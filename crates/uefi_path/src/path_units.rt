@@ -1,5 +1,5 @@
-//! Calls on slices of code units, which paths and the library for C have in common. Contracts speak of the
-//! units as lists. Hidden: nothing promises that they stay.
+//! Calls on slices of code units that paths share with the C library. Contracts see the units as
+//! lists. Hidden, because these calls may change.
 #![tactic(auto, using(crate::proofs::Rules::last_pieces_rules))]
 
 ghost use Rattle.std.specs.Prelude.{◌≡◌, ◌≢◌, ◌↔◌, ◌+◌, ◌-◌, ◌<◌, ◌≤◌, [], ◌∷◌, IfSome, IsNone, IsSome, MatchOption, None, Some, drop, length, option_map, slice_index, slice_range, take};
@@ -15,7 +15,7 @@ ghost use Rattle.uefi_text.specs.Units.{replaced};
 use crate::separators::last_start;
 use uefi_text::chars::{SEPARATOR, SLASH};
 
-/// Returns the unit, or a separator in place of a slash.
+/// Returns the unit, or a separator instead of a slash.
 #[inline(always)]
 pub fn with_separator(unit: u16) -> u16
     ensures { result ≡ replaced slash separator unit }
@@ -27,21 +27,22 @@ pub fn with_separator(unit: u16) -> u16
     }
 }
 
-/// Whether a text is not empty and its last unit is no separator.
+/// Returns whether a text is not empty and its last unit is not a separator.
 pub(crate) fn needs_separator(text: &[u16]) -> bool
     ensures { result ≡ needs_separator text.now }
 {
     !text.is_empty() && text[text.len() - 1] != u16::from(SEPARATOR)
 }
 
-/// The same of a text whose slashes are replaced.
+/// Does what [`needs_separator`] does, for a text whose slashes are replaced.
 pub(crate) fn needs_separator_replaced(text: &[u16]) -> bool
     ensures { result ≡ needs_separator (with_separators text.now) }
 {
     !text.is_empty() && with_separator(text[text.len() - 1]) != u16::from(SEPARATOR)
 }
 
-/// Where the last component begins, if there is one: it ends with the units. Looks at it alone.
+/// Returns the index at which the last component begins, if there is one: it ends where the units
+/// end. Reads only that component.
 #[inline(always)]
 pub fn last_component(units: &[u16]) -> Option<usize>
     ensures name { option_map (λ start. drop start units.now) result
@@ -56,8 +57,8 @@ pub fn last_component(units: &[u16]) -> Option<usize>
     Some(start)
 }
 
-/// Where the separator before the last component stands, if that is not the only one: the units before it
-/// are a path of the others.
+/// Returns the index of the separator before the last component, if there are other components: the
+/// units before that index are a path of the other components.
 #[inline(always)]
 pub fn others_end(units: &[u16]) -> Option<usize>
     ensures others { IfSome result (λ end.
@@ -76,7 +77,7 @@ pub fn others_end(units: &[u16]) -> Option<usize>
     Some(start - 1)
 }
 
-/// Where the next component begins, if there is one.
+/// Returns the index at which the next component begins, if there is one.
 fn component_start(text: &[u16], place: usize) -> Option<usize>
     ensures left { MatchOption result
         (components_from text.now place ≡ []) (λ start. (start ≤ length text.now)
@@ -97,14 +98,14 @@ fn component_start(text: &[u16], place: usize) -> Option<usize>
     }
 }
 
-/// The place of the first separator.
+/// Returns the index of the first separator.
 fn find_separator(units: &[u16]) -> Option<usize>
     ensures { result ≡ position is_separator units.now }
 {
     units.iter().position(|unit| *unit == u16::from(SEPARATOR))
 }
 
-/// How many units stand before the first separator.
+/// Returns the number of units before the first separator.
 fn piece_len(units: &[u16]) -> usize
     ensures len { result ≡ position_or_len is_separator units.now }
     ensures within { result ≤ length units.now }
@@ -112,9 +113,9 @@ fn piece_len(units: &[u16]) -> usize
     find_separator(units).unwrap_or(units.len())
 }
 
-/// Returns the next component of a path from a place in its units on, if there is one: where it
-/// begins, and how many units it has. The place is 0 at first, and then the one after the separator
-/// that ends a component.
+/// Returns the next component of a path from an index in its units on, if there is one: the index
+/// at which it begins, and its number of units. The index is 0 at first, and then the one after the
+/// separator that ends a component.
 pub fn next_component(units: &[u16], place: usize) -> Option<(usize, usize)>
     ensures next { IfSome result (λ found. components_from units.now place
         ≡ slice_range units.now found.0 (found.0 + found.1)

@@ -1,4 +1,4 @@
-//! Paths that are owned, and the calls of [`Path`] that make one.
+//! Owned paths, and the calls of [`Path`] that make one.
 #![tactic(auto, using(crate::proofs::Rules::path_buffers_rules))]
 
 ghost use Rattle.std.specs.Prelude.{◌≡◌, ◌≢◌, ℕ, ◌+◌, ◌<◌, ◌≤◌, ◌^◌, ◌↔◌, [], ◌∷◌, ◌++◌, All, List, Some, None, false, true, if◌then◌else◌, length, option_map, replicate, take, ◌-◌, IsTrue, IsOk, IsSome, IfOk, IfErr, IfSome, OnOk, OnErr, nat_eq};
@@ -39,7 +39,7 @@ use uefi_text::chars::{Char16, SEPARATOR, SLASH};
 use uefi_text::owned_strs::CString16;
 use uefi_text::strs::{CStr16, Char16Slice};
 
-/// An owned path. Each `/` that it takes over becomes a separator, so its text never holds one. A
+/// An owned path. Each `/` of its input becomes a separator, so its text never contains a `/`. A
 /// contract sees it as its text.
 ///
 /// ```rust
@@ -70,7 +70,7 @@ impl<A: Allocator> Model for PathBuf<A> {
     ghost invariant = { λ path. IsPlain path.string × (path.places.items ≡ places_of path.string) };
 }
 
-/// This many zeros. Allocates once.
+/// Returns this many zeros. Allocates once.
 fn zeros<A: Allocator>(alloc: A, len: usize) -> Result<Vec<u16, A>, AllocError>
     ensures { IfOk result (λ units. units.items ≡ replicate len 0) }
 {
@@ -79,8 +79,8 @@ fn zeros<A: Allocator>(alloc: A, len: usize) -> Result<Vec<u16, A>, AllocError>
     Ok(units)
 }
 
-/// The parent of a path of these components, each slash replaced. Allocates once for the text, and
-/// once for the places of its separators, if it has any.
+/// Returns the parent of a path of these components, with each slash replaced. Allocates once for
+/// the text, and once more if the text contains separators.
 fn parent_of<A: Allocator + Copy>(
     alloc: A,
     components: Components<'_>,
@@ -113,7 +113,7 @@ pub(crate) fn copy_part<A: Allocator + Copy>(
     PathBuf::from_string(alloc, string)
 }
 
-/// Replaces each slash of a string, of which it is known whether it has one.
+/// Replaces each slash of a string. The caller knows whether it has one.
 #[inline(always)]
 fn replace_slashes<A: Allocator>(string: &mut CString16<A>, has_slash: bool)
     requires { has_slash ≡ list_any is_slash string.old }
@@ -124,7 +124,7 @@ fn replace_slashes<A: Allocator>(string: &mut CString16<A>, has_slash: bool)
     }
 }
 
-/// Where the last component begins, or the length if there is none.
+/// Returns the index at which the last component begins, or the length if there is none.
 fn name_start(units: &[u16]) -> usize
     ensures within { result ≤ length units.now }
     ensures name { StartsName units.now result (last_or None (components_of units.now)) }
@@ -135,10 +135,10 @@ fn name_start(units: &[u16]) -> usize
     }
 }
 
-/// Owned paths of a borrowed one.
+/// Owned paths from a borrowed path.
 impl<'a> Path<'a> {
-    /// Copies the path, with each slash replaced; or returns `AllocError`. Allocates as
-    /// [`PathBuf::from`] does.
+    /// Copies the path, with each slash replaced. Allocates as [`PathBuf::from`] does. Returns
+    /// `AllocError` if memory runs out.
     ///
     /// ```rust
     /// let text = CString16::try_from_str(rt.alloc(), "efi/boot")?;
@@ -151,9 +151,9 @@ impl<'a> Path<'a> {
         PathBuf::from(alloc, self.to_cstr16())
     }
 
-    /// Returns an owned path: this path with another pushed after it, as [`PathBuf::push`] does; or
-    /// `AllocError`. The slashes of both are replaced. Allocates exactly what the text of both and
-    /// the places of their separators need.
+    /// Creates an owned path: this path with another pushed after it, as [`PathBuf::push`] does.
+    /// The slashes of both are replaced. Allocates exactly what the text of both and the indices of
+    /// their separators need. Returns `AllocError` if memory runs out.
     ///
     /// ```rust
     /// let base = CString16::try_from_str(rt.alloc(), r"\efi")?;
@@ -173,14 +173,14 @@ impl<'a> Path<'a> {
         PathBuf::from_string(alloc, string)?.with_pushed(path)
     }
 
-    /// Returns the parent, with each slash replaced; or `AllocError`.
+    /// Creates the parent, with each slash replaced. Returns `AllocError` if memory runs out.
     ///
-    /// The parent is the path without its last component. A path of at most one component has none;
-    /// the call then allocates nothing and never fails. Empty components before the last are left
-    /// out. If the last of them is empty and another is not, a separator ends the parent: the
-    /// parent of `a\\b` is `a\`. A parent is shorter than the path, so climbing from parent to
-    /// parent ends. Allocates once for the text, and once more for the places of its separators, if
-    /// there are any.
+    /// The parent is the path without its last component. A path of at most one component has no
+    /// parent; the call then returns `Ok(None)`, does not allocate, and never fails. Empty
+    /// components before the last are left out. If the component before the last is empty and
+    /// another one is not, a separator ends the parent: the parent of `a\\b` is `a\`. A parent is
+    /// shorter than the path, so climbing from parent to parent ends. Allocates once for the text,
+    /// and once more if the text contains separators.
     ///
     /// ```rust
     /// let text = CString16::try_from_str(rt.alloc(), r"\efi\boot")?;
@@ -203,13 +203,13 @@ impl<'a> Path<'a> {
             let _text = self.to_cstr16().as_slice();
             return parent_of(alloc, self.components());
         }
-        // Of most paths, one copy of what stands before the last separator.
+        // For most paths, the parent is one copy of the text before the last separator.
         Ok(Some(copy_part(alloc, front)?))
     }
 }
 
 impl<A: Allocator + Copy> PathBuf<A> {
-    /// Returns the empty path, or `AllocError`: its NUL takes memory.
+    /// Creates an empty path. Allocates for the NUL. Returns `AllocError` if memory runs out.
     ///
     /// ```rust
     /// let path = PathBuf::new(rt.alloc())?;
@@ -224,12 +224,12 @@ impl<A: Allocator + Copy> PathBuf<A> {
         })
     }
 
-    /// What the path lies in, for paths that are made of this one.
+    /// Returns the allocator of the path, for paths that are made from this one.
     fn alloc(&self) -> A {
         *self.places.allocator()
     }
 
-    /// As [`PathBuf::new_from_cstring16`]; a string that comes back is let go.
+    /// Does what [`PathBuf::new_from_cstring16`] does, but drops the string of an `Err`.
     pub(crate) fn from_string(alloc: A, string: CString16<A>) -> Result<Self, AllocError>
         ensures { IfOk result (λ path. path ≡ with_separators string) }
     {
@@ -239,8 +239,10 @@ impl<A: Allocator + Copy> PathBuf<A> {
         }
     }
 
-    /// Creates a path from a string, with each slash replaced; or returns `AllocError`. Allocates
-    /// once for the text, and once more for the places of its separators, if there are any.
+    /// Creates a path from a string, replacing each `/` with `\`.
+    ///
+    /// Allocates once for the text, and once more if the text contains separators. Returns
+    /// `AllocError` if memory runs out.
     ///
     /// ```rust
     /// let text = CString16::try_from_str(rt.alloc(), r"/efi\boot")?;
@@ -253,10 +255,10 @@ impl<A: Allocator + Copy> PathBuf<A> {
         PathBuf::from_string(alloc, string.to_owned(alloc)?)
     }
 
-    /// Turns a string into a path without a copy, with each slash replaced. If memory for the
-    /// places of its separators runs out, the result is an `Err` with the unchanged string.
+    /// Turns a string into a path without copying it, and replaces each slash. If memory for the
+    /// indices of its separators runs out, the result is an `Err` with the unchanged string.
     ///
-    /// Allocates once, and not at all for a text without separators and slashes.
+    /// Allocates once, and not at all if the text contains neither separators nor slashes.
     ///
     /// ```rust
     /// let text = CString16::try_from_str(rt.alloc(), "efi/boot")?;
@@ -277,11 +279,12 @@ impl<A: Allocator + Copy> PathBuf<A> {
     }
 
     /// Pushes a path after this one, with its slashes replaced. If this path is not empty and does
-    /// not end in a separator, one is added between the two. Or returns `AllocError`, and the path
-    /// is unchanged.
+    /// not end in a separator, adds a separator between the two. Returns `AllocError` if memory
+    /// runs out, and leaves the path unchanged.
     ///
-    /// The empty path changes nothing, allocates nothing and never fails. Any other path allocates
-    /// if the text or the places have no room: once for the text, and for the places as they come.
+    /// Pushing the empty path changes nothing, does not allocate, and never fails. Pushing any
+    /// other path allocates if the text or the list of separators has no room: once for the text,
+    /// and for the separators as they come.
     ///
     /// ```rust
     /// let text = CString16::try_from_str(rt.alloc(), "efi/boot")?;
@@ -299,10 +302,10 @@ impl<A: Allocator + Copy> PathBuf<A> {
     }
 
     /// Pushes a text as [`PathBuf::push`] pushes its path, and reads each of its units once: the
-    /// count of reads rises by their number.
+    /// count of reads rises by the number of units.
     ///
-    /// If memory runs out the count rises by at most that. The last character of this path is read
-    /// too, which is not counted.
+    /// If memory runs out, the count rises by at most that number. The call also reads the last
+    /// character of this path, without counting it.
     ///
     /// ```rust
     /// let text = CString16::try_from_str(rt.alloc(), "efi/boot")?;
@@ -349,7 +352,7 @@ impl<A: Allocator + Copy> PathBuf<A> {
         Ok(())
     }
 
-    /// Adds a separator, if one is missing, with room for this many characters after it.
+    /// Adds a separator, if one is missing, and reserves room for this many characters after it.
     #[inline(always)]
     fn push_separator(&mut self, len: usize) -> Result<(), AllocError>
         requires { len + 1 < 2 ^ 64 }
@@ -410,7 +413,7 @@ impl<A: Allocator + Copy> PathBuf<A> {
         Ok(start + N)
     }
 
-    /// Keeps the first `len` characters, of which `count` are separators.
+    /// Keeps the first `len` characters, `count` of which are separators.
     fn cut_back(&mut self, len: usize, count: usize)
         requires { count ≡ length (places_of (take len self.now)) }
         ensures { self.new ≡ take len self.old }
@@ -419,7 +422,7 @@ impl<A: Allocator + Copy> PathBuf<A> {
         self.places.truncate(count);
     }
 
-    /// This path with another pushed after it.
+    /// Returns this path with another pushed after it.
     fn with_pushed(mut self, path: Path<'_>) -> Result<Self, AllocError>
         ensures { IfOk result (λ joined. joined ≡ pushed self (path_text path.entry)) }
     {
@@ -427,7 +430,7 @@ impl<A: Allocator + Copy> PathBuf<A> {
         Ok(self)
     }
 
-    /// An equal path, with room for another after it.
+    /// Returns an equal path, with room for another after it.
     fn clone_with_room(&self, path: Path<'_>) -> Result<Self, AllocError>
         ensures { IfOk result (λ copy. copy ≡ self.now) }
     {
@@ -438,8 +441,8 @@ impl<A: Allocator + Copy> PathBuf<A> {
         Ok(PathBuf { string, places })
     }
 
-    /// Returns the path with another pushed after it, as [`Path::join`], in memory of the same
-    /// allocator.
+    /// Creates a path: this path with another pushed after it, as [`Path::join`] does, in memory of
+    /// the same allocator.
     ///
     /// ```rust
     /// let text = CString16::try_from_str(rt.alloc(), r"\efi")?;
@@ -453,9 +456,9 @@ impl<A: Allocator + Copy> PathBuf<A> {
         self.clone_with_room(path)?.with_pushed(path)
     }
 
-    /// Returns the path without its last component, as [`Path::parent`], in memory of the same
-    /// allocator. The components are cut by the places of the separators. A parent of n components
-    /// has n - 1 successive parents, or none where n is 0.
+    /// Creates the path without its last component, as [`Path::parent`] does, in memory of the same
+    /// allocator. Uses the known indices of the separators. A parent of n components has n - 1
+    /// successive parents, or none if n is 0.
     ///
     /// ```rust
     /// let text = CString16::try_from_str(rt.alloc(), r"\efi\boot")?;
@@ -502,7 +505,7 @@ impl<A: Allocator + Copy> PathBuf<A> {
         true
     }
 
-    /// The first characters of the path and a text after them, each slash replaced.
+    /// Returns the first characters of the path and a text after them, with each slash replaced.
     fn with_end(&self, len: usize, end: CStr16<'_>) -> Result<Self, AllocError>
         requires { len ≤ length self.now }
         ensures { IfOk result (λ path. path ≡ with_separators (take len self.now ++ text_of end.entry)) }
@@ -515,9 +518,9 @@ impl<A: Allocator + Copy> PathBuf<A> {
         PathBuf::from_string(self.alloc(), string)
     }
 
-    /// Replaces the last component by a name, with each of its slashes replaced. A path without
-    /// components gets the name. Or returns `AllocError`, and the path is unchanged. Allocates as
-    /// [`PathBuf::from`] does.
+    /// Replaces the last component with a name, with each slash of the name replaced. If the path
+    /// has no components, appends the name to its text. Returns `AllocError` if memory runs out,
+    /// and leaves the path unchanged. Allocates as [`PathBuf::from`] does.
     ///
     /// ```rust
     /// let text = CString16::try_from_str(rt.alloc(), r"\efi\boot")?;
@@ -534,8 +537,8 @@ impl<A: Allocator + Copy> PathBuf<A> {
         Ok(())
     }
 
-    /// The first characters of the path, and after them a dot and an extension, each slash replaced;
-    /// no dot before the empty extension.
+    /// Returns the first characters of the path, a dot and an extension, with each slash replaced;
+    /// without the dot if the extension is empty.
     fn with_extension(&self, len: usize, extension: CStr16<'_>) -> Result<Self, AllocError>
         requires { len ≤ length self.now }
         ensures { IfOk result (λ path.
@@ -554,9 +557,9 @@ impl<A: Allocator + Copy> PathBuf<A> {
     }
 
     /// Replaces the extension of the last component, with a dot before it and each slash replaced.
-    /// The empty extension removes the old one. Returns whether there is a component; or
-    /// `AllocError`, and the path is unchanged. Allocates as [`PathBuf::from`] does, and once for
-    /// the extension, if it is not empty.
+    /// An empty extension removes the old one. Returns whether there is a component. Returns
+    /// `AllocError` if memory runs out, and leaves the path unchanged. Allocates as
+    /// [`PathBuf::from`] does, and once for the extension, if it is not empty.
     ///
     /// ```rust
     /// let text = CString16::try_from_str(rt.alloc(), r"\efi\boot.bak")?;
@@ -611,7 +614,7 @@ impl<A: Allocator + Copy> PathBuf<A> {
         self.string.as_cstr16()
     }
 
-    /// Gives back the string that the path owns. Does not allocate.
+    /// Returns the string that the path owns. Does not allocate.
     ///
     /// ```rust
     /// let path = PathBuf::from(rt.alloc(), separator_str())?;
@@ -625,14 +628,15 @@ impl<A: Allocator + Copy> PathBuf<A> {
         string
     }
 
-    /// Returns whether the text is empty. A lone separator is not, though it equals the empty path.
+    /// Returns whether the text is empty. A lone separator is not empty, although it equals the
+    /// empty path.
     pub fn is_empty(&self) -> bool
         ensures { IsTrue result ↔ (self.now ≡ []) }
     {
         self.string.is_empty()
     }
 
-    /// Returns the components, as [`Path::components`].
+    /// Returns the components, as [`Path::components`] does.
     pub fn components(&self) -> Components<'_>
         ensures same { components_left result ≡ components_of self.now }
         ensures components { AreComponents self.now (components_left result) }
@@ -647,7 +651,7 @@ impl<A: Allocator + Copy> PathBuf<A> {
         Components::of_canonical(self.string.as_cstr16(), self.canonical(places))
     }
 
-    /// The canonical text, with these places of the separators there. Looks at no character.
+    /// Returns the canonical text, with these indices of its separators. Reads no character.
     fn canonical<'a>(&'a self, places: &'a [usize]) -> Rest<'a>
         requires { places.now ≡ places_of self.now }
         ensures { uncut_units result ≡ canonical self.now }
@@ -659,7 +663,7 @@ impl<A: Allocator + Copy> PathBuf<A> {
         Rest::placed(text, 0, places)
     }
 
-    /// Returns the last component, as [`Path::file_name`].
+    /// Returns the last component, as [`Path::file_name`] does.
     pub fn file_name(&self) -> Option<Char16Slice<'_>>
         ensures same { option_map units_of result ≡ last_or None (components_of self.now) }
         ensures is_text { IfSome result (λ name. IsText (units_of name)) }
@@ -668,14 +672,14 @@ impl<A: Allocator + Copy> PathBuf<A> {
     }
 
     /// Returns whether the components of this path begin with those of the base, as
-    /// [`Path::starts_with`].
+    /// [`Path::starts_with`] does.
     pub fn starts_with(&self, base: Path<'_>) -> bool
         ensures { IsTrue result ↔ StartsWith self.now (path_text base.entry) }
     {
         self.strip_prefix(base).is_some()
     }
 
-    /// Returns the components of this path after those of the base, as [`Path::strip_prefix`].
+    /// Returns the components of this path after those of the base, as [`Path::strip_prefix`] does.
     pub fn strip_prefix(&self, base: Path<'_>) -> Option<Components<'_>>
         ensures starts { IsSome result ↔ StartsWith self.now (path_text base.entry) }
         ensures rest { IfSome result (λ rest.
@@ -689,7 +693,7 @@ impl<A: Allocator + Copy> PathBuf<A> {
     }
 }
 
-/// Copies the path, in memory of the same allocator, which it takes as [`PathBuf::from`] does.
+/// Copies the path, in memory of the same allocator. Allocates as [`PathBuf::from`] does.
 impl<A: Allocator + Copy> Clone for PathBuf<A> {
     ghost is_clone = { λ path copy. copy ≡ path };
 
@@ -701,7 +705,7 @@ impl<A: Allocator + Copy> Clone for PathBuf<A> {
     }
 }
 
-/// Equality is that of [`Path`].
+/// Compares paths as [`Path`] does.
 impl<A: Allocator + Copy> PartialEq for PathBuf<A> {
     ghost eq = { λ a b. pointwise nat_eq (canonical a) (canonical b) };
 
@@ -716,7 +720,7 @@ impl<A: Allocator + Copy> Eq for PathBuf<A> {
     ghost laws = { on_texts_equal canonical };
 }
 
-/// The order is that of [`Path`].
+/// Orders paths as [`Path`] does.
 impl<A: Allocator + Copy> PartialOrd for PathBuf<A> {
     ghost partial_cmp = { as_partial_cmp (on canonical (slice_cmp nat_cmp)) };
 
@@ -727,7 +731,7 @@ impl<A: Allocator + Copy> PartialOrd for PathBuf<A> {
     }
 }
 
-/// `Equal` exactly for equal paths.
+/// Returns `Equal` exactly for equal paths.
 impl<A: Allocator + Copy> Ord for PathBuf<A> {
     ghost cmp = { on canonical (slice_cmp nat_cmp) };
 

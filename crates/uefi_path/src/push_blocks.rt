@@ -1,6 +1,6 @@
-//! What a push adds to a path, block by block: units with their slashes replaced, and the places of their
-//! separators. The length of a block is known when the program is compiled, so that a block takes a few
-//! vector instructions and no loop but the one over its separators.
+//! The blocks that a push adds to a path: units with their slashes replaced, and the indices of
+//! their separators. The length of a block is known at compile time, so that a block takes a few
+//! vector instructions and no loop except the one over its separators.
 #![tactic(auto, using(crate::proofs::Rules::blocks_rules))]
 
 ghost use Rattle.std.specs.Prelude.{◌≡◌, ◌+◌, ◌<◌, ◌≤◌, ◌^◌, ◌++◌, OnErr, OnOk, length};
@@ -32,8 +32,8 @@ pub(crate) fn copy_units(block: &mut [u16], units: &mut CountedUnits<'_>, start:
     }
 }
 
-/// Adds a block of units to a text, and the places of its separators to those of the text; or returns
-/// `AllocError`, and both are unchanged.
+/// Adds a block of units to a text, and the indices of its separators to those of the text. Returns
+/// `AllocError` if memory runs out, and leaves both unchanged.
 #[inline(always)]
 pub(crate) fn add_block<A: Allocator, const N: usize>(
     string: &mut CString16<A>,

@@ -1,4 +1,4 @@
-//! Copies of a path's parts, with room for what is pushed after them.
+//! Copies of a path's parts, with room for the text that is pushed after them.
 ghost use Rattle.std.specs.Prelude.{◌≡◌, IfOk};
 ghost use Rattle.uefi_text.specs.Views.{text_of};
 
@@ -7,7 +7,7 @@ use std::alloc::{AllocError, Allocator};
 use uefi_text::owned_strs::CString16;
 use uefi_text::strs::CStr16;
 
-/// How long a path becomes at most, when another is pushed after it.
+/// Returns the greatest length of a path after another is pushed on it.
 pub(crate) fn room_for_both(path: Path<'_>, other: Path<'_>) -> usize {
     let (first, second) = (path.to_cstr16().num_chars(), other.to_cstr16().num_chars());
     first.saturating_add(second).saturating_add(1)

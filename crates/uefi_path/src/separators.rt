@@ -1,4 +1,5 @@
-//! Separators: which units become them, and where they stand. A vector comparison looks at a block of units.
+//! Separators: which units become separators, and their indices. A vector comparison tests a block
+//! of units.
 #![tactic(auto, using(crate::proofs::Rules::places_rules))]
 
 ghost use Rattle.std.specs.Prelude.{◌≡◌, ◌<◌, ◌≤◌, ◌+◌, ◌-◌, ◌++◌, ◌∷◌, [], IfSome, IsNone, count_by, drop, length, map, slice_index, take};
@@ -16,16 +17,19 @@ use std::simd::prelude::*;
 use uefi_text::chars::SEPARATOR;
 use uefi_text::strs::Char16Slice;
 
-/// How many units are looked at together where a text has as many.
+/// The number of units that are tested together if a text has as many.
 const BLOCK: usize = 16;
 
-/// How many where it has fewer: the last ones are looked at one by one.
+/// The number of units that are tested together if it has fewer; the last ones are tested one by
+/// one.
 const SMALL_BLOCK: usize = 8;
 
-/// How many units are counted in a number as wide as a unit, so that this becomes vector code.
+/// The number of units that are counted in a number as wide as a unit, so that this becomes vector
+/// code.
 const COUNTED: usize = 4096;
 
-/// How many of a block of units are separators once slashes are replaced, and whether one is a slash.
+/// Returns the number of units of a block that are separators once slashes are replaced, and
+/// whether one is a slash.
 #[inline(always)]
 fn count_in_block(units: &[u16]) -> (u16, bool)
     requires { length units.now ≤ 4096 }
@@ -42,7 +46,8 @@ fn count_in_block(units: &[u16]) -> (u16, bool)
     (count, has_slash)
 }
 
-/// How many units are separators once slashes are replaced, and whether one is a slash.
+/// Returns the number of units that are separators once slashes are replaced, and whether one is a
+/// slash.
 #[inline(always)]
 pub(crate) fn count_separators(units: &[u16]) -> (usize, bool)
     ensures count { result.0 ≡ count_by becomes_separator units.now }
@@ -58,7 +63,8 @@ pub(crate) fn count_separators(units: &[u16]) -> (usize, bool)
     (count, has_slash)
 }
 
-/// A bit for each of the first units, set where it is a separator; the first is the lowest.
+/// Returns a bit for each of the first units, set if the unit is a separator; the first unit has
+/// the lowest bit.
 #[inline(always)]
 pub(crate) fn separator_bits_first<const N: usize>(units: &[u16]) -> u64
     requires within { N ≤ length units.now }
@@ -70,7 +76,7 @@ pub(crate) fn separator_bits_first<const N: usize>(units: &[u16]) -> u64
         .to_bitmask()
 }
 
-/// The bits of fewer units than are looked at together.
+/// Returns the bits of fewer units than are tested together.
 #[inline(always)]
 fn separator_bits_few(units: &[u16]) -> u64
     requires { length units.now < 16 }
@@ -85,7 +91,7 @@ fn separator_bits_few(units: &[u16]) -> u64
     bits
 }
 
-/// A bit for each of the first units, and how many have one.
+/// Returns a bit for each of the first units, and the number of units that have a bit.
 #[inline(always)]
 fn separator_bits(units: &[u16]) -> (u64, usize)
     ensures within { result.1 ≤ length units.now }
@@ -105,10 +111,10 @@ fn separator_bits(units: &[u16]) -> (u64, usize)
 /// The separators of units that remain. In contracts they are `places_left` of it.
 #[derive(Clone, Copy)]
 pub(crate) struct Separators<'a> {
-    /// The places of the first ones, where they are known.
+    /// The indices of the first ones, if they are known.
     known: &'a [usize],
 
-    /// The units in which the others stand, from `start` on.
+    /// The units that contain the other separators, from `start` on.
     units: &'a [u16],
     start: usize,
 
@@ -124,7 +130,7 @@ pub(crate) struct Separators<'a> {
 impl<'a> Separators<'a> {
     ghost use Rattle.uefi_path.specs.SeparatorsLeft.{places_left};
 
-    /// Those of units from a place on.
+    /// Returns the separators of units from an index on.
     pub(crate) fn of(units: &'a [u16], start: usize) -> Separators<'a>
         requires { start ≤ length units.now }
         ensures { places_left result ≡ places_from start (drop start units.now) }
@@ -138,7 +144,7 @@ impl<'a> Separators<'a> {
         }
     }
 
-    /// Those at known places.
+    /// Returns the separators at known indices.
     pub(crate) fn at(known: &'a [usize]) -> Separators<'a>
         ensures { places_left result ≡ known.now }
     {
@@ -151,7 +157,8 @@ impl<'a> Separators<'a> {
         }
     }
 
-    /// Those of units from a place on that were all looked at: a bit says of each whether it is one.
+    /// Returns the separators of units from an index on that were all tested: a bit says of each
+    /// unit whether it is a separator.
     #[inline(always)]
     pub(crate) fn seen(units: &'a [u16], start: usize, bits: u64) -> Separators<'a>
         requires within { start ≤ length units.now }
@@ -170,7 +177,7 @@ impl<'a> Separators<'a> {
         }
     }
 
-    /// These separators, once the next units are looked at, where no bit is set.
+    /// Returns these separators, once the next units are tested, if no bit is set.
     #[inline(always)]
     fn look_on(self) -> Separators<'a>
         requires none { self.bits ≡ 0 }
@@ -190,7 +197,7 @@ impl<'a> Separators<'a> {
         }
     }
 
-    /// The place of the lowest bit, and the separators after it.
+    /// Returns the index of the lowest bit, and the separators after it.
     #[inline(always)]
     fn take_lowest(self) -> (usize, Separators<'a>)
         requires some { 0 < self.bits }
@@ -267,7 +274,7 @@ pub(crate) fn add_places<A: Allocator>(places: &mut Vec<usize, A>, units: &[u16]
     }
 }
 
-/// Where the last piece of units begins.
+/// Returns the index at which the last piece of units begins.
 pub(crate) fn last_start(units: &[u16]) -> usize
     ensures within { result ≤ length units.now }
     ensures piece { IsPiece (drop result units.now) }
@@ -280,7 +287,7 @@ pub(crate) fn last_start(units: &[u16]) -> usize
     start
 }
 
-/// What stands before the last piece of a text, if anything does, and that piece.
+/// Returns the text before the last piece of a text, if there is any, and that piece.
 pub(crate) fn cut_last(text: Char16Slice<'_>) -> (Option<Char16Slice<'_>>, Char16Slice<'_>)
     ensures pieces { slice_split is_separator (units_of text.entry)
         ≡ pieces_left result.0 ++ units_of result.1 ∷ [] }

@@ -1,4 +1,4 @@
-//! Paths in which a slash separates components too, as in those that a path buffer takes over.
+//! Paths in which slashes separate components too, as in the input of a path buffer.
 #![tactic(auto, using(crate::proofs::Rules::slashed_paths_rules))]
 
 ghost use Rattle.std.specs.Prelude.{◌≡◌, ◌≤◌, ◌+◌, ◌-◌, ◌<◌, ◌^◌, ◌++◌, ◌∷◌, [], All, drop, false, length, slice_index, take, true};
@@ -16,14 +16,14 @@ use crate::path::Path;
 use crate::validation::{PathError, depth_after, find_fault, validate_path};
 use uefi_text::strs::Char16Slice;
 
-/// Whether a component ends before this unit.
+/// Returns whether a component ends before this unit.
 fn is_end(unit: u16) -> bool
     ensures { result ≡ becomes_separator unit }
 {
     unit == 92 || unit == 47
 }
 
-/// Where the first piece of units ends.
+/// Returns the index at which the first piece of units ends.
 fn first_end(units: &[u16]) -> usize
     ensures within { result ≤ length units.now }
     ensures piece { All (λ unit. becomes_separator unit ≡ false) (take result units.now) }
@@ -36,7 +36,7 @@ fn first_end(units: &[u16]) -> usize
     end
 }
 
-/// Where the last piece of units begins.
+/// Returns the index at which the last piece of units begins.
 fn last_start(units: &[u16]) -> usize
     ensures within { result ≤ length units.now }
     ensures piece { All (λ unit. becomes_separator unit ≡ false) (drop result units.now) }
@@ -49,7 +49,7 @@ fn last_start(units: &[u16]) -> usize
     start
 }
 
-/// The first piece of a text, and what stands after it, if anything does.
+/// Returns the first piece of a text, and the text after it, if there is any.
 fn cut_first(text: Char16Slice<'_>) -> (Char16Slice<'_>, Option<Char16Slice<'_>>)
     ensures pieces { slice_split is_separator (with_separators (units_of text.entry))
         ≡ units_of result.0 ∷ slashed_left result.1 }
@@ -63,7 +63,7 @@ fn cut_first(text: Char16Slice<'_>) -> (Char16Slice<'_>, Option<Char16Slice<'_>>
     (first, Some(text.part(end + 1, text.len())))
 }
 
-/// What stands before the last piece of a text, if anything does, and that piece.
+/// Returns the text before the last piece of a text, if there is any, and that piece.
 pub(crate) fn cut_last(text: Char16Slice<'_>) -> (Option<Char16Slice<'_>>, Char16Slice<'_>)
     ensures pieces { slice_split is_separator (with_separators (units_of text.entry))
         ≡ slashed_left result.0 ++ units_of result.1 ∷ [] }
@@ -77,7 +77,7 @@ pub(crate) fn cut_last(text: Char16Slice<'_>) -> (Option<Char16Slice<'_>>, Char1
     (Some(text.part(0, start - 1)), last)
 }
 
-/// Where units begin without one leading separator or slash.
+/// Returns the index at which units begin without one leading separator or slash.
 fn canonical_start(units: &[u16]) -> usize
     ensures start { with_separators (drop result units.now) ≡ canonical (with_separators units.now) }
     ensures within { result ≤ length units.now }
@@ -88,8 +88,8 @@ fn canonical_start(units: &[u16]) -> usize
     }
 }
 
-/// What the components of a path are cut from, where slashes separate them too; `None` if there is
-/// none.
+/// Returns the text from which the components of a path are cut, if slashes separate them too;
+/// `None` if there are no components.
 pub(crate) fn to_cut(path: Path<'_>) -> Option<Char16Slice<'_>>
     ensures same { slashed_left result ≡ components_of (with_separators (path_text path.entry)) }
     ensures texts { All IsText (slashed_left result) }
@@ -104,7 +104,7 @@ pub(crate) fn to_cut(path: Path<'_>) -> Option<Char16Slice<'_>>
     Some(text.part(start, text.len()))
 }
 
-/// Why a path is refused whose slashes are separators, if it is, component by component.
+/// Returns why a path whose slashes are separators is refused, if it is, component by component.
 fn find_fault_slashed(path: Path<'_>) -> Option<PathError>
     ensures { result ≡ verdict (with_separators (path_text path.entry)) }
 {
@@ -127,7 +127,7 @@ fn find_fault_slashed(path: Path<'_>) -> Option<PathError>
     None
 }
 
-/// Why a path is refused whose slashes are separators, if it is.
+/// Returns why a path is refused whose slashes are separators, if it is.
 pub(crate) fn judge_slashed(path: Path<'_>) -> Result<(), PathError>
     ensures { result_err result ≡ verdict (with_separators (path_text path.entry)) }
 {

@@ -1,4 +1,4 @@
-//! Which paths are accepted, and why the others are refused.
+//! The paths that are accepted, and the reasons why others are refused.
 ghost use Rattle.std.specs.Prelude.{◌≡◌, ◌+◌, ◌<◌, ◌^◌, ◌↔◌, All, IfOk, IsOk, IsTrue, Option, find, Some};
 ghost use Rattle.std.specs.Result.{result_err};
 ghost use Rattle.uefi_path.specs.Climbing.{depth_after};
@@ -18,7 +18,7 @@ use uefi_text::number_texts::put_decimal;
 use uefi_text::strs::Char16Slice;
 use uefi_text::text_sink::{Printed, TextSink, print};
 
-/// Why a path is refused.
+/// The reason why a path is refused.
 #[derive(Clone, Copy, Debug, PartialEq, Eq)]
 pub enum PathError {
     /// The text is empty.
@@ -27,11 +27,11 @@ pub enum PathError {
     /// A component is empty.
     EmptyComponent,
 
-    /// A component holds this character of [`CHARACTER_DENY_LIST`].
+    /// A component contains this character of [`CHARACTER_DENY_LIST`].
     IllegalChar(Char16),
 
-    /// A component `..` climbs above where the path starts: the components before it hold at least
-    /// as many `..` as names.
+    /// A component `..` climbs above the start of the path: the components before it contain at
+    /// least as many `..` as names.
     ClimbsAboveRoot,
 }
 
@@ -79,7 +79,7 @@ static DENIED: [bool; 128] = [
     false, false, false, false, false, true, false, false, false,
 ];
 
-/// Whether no file's name holds the character.
+/// Returns whether file names must not contain the character.
 fn is_denied(character: Char16) -> bool
     ensures { result ≡ is_denied character }
 {
@@ -87,7 +87,7 @@ fn is_denied(character: Char16) -> bool
     place < DENIED.len() && DENIED[place]
 }
 
-/// The first character that no file's name holds.
+/// Returns the first character that file names must not contain.
 fn find_denied(component: Char16Slice<'_>) -> Option<Char16>
     ensures { result ≡ find is_denied (units_of component.entry) }
 {
@@ -99,7 +99,7 @@ fn find_denied(component: Char16Slice<'_>) -> Option<Char16>
     None
 }
 
-/// Why a component names no file, if it names none.
+/// Returns why a component names no file, if it names none.
 pub(crate) fn find_fault(component: Char16Slice<'_>) -> Option<PathError>
     ensures { result ≡ fault (units_of component.entry) }
 {
@@ -109,8 +109,8 @@ pub(crate) fn find_fault(component: Char16Slice<'_>) -> Option<PathError>
     find_denied(component).map(PathError::IllegalChar)
 }
 
-/// How many names are left after a component, where there were this many before it; `None` if the
-/// component climbs above where the path starts.
+/// Returns the number of names that are left after a component, given the number before it; `None`
+/// if the component climbs above the start of the path.
 pub(crate) fn depth_after(depth: usize, component: Char16Slice<'_>) -> Option<usize>
     requires { depth + 1 < 2 ^ 64 }
     ensures { result ≡ depth_after (kind (units_of component.entry)) depth }
@@ -122,7 +122,7 @@ pub(crate) fn depth_after(depth: usize, component: Char16Slice<'_>) -> Option<us
     }
 }
 
-/// Why a path is refused; or, of one that is accepted, whether each component is a name.
+/// Returns why a path is refused; or, of one that is accepted, whether each component is a name.
 pub(crate) fn judge(path: Path<'_>) -> Result<bool, PathError>
     ensures refusal { result_err result ≡ verdict (path_text path.entry) }
     ensures names { IfOk result (λ are_names.
@@ -150,10 +150,11 @@ pub(crate) fn judge(path: Path<'_>) -> Result<bool, PathError>
 
 /// Whether a path is accepted: `Ok`, or the fault of its first component that has one.
 ///
-/// The empty path is refused as `Empty`. The lone separator has no component and is accepted. An
-/// empty component is refused as `EmptyComponent`, one that holds a character of
-/// [`CHARACTER_DENY_LIST`] as `IllegalChar` of its first such, and a `..` as `ClimbsAboveRoot`
-/// where the components before it hold at least as many `..` as names. A `.` is no name.
+/// The empty path is refused as `Empty`. A lone separator has no component and is accepted. An
+/// empty component is refused as `EmptyComponent`. A component that contains a character of
+/// [`CHARACTER_DENY_LIST`] is refused as `IllegalChar`, with the first of these characters. A `..`
+/// is refused as `ClimbsAboveRoot` if the components before it contain at least as many `..` as
+/// names. A `.` is not a name.
 ///
 /// Does not allocate.
 ///

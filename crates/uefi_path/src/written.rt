@@ -28,8 +28,8 @@ use uefi_text::number_texts::put_decimal;
 use uefi_text::text_sink::{Printed, TextSink, print};
 use uefi_text::unit_sink::{sink_replaced, sink_unit};
 
-/// Adds the separator that is missing to what a buffer was given, of which `len` units were counted, and
-/// returns how many there are now.
+/// Adds a missing separator to a buffer that was given `len` units before, and returns the number
+/// of units now.
 fn sink_missing(buffer: &mut [u16], len: usize, is_missing: bool) -> usize
     ensures { (path old : List ℕ) → AreSunk path old buffer.old len →
         AreSunk (if is_missing then path ++ separator ∷ [] else path) old buffer.new result }
@@ -49,7 +49,7 @@ fn sink_with_separators(buffer: &mut [u16], len: usize, units: &[u16]) -> usize
     sink_replaced(buffer, len, units, u16::from(SLASH), u16::from(SEPARATOR))
 }
 
-/// Adds a part of a path, each slash replaced, after a separator where one is missing.
+/// Adds a part of a path, with each slash replaced, after a separator if one is missing.
 fn sink_part(buffer: &mut [u16], len: usize, is_missing: bool, part: &[u16]) -> usize
     ensures { (path old : List ℕ) → AreSunk path old buffer.old len →
         AreSunk (path ++ tail_of is_missing part.now) old buffer.new result }
@@ -58,7 +58,7 @@ fn sink_part(buffer: &mut [u16], len: usize, is_missing: bool, part: &[u16]) -> 
     sink_with_separators(buffer, start, part)
 }
 
-/// Adds what a push of a path adds to a text, by whether that needs a separator.
+/// Adds what a push of a path adds to a text, given whether the text needs a separator.
 fn sink_pushed(buffer: &mut [u16], len: usize, needs: bool, path: &[u16]) -> usize
     ensures { (text old : List ℕ) → needs ≡ needs_separator text → AreSunk text old buffer.old len →
         AreSunk (pushed text path.now) old buffer.new result }
@@ -100,7 +100,7 @@ pub(crate) fn sink_parent(buffer: &mut [u16], mut components: Components<'_>) ->
     Some(len)
 }
 
-/// The number of units of the parent of a path of these components, if it has one.
+/// Returns the number of units of the parent of a path of these components, if it has one.
 pub(crate) fn parent_len(components: &Components<'_>) -> Option<usize>
     requires texts { All IsText (components_left components.now) }
     requires pieces { All IsPiece (components_left components.now) }
@@ -110,8 +110,8 @@ pub(crate) fn parent_len(components: &Components<'_>) -> Option<usize>
     sink_parent(&mut [], components.copy())
 }
 
-/// Writes a separator before what stands at the end of a buffer, if anything does, and returns where that
-/// begins then.
+/// Writes a separator before the text at the end of a buffer, if there is any, and returns the
+/// index at which the text then begins.
 fn write_separator_before(buffer: &mut [u16], start: usize) -> usize
     requires within { start ≤ length buffer.now }
     requires room { start < length buffer.now → 0 < start }
@@ -128,7 +128,7 @@ fn write_separator_before(buffer: &mut [u16], start: usize) -> usize
     start - 1
 }
 
-/// Writes a name, each slash replaced, before what stands at the end of a buffer.
+/// Writes a name, with each slash replaced, before the text at the end of a buffer.
 fn write_name_before(buffer: &mut [u16], end: usize, name: &[u16])
     requires within { end ≤ length buffer.now }
     requires room { length name.now ≤ end }
@@ -139,7 +139,8 @@ fn write_name_before(buffer: &mut [u16], end: usize, name: &[u16])
     sink_with_separators(&mut buffer[end - name.len()..end], 0, name);
 }
 
-/// How many units names have, joined. Writes them into places, where these are as many.
+/// Returns the number of units of joined names. Writes them into `places`, if there are as many
+/// places.
 pub(crate) fn write_names(places: &mut [u16], mut names: NamesFromLast<'_>) -> usize
     requires walk { IsWalk names }
     requires good { All IsGood (names_left names) }
@@ -150,7 +151,7 @@ pub(crate) fn write_names(places: &mut [u16], mut names: NamesFromLast<'_>) -> u
 {
     let mut len = 0;
     while let Some(name) = names.next() {
-        // No name is empty, so a separator stands between this one and others.
+        // No name is empty, so there is a separator between this one and others.
         let all = len + (name.len() + usize::from(0 < len));
         if all <= places.len() {
             let end = write_separator_before(places, places.len() - len);
@@ -171,15 +172,15 @@ pub(crate) fn write_string(units: &mut [u16], len: usize, names: NamesFromLast<'
     requires room { length units.now ≡ max len 1 + 1 }
     ensures { units.new ≡ nul_terminated (normal_text (names_left names.entry)) }
 {
-    // Where no name is left the path is the lone separator.
+    // If no name is left, the path is a lone separator.
     units[0] = u16::from(SEPARATOR);
     units[len.max(1)] = 0;
     let _len = write_names(&mut units[..len], names);
 }
 
-/// Pushes a path on the text that the first `end` units of a buffer are, in the buffer, as
-/// [`PathBuf::push`](crate::PathBuf::push) does, and writes a NUL after it. Fails only if the buffer is
-/// too small, and then leaves it unchanged.
+/// Pushes a path on the text in the first `end` units of a buffer, in the buffer, as
+/// [`PathBuf::push`](crate::PathBuf::push) does, and writes a NUL after it. Fails only if the
+/// buffer is too small, and then leaves it unchanged.
 #[doc(hidden)]
 pub fn push_in_buf(buffer: &mut [u16], end: usize, path: &[u16]) -> Result<usize, BufferTooSmall>
     requires { end ≤ length buffer.now }
@@ -197,7 +198,7 @@ pub fn push_in_buf(buffer: &mut [u16], end: usize, path: &[u16]) -> Result<usize
     Ok(len)
 }
 
-/// Why no normal path is written.
+/// The reason why no normal path is written.
 #[derive(Clone, Copy, Debug, PartialEq, Eq)]
 pub enum NormalWriteError {
     /// The path is not valid, for this reason.
@@ -242,8 +243,8 @@ impl Error for NormalWriteError {}
 /// path without it. The rest of the buffer is unchanged. A buffer that is too small is unchanged.
 /// No call allocates.
 impl<'a> Path<'a> {
-    /// Writes the parent, which [`Path::parent`] makes, to the start of a buffer; or returns `Ok(None)`,
-    /// if the path has at most one component, and the buffer is unchanged.
+    /// Writes the parent, which [`Path::parent`] makes, to the start of a buffer. If the path has
+    /// at most one component, returns `Ok(None)` and leaves the buffer unchanged.
     ///
     /// ```rust
     /// let text = CString16::try_from_str(rt.alloc(), r"\efi\boot")?;
@@ -273,11 +274,11 @@ impl<'a> Path<'a> {
         Ok(Some(len))
     }
 
-    /// Writes the normal path to the start of a buffer: the one that [`Path::normalize`] makes of this path
-    /// once each slash is a separator.
+    /// Writes the normal path to the start of a buffer: the path that [`Path::normalize`] makes
+    /// from this path once each slash is a separator.
     ///
-    /// Fails with `Invalid`, with the reason of [`validate_path`](crate::validate_path) for that path, or
-    /// else if the buffer is too small.
+    /// Fails with `Invalid` and the reason of [`validate_path`](crate::validate_path) if that path
+    /// is not valid, and otherwise with `BufferTooSmall` if the buffer is too small.
     ///
     /// ```rust
     /// let text = CString16::try_from_str(rt.alloc(), "a/../b")?;

@@ -2,12 +2,12 @@
 //! for English: `StriColl`, `StrUpr` and `StrLwr` (UEFI Specification 2.10, section 21.1). No call
 //! allocates.
 //!
-//! The functions take any units, surrogates included, because names on FAT volumes may hold them. Strings and
-//! slices of characters have methods of the same names.
+//! The functions take any units, including surrogates, because names on FAT volumes may contain
+//! them. Strings and slices of characters have methods with the same names.
 //!
-//! The letters that have a case are `a` to `z` and the small letters of Latin-1, U+00E0 to U+00FE but
-//! the division sign U+00F7. Their upper case is 32 below them. Any other character is its own upper
-//! case and its own lower case. `specs/Case.antt` has the definitions.
+//! The letters that have a case are `a` to `z` and the small letters of Latin-1, U+00E0 to U+00FE
+//! except the division sign U+00F7. The upper case of a letter is 32 below it. Any other character
+//! is its own upper case and its own lower case. `specs/Case.antt` has the definitions.
 ghost use Rattle.std.specs.Prelude.{◌≡◌, ◌↔◌, IsTrue, map};
 ghost use Rattle.uefi_text.specs.Case.{caseless_order, in_case, is_lowercase, lower, lowers, upper, uppers};
 ghost use Rattle.uefi_text.specs.Views.{text_of, units_of};
@@ -16,7 +16,7 @@ use crate::chars::Char16;
 use crate::strs::{CStr16, Char16Slice};
 use std::cmp::Ordering;
 
-/// Whether a unit has an upper case, 32 below it.
+/// Returns whether a unit has an upper case, 32 below it.
 #[inline(always)]
 fn is_lowercase(unit: u16) -> bool
     ensures { result ≡ is_lowercase unit }
@@ -81,7 +81,7 @@ pub(crate) fn set_case(units: &mut [u16], case: Case)
     }
 }
 
-/// Puts units in upper case.
+/// Converts units to upper case, in place.
 ///
 /// ```rust
 /// let mut name = [0x61, 0xdc00, 0xff];
@@ -94,7 +94,7 @@ pub fn make_uppercase(units: &mut [u16])
     set_case(units, Case::Upper);
 }
 
-/// Puts units in lower case.
+/// Converts units to lower case, in place.
 ///
 /// ```rust
 /// let mut name = [0x41, 0xdc00];
@@ -107,8 +107,8 @@ pub fn make_lowercase(units: &mut [u16])
     set_case(units, Case::Lower);
 }
 
-/// Returns how units compare without case: by the first that differ in upper case, and where one
-/// list of units is a prefix of the other, the shorter is less.
+/// Compares two lists of units without case. The first units that differ in upper case decide. If
+/// one list is a prefix of the other, the shorter list is less.
 ///
 /// ```rust
 /// assert!(rt; case::cmp_ignore_case(&[0x61, 0xd800], &[0x41, 0xd801]).is_lt());
@@ -125,7 +125,7 @@ pub fn cmp_ignore_case(units: &[u16], others: &[u16]) -> Ordering
     units.len().cmp(&others.len())
 }
 
-/// Returns whether units are the same without case.
+/// Returns whether two lists of units are the same without case.
 ///
 /// ```rust
 /// assert!(rt; case::eq_ignore_case(&[0x61, 0xd800], &[0x41, 0xd800]));
@@ -165,7 +165,8 @@ impl Char16 {
 }
 
 impl<'a> CStr16<'a> {
-    /// Returns whether both strings are the same without case: their texts in upper case are.
+    /// Returns whether both strings are the same without case: whether their texts in upper case
+    /// are equal.
     ///
     /// ```rust
     /// let shim = CString16::try_from_str(rt.alloc(), "Shimx64.efi")?;
@@ -178,9 +179,8 @@ impl<'a> CStr16<'a> {
         eq_ignore_case(self.to_u16_slice(), other.to_u16_slice())
     }
 
-    /// Returns how both strings compare without case, as `StriColl` compares them: by the first
-    /// characters that differ in upper case, and where one text is a prefix of the other, the
-    /// shorter is less.
+    /// Compares two strings without case, as `StriColl` does. The first characters that differ in
+    /// upper case decide. If one text is a prefix of the other, the shorter text is less.
     ///
     /// ```rust
     /// let (one, two) = (&[0x61, 0x42, 0], &[0x41, 0x63, 0]);
@@ -196,7 +196,8 @@ impl<'a> CStr16<'a> {
 }
 
 impl<'a> Char16Slice<'a> {
-    /// Returns whether both slices are the same without case, as [`CStr16::eq_ignore_case`].
+    /// Returns whether both slices are the same without case, as [`CStr16::eq_ignore_case`] does
+    /// for strings.
     ///
     /// ```rust
     /// let name = CString16::try_from_str(rt.alloc(), "boot.EFI")?;
@@ -210,7 +211,7 @@ impl<'a> Char16Slice<'a> {
         eq_ignore_case(self.units(), other.units())
     }
 
-    /// Returns how both slices compare without case, as [`CStr16::cmp_ignore_case`].
+    /// Compares two slices without case, as [`CStr16::cmp_ignore_case`] does for strings.
     ///
     /// ```rust
     /// let name = CString16::try_from_str(rt.alloc(), "Bootx")?;

@@ -1,13 +1,13 @@
-//! Sinks of characters: a [`String`], an [`ArrayString`] of fixed room, or a caller's own type. A
-//! call that writes to a sink relies on the trait's clauses alone.
+//! Sinks of characters: a [`String`], an [`ArrayString`] with a fixed capacity, or a caller's own
+//! type. A call that writes to a sink relies only on the trait's clauses.
 ghost use Rattle.std.specs.Prelude.{◌≡◌, ℕ, ◌+◌, ◌<◌, ◌≤◌, ◌++◌, ◌↔◌, List, IsOk, OnErr, OnOk, encode_utf8, false, length, string_bytes, true, ⊤};
 
 use arrayvec::ArrayString;
 use std::alloc::Allocator;
 use std::fmt;
 
-/// What characters can be written to. A contract sees a sink as `text` of it: the UTF-8 of what it
-/// holds.
+/// A sink that characters can be written to. A contract sees a sink as `text` of it: its contents
+/// in UTF-8.
 ///
 /// ```rust
 /// use arrayvec::ArrayString;
@@ -18,21 +18,21 @@ use std::fmt;
 /// assert_eq!(rt; label.as_str(), "abc");
 /// ```
 pub trait CharSink {
-    /// The UTF-8 of what it holds.
+    /// The contents, in UTF-8.
     ghost text: { Self → List ℕ };
 
-    /// Whether a character may be refused after a text. A sink says here where it may.
+    /// Whether a character may be refused after a text. An implementation states here when it may.
     ghost may_refuse: { List ℕ → ℕ → Type 0 };
 
-    /// Appends a character; or returns an error, and the text is unchanged.
+    /// Appends a character. On an error the text is unchanged.
     fn write_char(&mut self, c: char) -> fmt::Result
         ensures ok { OnOk result (text self.new ≡ text self.old ++ encode_utf8 c) }
         ensures err { OnErr result (text self.new ≡ text self.old) }
         ensures refused { OnErr result (may_refuse (text self.old) c) };
 
-    /// Appends a whole Rust text; or returns `false`, and the text is unchanged. The caller then
-    /// appends the characters one by one, up to the first that is refused. The default always
-    /// returns `false`.
+    /// Appends a whole Rust text and returns `true`, or returns `false` and leaves the text
+    /// unchanged. If it returns `false`, the caller appends the characters one by one, up to the
+    /// first that is refused. The default always returns `false`.
     fn write_whole(&mut self, string: &str) -> bool
         ensures all { result ≡ true → text self.new ≡ text self.old ++ string.now }
         ensures none { result ≡ false → text self.new ≡ text self.old }
@@ -55,13 +55,14 @@ impl<A: Allocator> CharSink for String<A> {
         }
     }
 
-    /// Asks for no memory: a text that would need more is left to `write_char`.
+    /// Does not allocate: returns `false` for a text that needs more memory.
     fn write_whole(&mut self, string: &str) -> bool {
         string.len() <= self.capacity() - self.len() && self.push_str(string).is_ok()
     }
 }
 
-/// Refuses a character exactly if the text with it would pass `N` bytes. Does not allocate.
+/// Refuses a character exactly if the text with it would be longer than `N` bytes. Does not
+/// allocate.
 impl<const N: usize> CharSink for ArrayString<N> {
     ghost text = { λ string. string.bytes };
 

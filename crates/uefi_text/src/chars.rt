@@ -1,7 +1,7 @@
 //! Characters of Latin-1 and of UCS-2, and their constants.
 //!
 //! A [`Char8`] is any byte, and a [`Char16`] is any code unit that is not a surrogate. The fields
-//! of both are private to this module, so that the constants of all crates stand here.
+//! of both are private to this module, so this module defines the constants for all crates.
 //! `specs/Units.antt` defines code units, texts and NUL-terminated strings.
 
 ghost use Rattle.std.specs.Prelude.{◌≡◌, ◌<◌, ◌^◌, ◌↔◌, IsTrue, Some, codes, encode_utf8};
@@ -17,7 +17,7 @@ use std::marker::Model;
 #[derive(Clone, Copy, Debug, PartialEq, Eq)]
 pub struct CharConversionError;
 
-/// Puts `CharConversionError`.
+/// Puts the text `CharConversionError`.
 impl Printed for CharConversionError {
     ghost printed = { λ _. codes "CharConversionError" };
 
@@ -37,8 +37,8 @@ impl fmt::Display for CharConversionError {
 
 impl Error for CharConversionError {}
 
-/// A character of Latin-1: any byte. It is equal, ordered and hashed by its number, and its default
-/// is NUL. A contract sees it as its number. No call on it allocates.
+/// A character of Latin-1: any byte. It is compared and hashed by its number, and its default is
+/// NUL. A contract sees it as its number. No call on it allocates.
 #[derive(Clone, Copy, PartialEq, Eq, PartialOrd, Ord, Hash)]
 pub struct Char8 {
     byte: u8,
@@ -70,7 +70,7 @@ impl Char8 {
     }
 }
 
-/// NUL.
+/// The default is NUL.
 impl Default for Char8 {
     ghost is_default = { λ c. c ≡ 0 };
 
@@ -79,7 +79,7 @@ impl Default for Char8 {
     }
 }
 
-/// `Ok` exactly for the characters up to U+00FF, which keep their number, otherwise
+/// Returns `Ok` exactly for the characters up to U+00FF, which keep their number, and otherwise
 /// `CharConversionError`.
 impl TryFrom<char> for Char8 {
     type Error = CharConversionError;
@@ -132,7 +132,7 @@ impl fmt::Display for Char8 {
     }
 }
 
-/// Prints as the Rust character with the same number does.
+/// Prints what the Rust character with the same number prints.
 impl fmt::Debug for Char8 {
     fn fmt<W: fmt::Write>(&self, f: &mut fmt::Formatter<W>) -> fmt::Result {
         fmt::Debug::fmt(&char::from(*self), f)
@@ -143,8 +143,8 @@ impl fmt::Debug for Char8 {
 pub const NUL_8: Char8 = Char8 { byte: 0 };
 
 /// A character of UCS-2: a code unit that is not a surrogate (UEFI Specification 2.10, section
-/// 2.3.1). It is equal, ordered and hashed by its number, and its default is NUL. A contract sees
-/// it as its number. No call on it allocates.
+/// 2.3.1). It is compared and hashed by its number, and its default is NUL. A contract sees it as
+/// its number. No call on it allocates.
 #[derive(Clone, Copy, PartialEq, Eq, PartialOrd, Ord, Hash)]
 pub struct Char16 {
     unit: u16,
@@ -163,7 +163,7 @@ impl Model for Char16 {
     ghost inverse = { λ number. record { unit = number } };
 }
 
-/// Whether a code unit is a surrogate (Unicode Standard, section 3.8).
+/// Returns whether a code unit is a surrogate (Unicode Standard, section 3.8).
 fn is_surrogate(unit: u16) -> bool
     ensures { result ≡ is_surrogate unit }
 {
@@ -171,7 +171,7 @@ fn is_surrogate(unit: u16) -> bool
 }
 
 impl Char16 {
-    /// The character of a code unit that is not a surrogate.
+    /// Returns the character of a code unit that is not a surrogate.
     pub(crate) fn from_unit(unit: u16) -> Self
         requires { IsChar16 unit }
         ensures { result ≡ unit }
@@ -179,8 +179,8 @@ impl Char16 {
         Char16 { unit }
     }
 
-    /// Returns the UCS-2 character with the number of a Rust character: `Ok` exactly up to U+FFFF,
-    /// otherwise `CharConversionError`.
+    /// Returns the UCS-2 character with the number of a Rust character. Succeeds exactly up to
+    /// U+FFFF, and otherwise returns `CharConversionError`.
     ///
     /// ```rust
     /// assert_eq!(rt; Char16::try_from_char('€').map(u16::from), Ok(0x20ac));
@@ -199,7 +199,7 @@ impl Char16 {
         }
     }
 
-    /// Returns whether the character is ASCII: its number is at most 127.
+    /// Returns whether the character is ASCII, which means that its number is at most 127.
     ///
     /// ```rust
     /// assert!(rt; Char16::try_from_char('~')?.is_ascii());
@@ -224,7 +224,7 @@ impl Char16 {
     }
 }
 
-/// NUL.
+/// The default is NUL.
 impl Default for Char16 {
     ghost is_default = { λ c. c ≡ 0 };
 
@@ -233,7 +233,7 @@ impl Default for Char16 {
     }
 }
 
-/// As [`Char16::try_from_char`].
+/// Does what [`Char16::try_from_char`] does.
 impl TryFrom<char> for Char16 {
     type Error = CharConversionError;
 
@@ -244,8 +244,8 @@ impl TryFrom<char> for Char16 {
     }
 }
 
-/// `Ok` exactly for the code units that are not surrogates, which keep their number, otherwise
-/// `CharConversionError`.
+/// Returns `Ok` exactly for the code units that are not surrogates, which keep their number, and
+/// otherwise `CharConversionError`.
 impl TryFrom<u16> for Char16 {
     type Error = CharConversionError;
 
@@ -287,7 +287,7 @@ impl fmt::Display for Char16 {
     }
 }
 
-/// Prints as the Rust character with the same number does.
+/// Prints what the Rust character with the same number prints.
 impl fmt::Debug for Char16 {
     fn fmt<W: fmt::Write>(&self, f: &mut fmt::Formatter<W>) -> fmt::Result {
         fmt::Debug::fmt(&char::from(*self), f)
@@ -303,7 +303,7 @@ pub const SEPARATOR: Char16 = Char16 { unit: 92 };
 /// The separator of other systems, `/`, which path buffers replace by [`SEPARATOR`].
 pub const SLASH: Char16 = Char16 { unit: 47 };
 
-/// The characters that no file name holds: NUL and `"*/:<>?\|`.
+/// The characters that a file name must not contain: NUL and `"*/:<>?\|`.
 pub const CHARACTER_DENY_LIST: [Char16; 10] = [
     NUL_16,
     Char16 { unit: 34 },
@@ -317,9 +317,10 @@ pub const CHARACTER_DENY_LIST: [Char16; 10] = [
     Char16 { unit: 124 },
 ];
 
-/// The characters of [`CHARACTER_DENY_LIST`], in its order, which is that of their numbers.
+/// Returns the characters of [`CHARACTER_DENY_LIST`] in the same order, by ascending number.
 ///
-/// Public so that a contract says what the list holds: no clause can name it. Callers have the list.
+/// Public so that a contract can state what the list contains, because no clause can name a
+/// constant. Callers use the list.
 #[doc(hidden)]
 pub fn denied_characters() -> [Char16; 10]
     ensures { result ≡ denied_characters }

@@ -1,5 +1,5 @@
-//! The units of characters, and how often one was read. The count stands in contracts alone: no
-//! running program reads it, and it does not allocate.
+//! Readers that count how often a unit was read. The count exists only in contracts: no running
+//! program reads it, and it does not allocate.
 #![tactic(auto, unfolding(crate::specs::Views::read_units, crate::specs::Views::read_count))]
 
 ghost use Rattle.std.specs.Prelude.{◌≡◌, ℕ, ◌+◌, ◌<◌, length, slice_index};
@@ -7,7 +7,7 @@ ghost use Rattle.std.specs.Prelude.{◌≡◌, ℕ, ◌+◌, ◌<◌, length, sl
 use crate::strs::Char16Slice;
 use std::marker::Model;
 
-/// How many units were read.
+/// The number of units that were read.
 #[derive(Drop)]
 struct ReadCount {
     ghost number: { ℕ },
@@ -26,7 +26,7 @@ impl ReadCount {
         ReadCount {}
     }
 
-    /// One more.
+    /// Returns the count plus one.
     #[inline(always)]
     fn next(&self) -> ReadCount
         ensures { result.number ≡ self.now.number + 1 }
@@ -35,9 +35,10 @@ impl ReadCount {
     }
 }
 
-/// Reads the units of characters one at a time, and counts each read. A function that gets its units
-/// from a reader alone can promise how many it reads, as [`CountedReader::matches`] does. A contract sees
-/// the units as `read_units` of the reader, and the number of reads as `read_count` of it.
+/// Reads the units of characters one at a time, and counts each read. A function that gets its
+/// units only from a reader can promise how many it reads, as [`CountedReader::matches`] does. A
+/// contract sees the units as `read_units` of the reader, and the number of reads as `read_count`
+/// of it.
 ///
 /// ```rust
 /// let name = CStr16::from_u16_with_nul(&[0x48, 0x69, 0])?.as_slice();
@@ -54,7 +55,7 @@ pub struct CountedReader<'a> {
 impl<'a> CountedReader<'a> {
     ghost use Rattle.uefi_text.specs.Views.{read_count, read_units, units_of};
 
-    /// Returns a reader of characters that has read none.
+    /// Returns a reader of characters that has not read any unit yet.
     pub fn new(characters: Char16Slice<'a>) -> CountedReader<'a>
         ensures units { read_units result ≡ units_of characters.entry }
         ensures count { read_count result ≡ 0 }
@@ -62,7 +63,7 @@ impl<'a> CountedReader<'a> {
         CountedReader::of_units(characters.units())
     }
 
-    /// Returns a reader of units that has read none.
+    /// Returns a reader of units that has not read any unit yet.
     ///
     /// ```rust
     /// let mut reader = counted::CountedReader::of_units(&[0xd800, 0x69]);
@@ -78,7 +79,7 @@ impl<'a> CountedReader<'a> {
         }
     }
 
-    /// Goes on with other characters. The count stays.
+    /// Continues with other characters. The count is unchanged.
     ///
     /// ```rust
     /// let name = CStr16::from_u16_with_nul(&[0x48, 0x69, 0])?.as_slice();

@@ -1,7 +1,7 @@
-//! Code units as characters and as UTF-8. A unit of a text is a character of its own, so it has one, two or
-//! three bytes (Unicode Standard, section 3.9, table 3-6). How many all have is known before the first is
-//! written, so that memory is asked for once, and a refusal leaves everything unchanged. Units that may be
-//! anything are characters of UTF-16.
+//! Code units as characters and as UTF-8. Each unit of a text is one character, so it has one, two
+//! or three bytes (Unicode Standard, section 3.9, table 3-6). The number of all bytes is known
+//! before the first is written, so that one allocation is enough, and a call that fails leaves
+//! everything unchanged. Any other units are characters of UTF-16.
 ghost use Rattle.std.specs.Char.Utf16.{is_high_surrogate, is_low_surrogate, lone_unit_char, surrogate_pair_char, utf16_lossy_chars};
 ghost use Rattle.std.specs.Option.{unwrap_or};
 ghost use Rattle.std.specs.Prelude.{◌≡◌, ℕ, ◌+◌, ◌-◌, ◌<◌, ◌≤◌, ◌^◌, ◌++◌, ◌*◌, OnErr, OnOk, length, encode_utf8, min, slice_index, take, true, ◌∷◌, ◌&&◌, List, drop};
@@ -15,10 +15,11 @@ use crate::unit_sink::BufferTooSmall;
 use std::alloc::{AllocError, Allocator};
 use std::simd::prelude::*;
 
-/// How many characters are printed at a time.
+/// The number of characters that are printed at a time.
 pub(crate) const PRINTED: usize = 64;
 
-/// How many bytes units have in UTF-8: one each, a second from U+0080 on, and a third from U+0800 on.
+/// Returns the number of bytes that units have in UTF-8: one each, a second from U+0080 on, and a
+/// third from U+0800 on.
 fn utf8_len(units: &[u16]) -> usize
     ensures { result ≡ length (encode_utf8_all units.now) }
 {
@@ -38,7 +39,7 @@ fn add_ascii<A: Allocator>(bytes: &mut Vec<u8, A>, units: &[u16]) -> Result<(), 
     Ok(())
 }
 
-/// Writes the UTF-8 of a unit from a place on, and returns the place after it.
+/// Writes the UTF-8 of a unit from an index on, and returns the index after it.
 #[inline(always)]
 #[tactic(auto, using(crate::proofs::Utf8Bytes::unit_widths, crate::proofs::Writing::places_in_turn))]
 fn write_unit(bytes: &mut [u8], place: usize, unit: u16) -> usize
@@ -140,8 +141,8 @@ fn write_few(bytes: &mut [u8], place: usize, units: &[u16]) -> usize
     place + 24
 }
 
-/// Writes the UTF-8 of units into the prefix of bytes, eight units at a time, and returns how many
-/// bytes they are.
+/// Writes the UTF-8 of units to the start of a slice of bytes, eight units at a time, and returns
+/// the number of bytes that it wrote.
 #[inline(never)]
 fn write_by_eight(bytes: &mut [u8], units: &[u16]) -> usize
     requires { length (encode_utf8_all units.now) ≤ length bytes.old }
@@ -210,14 +211,14 @@ pub(crate) fn add_utf8<A: Allocator>(
     add_wide(bytes, units)
 }
 
-/// Whether two units are the surrogates of one character.
+/// Returns whether two units are the surrogates of one character.
 fn is_pair(first: u16, second: u16) -> bool
     ensures { result ≡ is_high_surrogate first && is_low_surrogate second }
 {
     first >= 0xd800 && first < 0xdc00 && second >= 0xdc00 && second < 0xe000
 }
 
-/// The character of two surrogates.
+/// Returns the character of two surrogates.
 fn pair_char(first: u16, second: u16) -> char
     requires { (is_high_surrogate first && is_low_surrogate second) ≡ true }
     ensures { result ≡ surrogate_pair_char first second }
@@ -226,7 +227,7 @@ fn pair_char(first: u16, second: u16) -> char
     char::from_u32(0x10000 + high * 0x400 + low).unwrap()
 }
 
-/// The character of a unit that is in no pair: U+FFFD if it is a surrogate.
+/// Returns the character of a unit that belongs to no pair: U+FFFD if it is a surrogate.
 fn lone_char(unit: u16) -> char
     ensures { result ≡ unwrap_or (lone_unit_char unit) 0xfffd }
 {
@@ -236,9 +237,9 @@ fn lone_char(unit: u16) -> char
     char::from_u32(unit as u32).unwrap()
 }
 
-/// The character that stands at a place of units, by the unit there and the one after it, or 0 after the
-/// last; and how many units it has. U+FFFD stands for each surrogate that has no partner (Unicode Standard,
-/// section 3.9).
+/// Returns the character at an index of units, and the number of units that it has. The arguments
+/// are the unit at that index and the unit after it, or 0 after the last. A surrogate that has no
+/// partner becomes U+FFFD (Unicode Standard, section 3.9).
 pub fn lossy_char(unit: u16, next: u16) -> (char, usize)
     ensures first { (units : List ℕ) (place : ℕ) → place < length units
         → slice_index units place ≡ unit → slice_index units (place + 1) ≡ next
@@ -254,7 +255,8 @@ pub fn lossy_char(unit: u16, next: u16) -> (char, usize)
     (lone_char(unit), 1)
 }
 
-/// The first character of units that may be anything, and how many units it has, as [`lossy_char`] says.
+/// Returns the first character of any units, and the number of units that it has, as [`lossy_char`]
+/// does.
 fn first_lossy(units: &[u16]) -> (char, usize)
     requires { 0 < length units.now }
     ensures some { 0 < result.1 }
@@ -266,7 +268,8 @@ fn first_lossy(units: &[u16]) -> (char, usize)
     lossy_char(units[0], next)
 }
 
-/// How many bytes units that may be anything have in UTF-8, and the greatest `usize` where they have more.
+/// Returns the number of bytes that any units have in UTF-8, or the greatest `usize` if they have
+/// more.
 fn lossy_len(units: &[u16]) -> usize
     ensures { result ≡ min (length (encode_utf8_all (utf16_lossy_chars units.now))) (2 ^ 64 - 1) }
 {
@@ -303,7 +306,7 @@ fn write_char(character: char, bytes: &mut [u8], place: usize) -> usize
     place + encoded.len()
 }
 
-/// Writes units that may be anything in UTF-8 into bytes that have just the room.
+/// Writes any units in UTF-8 into a slice that has exactly the room.
 fn fill_lossy(units: &[u16], bytes: &mut [u8])
     requires { length bytes.now ≡ length (encode_utf8_all (utf16_lossy_chars units.now)) }
     ensures { bytes.new ≡ encode_utf8_all (utf16_lossy_chars units.now) }
@@ -325,8 +328,9 @@ fn fill_lossy(units: &[u16], bytes: &mut [u8])
     }
 }
 
-/// Writes units that may be anything, in UTF-8 and with a NUL, to the start of a buffer, and returns how many
-/// bytes they have. A buffer that is too small is unchanged. Units of a text are characters of their own.
+/// Writes any units in UTF-8, and a NUL, to the start of a buffer. Returns the number of bytes,
+/// without the NUL. If the buffer is too small, the result is [`BufferTooSmall`], and the buffer is
+/// unchanged. If the units are a text, each of them is one character.
 pub fn write_lossy(units: &[u16], bytes: &mut [u8]) -> Result<usize, BufferTooSmall>
     ensures len { result
         ≡ written_len (encode_utf8_all (utf16_lossy_chars units.now)) bytes.old }

@@ -1,5 +1,5 @@
-//! Code units of Rust texts: in a vector, where the text is one of UCS-2, or in a buffer; and compared
-//! with others. Characters are decoded one by one, or eight at a time where each has three bytes.
+//! Code units of Rust texts: in a vector, if the text is UCS-2, or in a buffer; and compared with
+//! other units. Characters are decoded one by one, or eight at a time if each has three bytes.
 ghost use Rattle.std.specs.Prelude.{All, IsTrue, ◌↔◌, ◌≢◌, ◌≡◌, ◌+◌, ◌<◌, ◌≤◌, ◌++◌, if◌then◌else◌, None, Some, drop, find, length, take, unwrap_or, IfOk, IfErr, IfSome, IsSome};
 ghost use Rattle.std.specs.Option.{SomeIff};
 ghost use Rattle.std.specs.Vec.{vec_len, vec_capacity};
@@ -22,7 +22,7 @@ fn find_deciding_char(text: &str) -> Option<char>
     text.chars().find(|c| *c == '\0' || *c > '\u{ffff}')
 }
 
-/// Whether none of the characters of a text is refused. No byte is decoded.
+/// Returns whether none of the characters of a text is refused. No byte is decoded.
 fn is_undecided(text: &str) -> bool
     ensures { IsTrue result ↔ (find is_deciding_char (chars text.now) ≡ None) }
 {
@@ -95,7 +95,7 @@ fn units_of_few_chars<A: Allocator>(alloc: A, text: &str) -> Result<Vec<u16, A>,
     Ok(units)
 }
 
-/// Reads the first eight characters of a text, where each has three bytes, and returns what follows them.
+/// Reads the first eight characters of a text if each has three bytes, and returns the rest.
 #[inline(always)]
 fn read_wide<'a>(text: &'a str, eight: &mut [u16; 8]) -> Option<&'a str>
     ensures { IfSome result (λ rest. (chars text.now ≡ eight.new ++ chars rest.now) × IsUtf8 rest.now
@@ -118,15 +118,16 @@ fn read_wide<'a>(text: &'a str, eight: &mut [u16; 8]) -> Option<&'a str>
     let third: u8x8 = front.shuffle(back, [2, 5, 8, 11, 14, 25, 28, 31]);
     let high = first.cast::<u16>() * u16x8::splat(4096);
     let middle = second.cast::<u16>() * u16x8::splat(64);
-    // What the bytes have beside the bits of the character is 0xe0, 0x80 and 0x80, modulo 2^16.
+    // The bytes add 0xe0, 0x80 and 0x80, shifted with their bits, to the bits of the character,
+    // modulo 2^16.
     let units = high + middle + third.cast::<u16>() - u16x8::splat(0x2080);
     *eight = units.to_array();
     // SAFETY: the bytes from there on are UTF-8, since a character ends before them.
     Some(unsafe { str::from_utf8_unchecked(rest) })
 }
 
-/// Reads the first eight characters of a text one by one, where a UCS-2 text holds each of them, and
-/// returns what follows them.
+/// Reads the first eight characters of a text one by one if a UCS-2 text can contain each of them,
+/// and returns the rest.
 #[inline(always)]
 fn read_each<'a>(text: &'a str, eight: &mut [u16; 8]) -> Option<&'a str>
     ensures { IfSome result (λ rest. (chars text.now ≡ eight.new ++ chars rest.now) × IsUtf8 rest.now
@@ -143,8 +144,8 @@ fn read_each<'a>(text: &'a str, eight: &mut [u16; 8]) -> Option<&'a str>
     Some(characters.as_str())
 }
 
-/// Reads the first eight characters of a text, where a UCS-2 text holds each of them, and returns what
-/// follows them.
+/// Reads the first eight characters of a text if a UCS-2 text can contain each of them, and returns
+/// the rest.
 #[inline(always)]
 fn read_eight<'a>(text: &'a str, eight: &mut [u16; 8]) -> Option<&'a str>
     ensures { IfSome result (λ rest. (chars text.now ≡ eight.new ++ chars rest.now) × IsUtf8 rest.now
@@ -165,9 +166,9 @@ fn write_lanes(units: &mut [u16], place: usize, lanes: u16x8)
     lanes.copy_to_slice(&mut units[place..]);
 }
 
-/// Writes characters of a text into the prefix of units, eight at a time, up to one that no UCS-2 text
-/// holds, or to near the end of the text or of the units. Returns how many were written, and what follows
-/// them.
+/// Writes characters of a text to the start of units, eight at a time, up to a character that UCS-2
+/// texts cannot contain, or to near the end of the text or of the units. Returns the number of
+/// units written, and the rest of the text.
 #[inline(never)]
 fn write_front<'a>(text: &'a str, units: &mut [u16]) -> (usize, &'a str)
     requires some { 0 < length units.old }
@@ -191,7 +192,7 @@ fn write_front<'a>(text: &'a str, units: &mut [u16]) -> (usize, &'a str)
     (len, rest)
 }
 
-/// Why a text that is not one of UCS-2 is refused.
+/// Returns why a text that is not UCS-2 is refused.
 fn refusal_of_text(text: &str) -> FromStrError
     requires { ¬ (find is_deciding_char (chars text.now) ≡ None) }
     ensures { Some result ≡ from_str_refusal (chars text.now) }
@@ -202,7 +203,8 @@ fn refusal_of_text(text: &str) -> FromStrError
     }
 }
 
-/// The units of a text of UCS-2 and a NUL, unless memory is refused; `None` exactly for other texts.
+/// Returns the units of a text of UCS-2 and a NUL, unless memory runs out; `None` exactly for other
+/// texts.
 fn try_units<A: Allocator>(alloc: A, text: &str) -> Option<Result<Vec<u16, A>, AllocError>>
     ensures some { IsSome result ↔ (find is_deciding_char (chars text.now) ≡ None) }
     ensures units { IfSome result (λ tried.
@@ -247,7 +249,7 @@ pub(crate) fn write_text(input: &str, buffer: &mut [u16]) -> Result<usize, FromS
     write_chars(input, buffer)
 }
 
-/// Does what [`write_text`] does, for a text of ASCII without NUL for which the buffer has room: its bytes
+/// Does what [`write_text`] does for a text of ASCII without NUL that fits in the buffer: its bytes
 /// are its units.
 fn write_ascii(bytes: &[u8], buffer: &mut [u16]) -> usize
     requires { length bytes.now < length buffer.old }
@@ -260,7 +262,7 @@ fn write_ascii(bytes: &[u8], buffer: &mut [u16]) -> usize
     end
 }
 
-/// Does what [`write_text`] does, for any text: the prefix of it that is one of UCS-2 at once, and then
+/// Does what [`write_text`] does for any text: writes its UCS-2 prefix at once, and then goes on
 /// character by character.
 fn write_chars(input: &str, buffer: &mut [u16]) -> Result<usize, FromStrWithBufError>
     ensures ok { IfOk result (λ len. len ≡ length (chars input.now)) }
@@ -289,7 +291,7 @@ fn write_chars(input: &str, buffer: &mut [u16]) -> Result<usize, FromStrWithBufE
     }
 }
 
-/// Why a character at a place of a text is refused, if it is.
+/// Returns why a character at an index of a text is refused, if it is.
 fn refusal_of_char(character: char, place: usize) -> Option<FromStrWithBufError>
     ensures { result ≡ (if is_deciding_char character
         then Some (refusal_of_char_at character place)
@@ -302,8 +304,8 @@ fn refusal_of_char(character: char, place: usize) -> Option<FromStrWithBufError>
     }
 }
 
-/// Writes the one or two units of a character into a buffer from a place on, and returns how many
-/// they are. Where that is the last place, the first alone is written.
+/// Writes the one or two units of a character into a buffer from an index on, and returns the
+/// number of units. If that index is the last, only the first unit is written.
 fn write_char(character: char, buffer: &mut [u16], place: usize) -> usize
     requires { place < length buffer.old }
     ensures len { result ≡ length (encode_utf16 character) }
@@ -319,7 +321,7 @@ fn write_char(character: char, buffer: &mut [u16], place: usize) -> usize
     units.len()
 }
 
-/// Whether eight units are these.
+/// Returns whether eight units are equal to these.
 #[inline(always)]
 fn are_these(units: &[u16], others: &[u16; 8]) -> bool
     requires { length units.now ≡ 8 }
@@ -332,8 +334,8 @@ fn are_these(units: &[u16], others: &[u16; 8]) -> bool
     same
 }
 
-/// A prefix that units and a text have in common, without NUL: how long it is, and what follows it in
-/// the text. It need not be the longest.
+/// Returns the length of a common prefix of units and a text, without NUL, and the rest of the
+/// text. The prefix need not be the longest.
 #[inline(never)]
 pub(crate) fn same_front<'a>(units: &[u16], text: &'a str) -> (usize, &'a str)
     ensures within { result.0 ≤ length units.now }

@@ -6,14 +6,14 @@ ghost use Rattle.uefi_text.specs.EqStrUntilNul.{IsEqualUntilNul};
 
 use crate::encode::same_front;
 
-/// A string that can be compared with a Rust text. A contract sees a value as its `characters`,
-/// those before its NUL.
+/// A string that can be compared with a Rust text. A contract sees a value as its `characters`
+/// before its NUL.
 pub trait EqStrUntilNul {
     /// The characters before the NUL.
     ghost characters: { Self → List ℕ };
 
-    /// Whether this string and what `other` holds before its first NUL agree as far as the shorter
-    /// of the two goes: one of them is a prefix of the other. So `te` agrees with `test`, and the
+    /// Returns whether this string and the part of `other` before its first NUL agree as far as the
+    /// shorter one goes: whether one is a prefix of the other. So `te` agrees with `test`, and the
     /// empty text with every string. Does not allocate.
     ///
     /// ```rust
@@ -26,7 +26,7 @@ pub trait EqStrUntilNul {
         ensures { IsTrue result ↔ IsEqualUntilNul (characters self.now) (chars other.now) };
 }
 
-/// [`EqStrUntilNul::eq_str_until_nul`] with its sides exchanged.
+/// Does what [`EqStrUntilNul::eq_str_until_nul`] does, with the sides exchanged.
 ///
 /// ```rust
 /// let name = CStr8::from_bytes_with_nul(b"Boot\0")?;
@@ -39,7 +39,7 @@ pub fn str_eq_until_nul<S: EqStrUntilNul>(s: &str, other: &S) -> bool
     other.eq_str_until_nul(s)
 }
 
-/// Whether units are equal to a Rust text until its first NUL, unit by unit.
+/// Returns whether units are equal to a Rust text until its first NUL, unit by unit.
 fn are_equal_by_unit(units: &[u16], other: &str) -> bool
     ensures { IsTrue result ↔ IsEqualUntilNul units.now (chars other.now) }
 {
@@ -58,7 +58,8 @@ fn are_equal_by_unit(units: &[u16], other: &str) -> bool
     true
 }
 
-/// Whether units are equal to a Rust text until its first NUL: eight at a time, and then unit by unit.
+/// Returns whether units are equal to a Rust text until its first NUL: eight at a time, and then
+/// unit by unit.
 pub(crate) fn are_equal_by_block(units: &[u16], other: &str) -> bool
     ensures { IsTrue result ↔ IsEqualUntilNul units.now (chars other.now) }
 {

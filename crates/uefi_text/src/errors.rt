@@ -1,5 +1,6 @@
-//! Why bytes, code units and texts are refused as a string. The modules [`strs`](crate::strs) and
-//! [`owned_strs`](crate::owned_strs) re-export these, under whose names callers know them.
+//! The reasons why bytes, code units and texts are refused as a string. The modules
+//! [`strs`](crate::strs) and [`owned_strs`](crate::owned_strs) re-export these types, and callers
+//! know them under those names.
 ghost use Rattle.uefi_text.specs.ErrorTexts.{from_slice_until_nul_error_text, from_slice_with_nul_error_text, unaligned_cstr16_error_text, from_str_with_buf_error_text, from_str_error_text};
 ghost use Rattle.std.specs.Prelude.{Some};
 
@@ -8,8 +9,8 @@ use crate::text_sink::{Printed, TextSink, print};
 use std::error::Error;
 use std::fmt;
 
-/// Why code units or characters do not begin with a NUL-terminated string. A number is an index
-/// into what was passed.
+/// The reason why code units or characters do not begin with a NUL-terminated string. A number is
+/// an index into the argument.
 #[derive(Clone, Copy, Debug, PartialEq, Eq)]
 pub enum FromSliceUntilNulError {
     /// The first NUL or surrogate is a surrogate, at this index.
@@ -50,18 +51,18 @@ impl fmt::Display for FromSliceUntilNulError {
 
 impl Error for FromSliceUntilNulError {}
 
-/// Why code units, characters or bytes are not a NUL-terminated string. A number is the index of a
-/// code unit or a character, or of a byte of Latin-1.
+/// The reason why code units, characters or bytes are not a NUL-terminated string. A number is the
+/// index of a code unit, of a character, or of a byte of Latin-1.
 #[derive(Clone, Copy, Debug, PartialEq, Eq)]
 pub enum FromSliceWithNulError {
     /// The first NUL or surrogate is a surrogate, at this index.
     InvalidChar(usize),
 
-    /// The first NUL or surrogate is a NUL, at this index, and more follows it.
+    /// The first NUL or surrogate is a NUL, at this index, and it is not the last item.
     InteriorNul(usize),
 
-    /// There is neither a NUL nor a surrogate; or bytes that have to be a string of UCS-2 are odd
-    /// in number, or do not end in two zeros.
+    /// There is neither a NUL nor a surrogate; or bytes that must be a UCS-2 string have an odd
+    /// length or do not end in two zeros.
     NotNulTerminated,
 
     /// The slice is not aligned. The Rust crate has this reason; no call here returns it.
@@ -105,7 +106,8 @@ impl fmt::Display for FromSliceWithNulError {
 
 impl Error for FromSliceWithNulError {}
 
-/// Why packed code units do not become a string in a buffer. A number is the index of an item.
+/// The reason why packed code units do not become a string in a buffer. A number is the index of an
+/// item.
 #[derive(Clone, Copy, Debug, PartialEq, Eq)]
 pub enum UnalignedCStr16Error {
     /// The first NUL or surrogate is a surrogate, at this index.
@@ -154,8 +156,8 @@ impl fmt::Display for UnalignedCStr16Error {
 
 impl Error for UnalignedCStr16Error {}
 
-/// Why a Rust text does not become a string in a buffer. A number counts the characters before the
-/// refused one.
+/// The reason why a Rust text does not become a string in a buffer. A number counts the characters
+/// before the refused one.
 #[derive(Clone, Copy, Debug, PartialEq, Eq)]
 pub enum FromStrWithBufError {
     /// The first character that is NUL or above U+FFFF is above U+FFFF.
@@ -200,7 +202,7 @@ impl fmt::Display for FromStrWithBufError {
 
 impl Error for FromStrWithBufError {}
 
-/// Why a Rust text, or characters, do not become an owned string.
+/// The reason why a Rust text, or characters, do not become an owned string.
 #[derive(Clone, Copy, Debug, PartialEq, Eq)]
 pub enum FromStrError {
     /// The first character that is NUL or above U+FFFF is above U+FFFF.

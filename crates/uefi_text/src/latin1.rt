@@ -21,8 +21,8 @@ use std::cmp::Ordering;
 use std::fmt;
 use std::hash::{Hash, Hasher};
 
-/// A borrowed string of Latin-1: a view of bytes of which the last, and no other, is zero. A
-/// contract sees it as `bytes_of` it: all its bytes, the zero included. No call on it allocates.
+/// A borrowed string of Latin-1: a view of bytes of which only the last is zero. A contract sees it
+/// as `bytes_of` it: all its bytes, including the zero. No call on it allocates.
 #[derive(Clone, Copy)]
 pub struct CStr8<'a> {
     bytes: &'a [u8],
@@ -34,9 +34,9 @@ impl<'a> CStr8<'a> {
 
     /// Borrows all of the bytes as a string.
     ///
-    /// The first zero decides. At the last place it ends the string. Before the last place it is
-    /// refused as `InteriorNul` with its index, even where the bytes don't end in zero. If there is
-    /// none, the result is `NotNulTerminated`.
+    /// The first zero decides. At the last index it ends the string. At an earlier index it is
+    /// refused as `InteriorNul` with that index, even if the bytes don't end in zero. If there is
+    /// no zero, the result is `NotNulTerminated`.
     ///
     /// ```rust
     /// let name = CStr8::from_bytes_with_nul(b"Boot\0")?;
@@ -58,7 +58,7 @@ impl<'a> CStr8<'a> {
         Ok(CStr8 { bytes: chars })
     }
 
-    /// Returns the bytes of the string, the zero included.
+    /// Returns the bytes of the string, including the zero.
     ///
     /// See [`CStr8::from_bytes_with_nul`].
     pub fn as_bytes(&self) -> &'a [u8]
@@ -94,7 +94,7 @@ impl<'a> Eq for CStr8<'a> {
     ghost laws = { on_texts_equal bytes_of };
 }
 
-/// The list order of the bytes.
+/// Compares the bytes, in list order.
 impl<'a> PartialOrd for CStr8<'a> {
     ghost use Rattle.uefi_text.specs.Views.{bytes_of};
 
@@ -107,7 +107,7 @@ impl<'a> PartialOrd for CStr8<'a> {
     }
 }
 
-/// `Equal` exactly for equal strings.
+/// Returns `Equal` exactly for equal strings.
 impl<'a> Ord for CStr8<'a> {
     ghost use Rattle.uefi_text.specs.Views.{bytes_of};
 
@@ -223,8 +223,9 @@ pub fn has_no_nul(s: &str) -> bool
     !has_zero(s.as_bytes())
 }
 
-/// Returns the number of characters of a Rust text of Latin-1, each NUL counted, which is the
-/// number of bytes that it takes in Latin-1. [`is_latin1`] tests the condition. Does not allocate.
+/// Returns the number of characters of a Rust text of Latin-1, including any NULs. This is the
+/// number of bytes that the text takes in Latin-1. [`is_latin1`] tests the condition. Does not
+/// allocate.
 ///
 /// ```rust
 /// assert_eq!(rt; str_num_latin1_chars("café"), 4);
@@ -240,8 +241,8 @@ pub fn str_num_latin1_chars(s: &str) -> usize
     s.chars().count()
 }
 
-/// Encodes a Rust text of Latin-1 that holds no NUL: a byte for each character, and a NUL after
-/// them. `N` has to be one more than the number of characters. Does not allocate.
+/// Encodes a Rust text of Latin-1 that contains no NUL: one byte for each character, followed by a
+/// NUL. `N` must be the number of characters plus one. Does not allocate.
 ///
 /// [`is_latin1`], [`has_no_nul`] and [`str_num_latin1_chars`] test the conditions.
 ///

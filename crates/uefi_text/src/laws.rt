@@ -14,14 +14,15 @@ pub fn bytes_once()
     ensures accepted { AcceptedWhereEncoded }
 {}
 
-/// Characters of Rust are a text exactly if none of them is refused, and each unit of a text is
-/// one: `CString16::try_from_str` and `CStr16::to_rust_string` undo one another.
+/// Characters of Rust are a text exactly if none of them is refused, and each unit of a text is a
+/// character: `CString16::try_from_str` and `CStr16::to_rust_string` undo one another.
 pub fn text_once()
     ensures unrefused { TextWhereUnrefused }
     ensures characters { TextsAreCharacters }
 {}
 
-/// Each case is reached at once, and is the same whichever case a unit had before.
+/// Each conversion reaches its case in one step, and the result does not depend on the case that a
+/// unit had before.
 pub fn case_once()
     ensures upper { UpperOnce }
     ensures lower { LowerOnce }
@@ -29,8 +30,8 @@ pub fn case_once()
     ensures lower_of_upper { LowerOfUpper }
 {}
 
-/// `eq_ignore_case` is an equivalence that holds of equal texts, and `cmp_ignore_case` a total
-/// order that says `Equal` exactly if it holds.
+/// `eq_ignore_case` is an equivalence that holds of equal texts, and `cmp_ignore_case` is a total
+/// order that gives `Equal` exactly if `eq_ignore_case` holds.
 pub fn caseless()
     ensures equivalence { CaselessIsEquivalence }
     ensures same { CaselessWhereSame }
@@ -45,7 +46,7 @@ pub fn ascii_case()
     ensures same { AsciiSameWithoutCase }
 {}
 
-/// What a pattern matches, by the way that it begins.
+/// The texts that a pattern matches, by its first part.
 pub fn pattern_rules()
     ensures nothing { NothingAlone }
     ensures any { AnyUnits }

@@ -1,10 +1,10 @@
 //! UCS-2 characters and NUL-terminated UCS-2 strings, as UEFI firmware stores them.
 //!
 //! A *code unit* is a `u16`. A [`Char16`] is a code unit that is not a surrogate. A *text* is a
-//! list of characters without NUL, and a *string* is a text followed by its one NUL, as UEFI stores
-//! it in `CHAR16` (UEFI Specification 2.10, section 2.3.1). A [`CStr16`] is a view of a string that
-//! lies elsewhere, and a [`CString16`] owns one. Both are made by checked constructors alone, so a
-//! string never lacks its NUL, and every value of these types encodes a text.
+//! list of characters without NUL, and a *string* is a text followed by one NUL, as UEFI stores it
+//! in `CHAR16` (UEFI Specification 2.10, section 2.3.1). A [`CStr16`] borrows a string, and a
+//! [`CString16`] owns one. Only checked constructors make either of them, so a string never lacks
+//! its NUL, and every value of these types encodes a text.
 //!
 //! ```rust
 //! use uefi_text::{CStr16, CString16, FromSliceWithNulError};
@@ -17,14 +17,16 @@
 //! assert_eq!(rt; broken.err(), Some(FromSliceWithNulError::InvalidChar(1)));
 //! ```
 //!
-//! Strings are made of code units, characters, bytes and Rust texts, and borrowed where nothing has to be
-//! copied. Each refusal says what is wrong and where. Strings become bytes, Rust texts, or what any
-//! [`CharSink`] holds. A [`CStr8`] is a string of Latin-1, and [`EqStrUntilNul`] compares all of them with
-//! Rust texts. An [`UnalignedSlice`] reads numbers that lie packed in bytes, at any place of memory.
+//! Strings are made from code units, characters, bytes and Rust texts, and borrowed if nothing has
+//! to be copied. Each error says what is wrong and where. Strings can be converted to bytes or Rust
+//! texts, or written to any [`CharSink`]. A [`CStr8`] is a string of Latin-1, and [`EqStrUntilNul`]
+//! compares all of them with Rust texts. An [`UnalignedSlice`] reads numbers that are packed in
+//! bytes, at any address.
 //!
-//! A contract sees each value as a list: a [`CString16`] as its text, a [`CStr16`] as `text_of` it, a
-//! [`Char16Slice`] as `units_of` it, a [`CStr16Iter`] as `units_left` of it, and an [`UnalignedSlice`] as
-//! `items_of` it. No clause outside this crate speaks of a NUL's place, of a buffer or of a capacity.
+//! A contract sees each value as a list: a [`CString16`] as its text, a [`CStr16`] as `text_of` it,
+//! a [`Char16Slice`] as `units_of` it, a [`CStr16Iter`] as `units_left` of it, and an
+//! [`UnalignedSlice`] as `items_of` it. No clause outside this crate mentions the index of a NUL, a
+//! buffer or a capacity.
 #![tactic(auto)]
 
 pub mod case;

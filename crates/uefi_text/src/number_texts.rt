@@ -6,7 +6,7 @@ ghost use Rattle.std.specs.Prelude.{◌≡◌, ◌≤◌, ◌<◌, ◌++◌, dro
 
 use crate::text_sink::TextSink;
 
-/// How many digits a number has at most, in base 2.
+/// The greatest number of digits of a number, in base 2.
 const MOST_DIGITS: usize = 64;
 
 /// Returns the digit of a number below a base, in upper case, as a byte of a text.
@@ -39,8 +39,8 @@ fn write_digits(buffer: &mut [u8; MOST_DIGITS], n: u64, base: u64) -> usize
     start
 }
 
-/// Puts a number in a base, in upper case and without zeros at its start. It is made anew for each call, so
-/// that a base that is a literal there leaves no division.
+/// Puts a number in a base, in upper case and without leading zeros. It is inlined into each call,
+/// so that a base that is a literal there leaves no division.
 #[inline(always)]
 pub fn put_digits<S: TextSink>(sink: &mut S, n: u64, base: u64)
     requires some { 2 ≤ base }

@@ -1,5 +1,5 @@
-//! Owned NUL-terminated strings of UCS-2. A string keeps its NUL in its vector, which nothing
-//! outside this module sees.
+//! Owned NUL-terminated strings of UCS-2. A string keeps its NUL in its vector; nothing outside
+//! this module sees it.
 ghost use Rattle.std.specs.Prelude.{◌≡◌, ◌≢◌, ℕ, ◌+◌, ◌<◌, ◌↔◌, ◌++◌, [], All, Contains, List, None, length, map, unwrap_or, IsTrue, IfOk, IfErr, ◌∷◌, take, IsOk, OnOk, OnErr, drop, nat_eq, Some};
 ghost use Rattle.std.specs.Str.{chars, encode_utf8_all};
 ghost use Rattle.uefi_text.specs.Units.{IsChar16, IsNulTerminated, IsString, IsText, is_nul, nul_terminated, replaced};
@@ -33,8 +33,8 @@ use std::fmt;
 use std::hash::{Hash, Hasher};
 use std::marker::Model;
 
-/// An owned string, in memory of its allocator, which it keeps. After every call, refused or not,
-/// it holds a text and its one NUL. A contract sees it as the text.
+/// An owned string, in memory of its allocator, which it keeps. After every call, whether it
+/// succeeds or fails, it contains a text and one NUL. A contract sees it as the text.
 #[derive(Drop)]
 pub struct CString16<A: Allocator = Global> {
     units: Vec<u16, A>,
@@ -61,8 +61,8 @@ impl Class<Char16> for Nul {
     }
 }
 
-/// Returns whether none of the characters is NUL, which [`CString16::extend`] requires of what it
-/// adds. Does not allocate.
+/// Returns whether none of the characters is NUL, as [`CString16::extend`] requires of the
+/// characters that it adds. Does not allocate.
 ///
 /// ```rust
 /// let e = Char16::try_from_char('e')?;
@@ -86,7 +86,7 @@ fn write_text_from(units: &mut [u16], start: usize, text: &str)
     let _len = write_text(text, &mut units[start..]);
 }
 
-/// The units of characters, in one allocation.
+/// Returns the units of characters, in one allocation.
 fn units_of_characters<A: Allocator>(
     alloc: A,
     characters: &[Char16],
@@ -101,7 +101,7 @@ fn units_of_characters<A: Allocator>(
     Ok(units)
 }
 
-/// Owned strings of characters and of a borrowed string.
+/// Owned strings from characters and from a borrowed string.
 impl<'a> CStr16<'a> {
     /// Creates an owned string from the characters up to the first NUL.
     ///
@@ -139,10 +139,10 @@ impl<'a> CStr16<'a> {
 
     /// Creates an owned string from characters whose only NUL is the last.
     ///
-    /// The first NUL decides. Before the last place it is refused as `InteriorNul` with its index,
-    /// and where there is none the result is `NotNulTerminated`; `OutOfMemory` comes last.
-    /// `InvalidChar` is never returned: no character is a surrogate. The NUL is found before the
-    /// call allocates, once.
+    /// The first NUL decides. Before the last index it is refused as `InteriorNul` with its index.
+    /// If there is no NUL, the result is `NotNulTerminated`. If the characters are a string and
+    /// memory runs out, the result is `OutOfMemory`. `InvalidChar` is never returned, because no
+    /// character is a surrogate. Allocates once, after the NUL is found.
     ///
     /// ```rust
     /// let e = Char16::try_from_char('e')?;
@@ -175,7 +175,7 @@ impl<'a> CStr16<'a> {
         }
     }
 
-    /// Copies the string, or returns `AllocError`. One allocation.
+    /// Copies the string. Allocates once. Returns `AllocError` if memory runs out.
     ///
     /// ```rust
     /// let borrowed = CStr16::from_u16_with_nul(&[0x48, 0x69, 0])?;
@@ -193,13 +193,13 @@ impl<'a> CStr16<'a> {
     }
 }
 
-/// Owned strings of characters that lie side by side.
+/// Owned strings from slices of characters.
 impl<'a> Char16Slice<'a> {
     /// Copies the characters into an owned string.
     ///
-    /// Where a NUL is among them the result is `InteriorNul`, and if memory runs out `OutOfMemory`.
-    /// `InvalidChar` is never returned: no character is a surrogate. All are tested before the call
-    /// allocates, once.
+    /// Returns `InteriorNul` if one of the characters is NUL, and otherwise `OutOfMemory` if memory
+    /// runs out. `InvalidChar` is never returned, because no character is a surrogate. Allocates
+    /// once, after all characters are tested.
     ///
     /// ```rust
     /// let name = CStr16::from_u16_with_nul(&[0x48, 0x69, 0])?;
@@ -237,7 +237,7 @@ impl<A: Allocator> CString16<A> {
         CString16 { units }
     }
 
-    /// Returns the empty string, or `AllocError`: its NUL takes memory.
+    /// Creates an empty string. Allocates for the NUL. Returns `AllocError` if memory runs out.
     ///
     /// ```rust
     /// let empty = CString16::new(rt.alloc())?;
@@ -252,8 +252,8 @@ impl<A: Allocator> CString16<A> {
         Ok(CString16 { units })
     }
 
-    /// Returns the empty string, with room for this many characters and the NUL; or `AllocError`.
-    /// One allocation.
+    /// Creates an empty string with room for this many characters and the NUL. Allocates once.
+    /// Returns `AllocError` if memory runs out.
     ///
     /// ```rust
     /// let mut name = CString16::with_capacity(rt.alloc(), 8)?;
@@ -272,8 +272,8 @@ impl<A: Allocator> CString16<A> {
         Ok(CString16 { units })
     }
 
-    /// Makes room for this many more characters, which then need no allocation; or returns
-    /// `AllocError`. The text is unchanged.
+    /// Reserves room for this many more characters, which then need no allocation. Returns
+    /// `AllocError` if memory runs out. The text is unchanged in either case.
     ///
     /// ```rust
     /// let mut name = CString16::try_from_str(rt.alloc(), "Boot")?;
@@ -287,11 +287,11 @@ impl<A: Allocator> CString16<A> {
         self.units.reserve(characters)
     }
 
-    /// Encodes a Rust text as an owned string.
+    /// Creates an owned string from a Rust text.
     ///
-    /// The first character that is NUL or above U+FFFF decides: the text is refused as
-    /// `InteriorNul` or as `InvalidChar`. Where there is none the text can only be refused as
-    /// `OutOfMemory`. The whole text is tested before the call allocates, once.
+    /// The first character that is NUL or above U+FFFF decides: the call returns `InteriorNul` or
+    /// `InvalidChar`. If there is none, the call can only fail with `OutOfMemory`. Allocates once,
+    /// after the whole text is tested.
     ///
     /// ```rust
     /// let name = CString16::try_from_str(rt.alloc(), "5 €")?;
@@ -312,10 +312,10 @@ impl<A: Allocator> CString16<A> {
         Ok(CString16 { units })
     }
 
-    /// Turns a vector of units into a string, without a copy.
+    /// Turns a vector of units into a string, without copying it.
     ///
-    /// Fails exactly as [`CStr16::from_u16_with_nul`] does; a refused vector is dropped. Does not
-    /// allocate.
+    /// Fails exactly as [`CStr16::from_u16_with_nul`] does for the same units; the refused vector
+    /// is dropped. Does not allocate.
     ///
     /// ```rust
     /// let mut vector = Vec::new(rt.alloc());
@@ -335,7 +335,7 @@ impl<A: Allocator> CString16<A> {
         Ok(CString16 { units })
     }
 
-    /// Gives back the vector: the units of the text and its NUL. Does not allocate.
+    /// Returns the vector: the units of the text and its NUL. Does not allocate.
     ///
     /// See [`CString16::try_from_vec`].
     pub fn into_vec_with_nul(self) -> Vec<u16, A>
@@ -344,7 +344,7 @@ impl<A: Allocator> CString16<A> {
         self.units
     }
 
-    /// Copies a borrowed string, or returns `AllocError`. One allocation.
+    /// Copies a borrowed string. Allocates once. Returns `AllocError` if memory runs out.
     ///
     /// ```rust
     /// let borrowed = CStr16::from_u16_with_nul(&[0x48, 0x69, 0])?;
@@ -371,10 +371,10 @@ impl<A: Allocator> CString16<A> {
         self.units[0] = 0;
     }
 
-    /// Appends a character other than NUL; or returns `AllocError`, and leaves the string
-    /// unchanged.
+    /// Appends a character, which must not be NUL. Returns `AllocError` if memory runs out, and
+    /// leaves the string unchanged.
     ///
-    /// Allocates if the vector is full. Many pushes take constant time each, on average.
+    /// Allocates if the vector is full. A push takes constant time on average.
     ///
     /// ```rust
     /// let mut name = CString16::try_from_str(rt.alloc(), "Boo")?;
@@ -395,8 +395,8 @@ impl<A: Allocator> CString16<A> {
         Ok(())
     }
 
-    /// Does what [`CString16::push`] does if the vector may have no room. This is rare, and a call
-    /// with room saves no registers.
+    /// Does what [`CString16::push`] does if the vector may have no room. This is rare; as a
+    /// function of its own, it spares a call that has room from saving registers.
     #[cold]
     #[inline(never)]
     fn push_to_full(&mut self, c: Char16) -> Result<(), AllocError>
@@ -410,9 +410,10 @@ impl<A: Allocator> CString16<A> {
         Ok(())
     }
 
-    /// Appends the text of a string; or returns `AllocError`, and the string is unchanged.
+    /// Appends the text of a string. Returns `AllocError` if memory runs out, and leaves the string
+    /// unchanged.
     ///
-    /// Allocates at most once. The empty text allocates nothing and never fails.
+    /// Allocates at most once. For the empty text it does not allocate and never fails.
     ///
     /// ```rust
     /// let mut name = CString16::try_from_str(rt.alloc(), "Boot")?;
@@ -426,17 +427,18 @@ impl<A: Allocator> CString16<A> {
     {
         let end = self.num_chars();
         let units = string.to_u16_slice_with_nul();
-        // The first unit takes the place of the NUL, and the others bring their own: one request, and
-        // nothing to undo where it is refused.
+        // The first unit replaces the NUL, and the others include a NUL: one allocation, and
+        // nothing to undo if it fails.
         self.units.extend_from_slice(&units[1..])?;
         self.units[end] = units[0];
         Ok(())
     }
 
-    /// Appends characters, none of them NUL; or returns `AllocError`, and the string is unchanged.
-    /// [`Char16Slice::has_no_nul`] tests the characters, and those of a text hold none.
+    /// Appends characters, none of which may be NUL. Returns `AllocError` if memory runs out, and
+    /// leaves the string unchanged. [`Char16Slice::has_no_nul`] tests the characters; the
+    /// characters of a text contain no NUL.
     ///
-    /// Allocates at most once. For no characters the call allocates nothing and never fails.
+    /// Allocates at most once. For no characters it does not allocate and never fails.
     ///
     /// ```rust
     /// let entry = CString16::try_from_str(rt.alloc(), "Boot0001")?;
@@ -458,9 +460,9 @@ impl<A: Allocator> CString16<A> {
         self.units.extend_from_slice(&[0])
     }
 
-    /// Appends the units of a text, whose number is known when the program is compiled, so that no loop
-    /// copies them; or returns `AllocError`, and the string is unchanged. For crates that prove of units
-    /// that they are a text, as paths do of what they add; all others have the calls above.
+    /// Appends the units of a text whose number is known at compile time, so that no loop copies
+    /// them. Returns `AllocError` if memory runs out, and leaves the string unchanged. For crates
+    /// that prove that units are a text, as paths do; other callers use the calls above.
     #[doc(hidden)]
     #[inline(always)]
     pub fn push_block<const N: usize>(&mut self, block: [u16; N]) -> Result<(), AllocError>
@@ -475,8 +477,8 @@ impl<A: Allocator> CString16<A> {
         Ok(())
     }
 
-    /// Keeps the first `len` characters, or all if there are no more. Neither allocates nor frees
-    /// memory.
+    /// Keeps the first `len` characters, or all of them if there are no more. Neither allocates nor
+    /// frees memory.
     ///
     /// ```rust
     /// let mut name = CString16::try_from_str(rt.alloc(), "Boot0001")?;
@@ -492,10 +494,10 @@ impl<A: Allocator> CString16<A> {
         }
     }
 
-    /// Appends the characters that an iterator gives, none of them NUL. [`have_no_nul`] tests those
-    /// of a slice.
+    /// Appends the characters that an iterator gives, none of which may be NUL. [`have_no_nul`]
+    /// tests a slice of characters.
     ///
-    /// Allocates as [`CString16::push`] does for each. If memory runs out, the result is
+    /// Allocates as [`CString16::push`] does for each character. If memory runs out, the result is
     /// `AllocError`, and the string keeps the characters that were appended before.
     ///
     /// ```rust
@@ -522,7 +524,7 @@ impl<A: Allocator> CString16<A> {
         Ok(())
     }
 
-    /// Replaces each `search` by `replace`; neither may be NUL. Does not allocate.
+    /// Replaces each `search` with `replace`; neither may be NUL. Does not allocate.
     ///
     /// ```rust
     /// let mut name = CString16::try_from_str(rt.alloc(), "efi/boot/")?;
@@ -537,7 +539,7 @@ impl<A: Allocator> CString16<A> {
         self.replace_char_from(0, search, replace);
     }
 
-    /// Replaces each `search` by `replace` from index `start` on; neither may be NUL. Does not
+    /// Replaces each `search` with `replace` from index `start` on; neither may be NUL. Does not
     /// allocate.
     ///
     /// ```rust
@@ -560,8 +562,8 @@ impl<A: Allocator> CString16<A> {
         }
     }
 
-    /// Puts the text in upper case, character by character, as `StrUpr` does (UEFI Specification
-    /// 2.10, section 21.1). Does not allocate.
+    /// Converts the text to upper case, character by character, as `StrUpr` does (UEFI
+    /// Specification 2.10, section 21.1). Does not allocate.
     ///
     /// ```rust
     /// let mut name = CString16::try_from_str(rt.alloc(), "café.txt")?;
@@ -574,7 +576,8 @@ impl<A: Allocator> CString16<A> {
         self.set_case(Case::Upper);
     }
 
-    /// Puts the text in lower case, character by character, as `StrLwr` does. Does not allocate.
+    /// Converts the text to lower case, character by character, as `StrLwr` does. Does not
+    /// allocate.
     ///
     /// ```rust
     /// let mut name = CString16::try_from_str(rt.alloc(), "BOOTX64.EFI")?;
@@ -587,7 +590,7 @@ impl<A: Allocator> CString16<A> {
         self.set_case(Case::Lower);
     }
 
-    /// Puts the text in a case. The NUL has none.
+    /// Converts the text to a case. The NUL has no case.
     fn set_case(&mut self, case: Case)
         ensures { self.new ≡ map (in_case case) self.old }
     {
@@ -616,7 +619,7 @@ impl<A: Allocator> CString16<A> {
         self.num_chars() == 0
     }
 
-    /// Borrows the string. Its text holds no NUL and no surrogate. Does not allocate.
+    /// Borrows the string. Its text contains no NUL and no surrogate. Does not allocate.
     ///
     /// ```rust
     /// let name = CString16::try_from_str(rt.alloc(), "Hi")?;
@@ -643,8 +646,8 @@ impl<A: Allocator> CString16<A> {
     }
 }
 
-/// Copies the string, over a clone of the allocator; or returns `AllocError`. One allocation for
-/// the string.
+/// Copies the string, with a clone of the allocator. Allocates once for the string. Returns
+/// `AllocError` if memory runs out.
 impl<A: Allocator + Clone> Clone for CString16<A> {
     ghost is_clone = { λ string copy. copy ≡ string };
 
@@ -668,7 +671,7 @@ impl<A: Allocator> Eq for CString16<A> {
     ghost laws = { nat_list_eq_equiv };
 }
 
-/// The order of the views: the list order of the code units.
+/// Compares strings as their views: by the list order of the code units.
 impl<A: Allocator> PartialOrd for CString16<A> {
     ghost partial_cmp = { as_partial_cmp (slice_cmp nat_cmp) };
 
@@ -679,7 +682,7 @@ impl<A: Allocator> PartialOrd for CString16<A> {
     }
 }
 
-/// `Equal` exactly for equal strings.
+/// Returns `Equal` exactly for equal strings.
 impl<A: Allocator> Ord for CString16<A> {
     ghost cmp = { slice_cmp nat_cmp };
 
@@ -694,7 +697,7 @@ impl<A: Allocator> Ord for CString16<A> {
     }
 }
 
-/// Hashes as its view does, so that equal strings hash alike, borrowed or owned.
+/// Hashes the string as its view does, so that equal strings hash alike, borrowed or owned.
 impl<A: Allocator> Hash for CString16<A> {
     ghost use Rattle.std.proofs.Common.{rules};
     ghost use Rattle.std.specs.Hash as fed;
@@ -709,7 +712,7 @@ impl<A: Allocator> Hash for CString16<A> {
     }
 }
 
-/// As [`CString16::try_from_vec`].
+/// Does what [`CString16::try_from_vec`] does.
 impl<A: Allocator> TryFrom<Vec<u16, A>> for CString16<A> {
     type Error = FromSliceWithNulError;
 
@@ -724,8 +727,8 @@ impl<A: Allocator> TryFrom<Vec<u16, A>> for CString16<A> {
 /// Appends a Rust text. If it contains a NUL or a character above U+FFFF, or memory runs out, the
 /// result is an error, and the string is unchanged.
 ///
-/// `write!` prints in parts, and an error leaves the parts before it. Each part is tested before
-/// the call allocates, at most once.
+/// `write!` prints in parts; if one part fails, the parts before it stay. Each part is tested
+/// before the call allocates, at most once.
 impl<A: Allocator> fmt::Write for CString16<A> {
     ghost write_str_gives = { λ old bytes new. encode_utf8_all new ≡ encode_utf8_all old ++ bytes };
 
@@ -757,7 +760,7 @@ impl<A: Allocator> fmt::Display for CString16<A> {
     }
 }
 
-/// Prints as its view does, but for the name.
+/// Prints the string as its view does, except for the name.
 impl<A: Allocator> fmt::Debug for CString16<A> {
     fn fmt<W: fmt::Write>(&self, f: &mut fmt::Formatter<W>) -> fmt::Result {
         let text = self.as_cstr16().as_slice();

@@ -1,18 +1,18 @@
-//! Little-endian numbers in bytes: what can be an item of a packed slice.
+//! Little-endian numbers in bytes, which can be the items of a packed slice.
 ghost use Rattle.std.specs.Prelude.{◌≡◌, ℕ, ◌*◌, ◌^◌, ◌<◌, length};
 ghost use Rattle.std.specs.Mem.{type_size};
 ghost use Rattle.std.proofs.Common.{arith};
 ghost use Rattle.uefi_text.specs.Packed.{EncodesOnce, little_endian};
 ghost use Rattle.uefi_text.specs.PackedLaws.{encodes_once};
 
-/// A number that takes a fixed count of bytes, the low byte first: `u8`, `u16`, `u32` and `u64`. A
+/// A number that takes a fixed number of bytes, the low byte first: `u8`, `u16`, `u32` and `u64`. A
 /// contract sees a value as `number` of it. An implementation for a type of your own proves the
 /// three laws at the end.
 pub trait Packed: Copy {
-    /// How many bytes a value takes.
+    /// The number of bytes of a value.
     const SIZE: usize;
 
-    /// How many bytes a value takes, as contracts see it.
+    /// The number of bytes of a value, as contracts see it.
     ghost SIZE: { ℕ };
 
     /// The number of a value.

@@ -1,5 +1,5 @@
-//! Patterns of file names, as the firmware's Unicode collation matches them: `MetaiMatch` (UEFI Specification
-//! 2.10, section 21.1). No call takes memory or recurses.
+//! Patterns of file names, as the firmware's Unicode collation matches them: `MetaiMatch` (UEFI
+//! Specification 2.10, section 21.1). No call allocates or recurses.
 //!
 //! | in a pattern | matches |
 //! |---|---|
@@ -8,10 +8,10 @@
 //! | `[`, a set, `]` | one character of the set |
 //! | any other character | itself, without case |
 //!
-//! A set ends at its first `]`. In it `-` stands for all characters from the one before it to the one
-//! after it, in the order of their upper cases; before the first character of a set comes U+0000. A
-//! `[` without `]` matches nothing. `specs/Patterns.antt` says what a pattern matches, by one rule
-//! for each way that it begins.
+//! A set ends at its first `]`. In a set, `-` means all characters from the one before it to the
+//! one after it, in the order of their upper cases; the character before the first one of a set is
+//! U+0000. A `[` without `]` matches nothing. `specs/Patterns.antt` defines what a pattern matches,
+//! with one rule for each way that it can begin.
 ghost use Rattle.std.specs.Prelude.{IfSome, Some, None, ◌≡◌, ◌≢◌, ◌==◌, ◌↔◌, ◌+◌, ◌*◌, ◌^◌, ◌<◌, ◌≤◌, [], IsTrue, MatchOption, drop, length, position, slice_index, take};
 ghost use Rattle.uefi_text.specs.PatternParts.{IsPart, Refuses, TakesOne, is_right_bracket, part_reads, set_has, unit_has};
 ghost use Rattle.uefi_text.specs.Patterns.{Matches, star};
@@ -38,18 +38,18 @@ struct Star {
     tried: usize,
 }
 
-/// What the first part of the rest of a pattern does with a unit.
+/// The effect of the first part of a pattern on a unit.
 #[derive(Clone, Copy, Drop)]
 enum Part {
     /// It is a `*`.
     Star,
-    /// It has this many units, and takes the unit.
+    /// It has this many units, and matches the unit.
     Takes(usize),
     Refuses,
 }
 
-/// Whether a unit of a set takes another: as itself, or as the end of a range, if `-` is before it.
-/// `earlier` is before that.
+/// Returns whether a unit of a set takes another: as itself, or as the end of a range, if `-` is
+/// before it. `earlier` is before that.
 fn takes_here(earlier: u16, before: u16, c: u16, unit: u16) -> bool
     ensures { result ≡ unit_has earlier before c unit }
 {
@@ -59,8 +59,8 @@ fn takes_here(earlier: u16, before: u16, c: u16, unit: u16) -> bool
     before == HYPHEN && (in_range || end == capital) || c != HYPHEN && end == capital
 }
 
-/// Goes once over a set that begins at `start`, after its `[`: how many units it has before its `]`, and
-/// whether it takes a unit. `None` if there is no `]`.
+/// Reads once over a set that begins at `start`, after its `[`. Returns the number of units before
+/// its `]`, and whether the set has the unit. `None` if there is no `]`.
 fn set_takes(pattern: &mut CountedReader<'_>, start: usize, unit: u16) -> Option<(usize, bool)>
     requires { start ≤ length (read_units pattern.old) }
     ensures units { read_units pattern.new ≡ read_units pattern.old }
@@ -86,8 +86,8 @@ fn set_takes(pattern: &mut CountedReader<'_>, start: usize, unit: u16) -> Option
     None
 }
 
-/// The length of what the pattern has at a place, a unit or a set, if that is no `*` and takes a unit.
-/// `first` is the unit at that place.
+/// Returns the length of the unit or set at an index of the pattern, if that is not `*` and takes a
+/// unit. `first` is the unit at that index.
 fn part_that_takes(
     pattern: &mut CountedReader<'_>,
     at: usize,
@@ -121,7 +121,7 @@ fn part_that_takes(
     None
 }
 
-/// What the pattern has at a place for a unit of the text.
+/// Returns the part of the pattern at an index, for a unit of the text.
 fn part_at(pattern: &mut CountedReader<'_>, at: usize, unit: u16) -> Part
     requires { at ≤ length (read_units pattern.old) }
     ensures units { read_units pattern.new ≡ read_units pattern.old }
@@ -143,7 +143,7 @@ fn part_at(pattern: &mut CountedReader<'_>, at: usize, unit: u16) -> Part
     }
 }
 
-/// Whether the pattern matches the empty text from a place on: it has nothing but `*` there.
+/// Returns whether the pattern matches the empty text from an index on: whether only `*` follows.
 fn matches_nothing(pattern: &mut CountedReader<'_>, start: usize) -> bool
     requires { start ≤ length (read_units pattern.old) }
     ensures units { read_units pattern.new ≡ read_units pattern.old }
@@ -159,11 +159,11 @@ fn matches_nothing(pattern: &mut CountedReader<'_>, start: usize) -> bool
 }
 
 impl<'a> CountedReader<'a> {
-    /// Whether a pattern matches all of the units, as [`CStr16::matches`]. Reads each unit of the text less
-    /// often than the pattern is long plus one, and so each unit of the pattern.
+    /// Returns whether a pattern matches all of the units, as [`CStr16::matches`] does. Reads fewer
+    /// than (p + 1) * (t + 1) units of each, if the pattern has p units and the text t.
     ///
-    /// Where a unit is refused the search goes back to the last `*` alone, which takes one unit more:
-    /// what matches later in the text after an earlier `*` also reaches the last one later.
+    /// If a unit is refused, the search goes back only to the last `*`, which then takes one unit
+    /// more: a match that begins later in the text after an earlier `*` also reaches the last `*`.
     ///
     /// ```rust
     /// use counted::CountedReader;
@@ -214,8 +214,8 @@ impl<'a> CountedReader<'a> {
     }
 }
 
-/// Whether a pattern matches all of the units, as [`CStr16::matches`]. Both may hold surrogates, as
-/// names on FAT volumes may.
+/// Returns whether a pattern matches all of the units, as [`CStr16::matches`] does. Both may
+/// contain surrogates, as names on FAT volumes may.
 ///
 /// ```rust
 /// assert!(rt; patterns::matches(&[0x61, 0xd83d, 0xde00], &[0x41, 0x2a]));
@@ -228,9 +228,9 @@ pub fn matches(units: &[u16], pattern: &[u16]) -> bool
 }
 
 impl<'a> CStr16<'a> {
-    /// Whether a pattern matches the whole string, without case. Reads fewer than (p + 1) * (t + 1) units
-    /// of each, where the pattern has p characters and the string t. [`CountedReader::matches`] promises
-    /// that.
+    /// Returns whether a pattern matches the whole string, without case. Reads fewer than (p + 1) *
+    /// (t + 1) units of each, if the pattern has p characters and the string t.
+    /// [`CountedReader::matches`] promises that.
     ///
     /// ```rust
     /// let pattern = CString16::try_from_str(rt.alloc(), "shim*.[ef]?i")?;
@@ -246,7 +246,7 @@ impl<'a> CStr16<'a> {
 }
 
 impl<'a> Char16Slice<'a> {
-    /// Whether a pattern matches all of the characters, as [`CStr16::matches`].
+    /// Returns whether a pattern matches all of the characters, as [`CStr16::matches`] does.
     ///
     /// ```rust
     /// let pattern = CString16::try_from_str(rt.alloc(), "*.efi")?;

@@ -1,8 +1,8 @@
-//! Passes over whole slices, in forms that the compiler compiles to vector instructions: no early
-//! exit inside a block, and loops over places where the bounds are known. What they return is said
-//! by std's words, so that callers see nothing of the form.
+//! Passes over whole slices, in forms that the compiler turns into vector instructions: no early
+//! exit inside a block, and loops over indices with known bounds. Their contracts use std's words,
+//! so that callers see nothing of the form.
 //!
-//! What a pass looks for is a [`Class`] of elements: all classes share one pass, and one proof.
+//! A pass looks for a [`Class`] of elements. All classes share one pass, and one proof.
 ghost use Rattle.std.specs.Prelude.{IsTrue, ◌≡◌, ◌↔◌, ◌||◌, ◌+◌, ◌-◌, ◌*◌, ◌<◌, ◌≤◌, ◌++◌, All, Bool, Option, None, count_by, length, take, drop, map, position, true, false};
 ghost use Rattle.std.specs.Fmt.{is_char_start};
 ghost use Rattle.std.specs.List.{list_any};
@@ -12,14 +12,15 @@ ghost use Rattle.uefi_text.specs.Scans.{IsAsciiTextByte, is_beyond_ascii, is_bey
 ghost use Rattle.uefi_text.specs.UnitBytes.{unit_bytes};
 ghost use Rattle.uefi_text.specs.Units.{is_deciding, is_nul, deciding_place, replaced};
 
-/// How many elements are tested together: with no early exit among them they become vectors.
+/// The number of elements that are tested together: without an early exit among them they become
+/// vectors.
 const BLOCK: usize = 64;
 
-/// How many of those after the last whole block are tested together.
+/// The number of elements after the last whole block that are tested together.
 const SMALL_BLOCK: usize = 8;
 
-/// How many elements are counted at a time: the count of a block fits in a byte, so that it becomes
-/// vector code.
+/// The number of elements that are counted at a time: the count of a block fits in a byte, so that
+/// it becomes vector code.
 const COUNTED: usize = 128;
 
 /// A class of elements that a pass looks for.
@@ -31,7 +32,7 @@ pub(crate) trait Class<T> {
         ensures { result ≡ holds element };
 }
 
-/// Whether an element of a block is in the class.
+/// Returns whether an element of a block is in the class.
 #[inline(always)]
 fn block_has<T: Copy, C: Class<T>>(block: &[T]) -> bool
     ensures { result ≡ list_any C.holds block.now }
@@ -43,8 +44,8 @@ fn block_has<T: Copy, C: Class<T>>(block: &[T]) -> bool
     found
 }
 
-/// A place before which no element is in the class: elements from `start` on are tested in blocks, up to
-/// one that holds such an element, or to less than a block.
+/// Returns an index before which no element is in the class. Tests the elements from `start` on in
+/// blocks, up to a block that contains an element of the class, or to less than a block.
 #[inline(always)]
 fn clear_blocks_end<T: Copy, C: Class<T>>(elements: &[T], start: usize, block: usize) -> usize
     requires start { start ≤ length elements.now }
@@ -62,7 +63,7 @@ fn clear_blocks_end<T: Copy, C: Class<T>>(elements: &[T], start: usize, block: u
     end
 }
 
-/// The place of the first element in the class, one by one.
+/// Returns the index of the first element in the class, one by one.
 #[inline(always)]
 fn find_one_by_one<T: Copy, C: Class<T>>(elements: &[T]) -> Option<usize>
     ensures { result ≡ position C.holds elements.now }
@@ -83,18 +84,18 @@ pub(crate) fn find_first<T: Copy, C: Class<T>>(elements: &[T]) -> Option<usize>
     }
 }
 
-/// Whether an element is in the class.
+/// Returns whether an element is in the class.
 #[inline(always)]
 fn has_any<T: Copy, C: Class<T>>(elements: &[T]) -> bool
     ensures { result ≡ list_any C.holds elements.now }
 {
     let blocks_end = clear_blocks_end::<T, C>(elements, 0, BLOCK);
     let start = clear_blocks_end::<T, C>(elements, blocks_end, SMALL_BLOCK);
-    // What follows is less than a block, or begins with one that has such an element.
+    // The rest is less than a block, or begins with a block that has an element of the class.
     SMALL_BLOCK <= elements.len() - start || find_one_by_one::<T, C>(&elements[start..]).is_some()
 }
 
-/// How many elements of a block are in the class.
+/// Returns how many elements of a block are in the class.
 #[inline(always)]
 fn count_in_block<T: Copy, C: Class<T>>(block: &[T]) -> u8
     requires { length block.now ≤ 128 }
@@ -107,7 +108,7 @@ fn count_in_block<T: Copy, C: Class<T>>(block: &[T]) -> u8
     count
 }
 
-/// How many elements are in the class.
+/// Returns how many elements are in the class.
 #[inline(always)]
 fn count<T: Copy, C: Class<T>>(elements: &[T]) -> usize
     ensures { result ≡ count_by C.holds elements.now }
@@ -191,8 +192,8 @@ impl Class<u8> for NoAsciiText {
     }
 }
 
-/// Bytes that begin a character which no UCS-2 text holds: a NUL, or a character above U+FFFF, which alone
-/// has four bytes.
+/// Bytes that begin a character that UCS-2 texts cannot contain: a NUL, or a character above
+/// U+FFFF, which is the only kind that has four bytes.
 struct DecidingByte;
 
 impl Class<u8> for DecidingByte {
@@ -204,8 +205,8 @@ impl Class<u8> for DecidingByte {
     }
 }
 
-/// Bytes that begin a character above U+00FF: those of 0xc4 or more. Below that are the bytes that begin a
-/// character of Latin-1, and those inside of characters.
+/// Bytes that begin a character above U+00FF: 0xc4 and above. Smaller bytes begin a character of
+/// Latin-1, or are inside a character.
 struct BeyondLatin1;
 
 impl Class<u8> for BeyondLatin1 {
@@ -229,14 +230,14 @@ impl Class<u8> for CharStart {
     }
 }
 
-/// Returns the place of the first NUL or surrogate.
+/// Returns the index of the first NUL or surrogate.
 pub fn find_deciding_place(units: &[u16]) -> Option<usize>
     ensures { result ≡ deciding_place units.now }
 {
     find_first::<u16, Deciding>(units)
 }
 
-/// Returns the place of the first NUL.
+/// Returns the index of the first NUL.
 pub fn find_nul(units: &[u16]) -> Option<usize>
     ensures { result ≡ position is_nul units.now }
 {
@@ -250,7 +251,7 @@ pub fn is_ascii(units: &[u16]) -> bool
     !has_any::<u16, BeyondAscii>(units)
 }
 
-/// How many units have two bytes of UTF-8 or more, and how many have three.
+/// Returns how many units have two bytes of UTF-8 or more, and how many have three.
 pub(crate) fn count_wide(units: &[u16]) -> (usize, usize)
     ensures two { result.0 ≡ count_by is_beyond_ascii units.now }
     ensures three { result.1 ≡ count_by is_of_three_bytes units.now }
@@ -261,43 +262,43 @@ pub(crate) fn count_wide(units: &[u16]) -> (usize, usize)
     )
 }
 
-/// Returns the place of the first zero.
+/// Returns the index of the first zero.
 pub fn find_zero(bytes: &[u8]) -> Option<usize>
     ensures { result ≡ position is_nul bytes.now }
 {
     find_first::<u8, Zero>(bytes)
 }
 
-/// Whether a byte is zero.
+/// Returns whether a byte is zero.
 pub(crate) fn has_zero(bytes: &[u8]) -> bool
     ensures { result ≡ list_any is_nul bytes.now }
 {
     has_any::<u8, Zero>(bytes)
 }
 
-/// Whether each byte is ASCII and not NUL.
+/// Returns whether each byte is ASCII and not NUL.
 pub(crate) fn is_ascii_text(bytes: &[u8]) -> bool
     ensures { IsTrue result ↔ All IsAsciiTextByte bytes.now }
 {
     !has_any::<u8, NoAsciiText>(bytes)
 }
 
-/// Whether a byte begins a character above U+00FF.
+/// Returns whether a byte begins a character above U+00FF.
 pub(crate) fn has_byte_beyond_latin1(bytes: &[u8]) -> bool
     ensures { result ≡ list_any is_beyond_latin1_byte bytes.now }
 {
     has_any::<u8, BeyondLatin1>(bytes)
 }
 
-/// Whether a byte begins a character that no UCS-2 text holds.
+/// Returns whether a byte begins a character that no UCS-2 text holds.
 pub(crate) fn has_deciding_byte(bytes: &[u8]) -> bool
     ensures { result ≡ list_any is_deciding_byte bytes.now }
 {
     has_any::<u8, DecidingByte>(bytes)
 }
 
-/// How many characters begin in bytes of UTF-8; `None` exactly if one of them is one that no UCS-2
-/// text holds.
+/// Returns the number of characters that begin in bytes of UTF-8; `None` exactly if no UCS-2 text
+/// can contain one of them.
 pub(crate) fn count_undecided_chars(bytes: &[u8]) -> Option<usize>
     ensures { SomeIff result (list_any is_deciding_byte bytes.now ≡ false)
         (count_by is_char_start bytes.now) }
@@ -308,7 +309,7 @@ pub(crate) fn count_undecided_chars(bytes: &[u8]) -> Option<usize>
     Some(count::<u8, CharStart>(bytes))
 }
 
-/// True only where units are these bytes, all of ASCII and none of them zero.
+/// True only if units are equal to these bytes, which are ASCII without NUL.
 #[inline(always)]
 fn are_same_ascii(units: &[u16], bytes: &[u8]) -> bool
     requires { length units.now ≡ length bytes.now }
@@ -386,7 +387,7 @@ pub fn split(bytes: &mut [u8], units: &[u16])
     }
 }
 
-/// `replace` in place of `search`, or else the unit.
+/// Returns `replace` for `search`, and otherwise the unit.
 #[inline(always)]
 pub(crate) fn unit_after(unit: u16, search: u16, replace: u16) -> u16
     ensures { result ≡ replaced search replace unit }
@@ -394,7 +395,7 @@ pub(crate) fn unit_after(unit: u16, search: u16, replace: u16) -> u16
     if unit == search { replace } else { unit }
 }
 
-/// Writes `replace` in each place of `search`.
+/// Replaces each `search` with `replace`.
 #[tactic(auto, using(std::proofs::lemmas::List::Edits::map_over_more, std::proofs::lemmas::List::take_all, std::proofs::lemmas::List::drop_all))]
 fn replace_units(units: &mut [u16], search: u16, replace: u16)
     ensures { units.new ≡ map (replaced search replace) units.old }
@@ -404,7 +405,7 @@ fn replace_units(units: &mut [u16], search: u16, replace: u16)
     }
 }
 
-/// Writes `replace` in each place of `search`, from the place `start` on.
+/// Replaces each `search` with `replace`, from index `start` on.
 pub fn replace_units_from(units: &mut [u16], start: usize, search: u16, replace: u16)
     requires { start ≤ length units.now }
     ensures { units.new ≡ take start units.old ++ map (replaced search replace) (drop start units.old) }

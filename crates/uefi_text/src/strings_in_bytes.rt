@@ -1,4 +1,4 @@
-//! Packed units that are read as a string where they lie.
+//! Packed units that are read as a string in place.
 ghost use Rattle.std.specs.Prelude.{◌≡◌, OnOk};
 ghost use Rattle.std.specs.Result.{result_err};
 ghost use Rattle.uefi_text.specs.FromSliceWithNul.{with_nul_refusal};

@@ -1,6 +1,6 @@
-//! Borrowed NUL-terminated strings of UCS-2, and views of their characters. Strings of Latin-1 and the
-//! reasons of refusals have their names here too, and their code in `latin1` and `errors`.
-//! `specs/Views.antt` says what a contract sees of each view.
+//! Borrowed NUL-terminated strings of UCS-2, and views of their characters. Strings of Latin-1 and
+//! the errors have their names here too; their code is in `latin1` and `errors`. `specs/Views.antt`
+//! defines how a contract sees each view.
 #![tactic(auto, unfolding(crate::specs::Views::text_of, crate::specs::Views::units_of, crate::specs::Views::units_left))]
 
 ghost use Rattle.std.specs.Prelude.{◌≡◌, ◌<◌, ◌≤◌, ◌+◌, ◌*◌, ◌^◌, ◌↔◌, ◌==◌, ◌≢◌, ◌++◌, [], nat_eq, ℕ, Option, All, length, slice_get, slice_index, slice_range, take, IsTrue, IsOk, IfOk, IfSome, OnErr, OnOk, Some, false, true};
@@ -40,7 +40,7 @@ use std::hash::{Hash, Hasher};
 /// A borrowed string: a view of code units that are a text and its NUL (UEFI Specification 2.10,
 /// section 2.3.1). A contract sees it as `text_of` it: the text without the NUL.
 ///
-/// A call that takes an allocator allocates, and so may the sink of [`CStr16::as_str_in_buf`]. No
+/// A call that takes an allocator allocates, and the sink of [`CStr16::as_str_in_buf`] may. No
 /// other call allocates.
 ///
 /// ```rust
@@ -57,8 +57,8 @@ pub struct CStr16<'a> {
     pub ghost is_string: { IsString units.now },
 }
 
-/// Whether units of which this is the first that no text holds, at this place among `len`, are a string;
-/// or why they are none.
+/// Checks whether units are a string, given the first unit that no text can contain and its index
+/// among `len` units. Returns why they are not a string, if they are not.
 pub(crate) fn check_deciding_unit(
     unit: u16,
     place: usize,
@@ -76,8 +76,8 @@ pub(crate) fn check_deciding_unit(
     Ok(())
 }
 
-/// Whether two runs of units are the same. Their order passes equal units in strides, and a test at the
-/// start of a stride is a jump: nothing waits for it.
+/// Returns whether two runs of units are the same. The order of runs skips equal units in strides,
+/// and tests at the start of a stride with a jump: nothing waits for it.
 fn are_same(one: &[u16], two: &[u16]) -> bool
     ensures { result ≡ pointwise nat_eq one.now two.now }
 {
@@ -92,9 +92,9 @@ pub struct CStr16Iter<'a> {
     pub ghost are_characters: { All IsChar16 units.now },
 }
 
-/// Characters that lie side by side, such as a text, a string with its NUL or a component of a
-/// path. A contract sees it as `units_of` it: their code units. A call that takes an allocator
-/// allocates, and [`Char16Slice::add_utf8_to`] may. No other call does.
+/// Consecutive characters, for example a text, a string with its NUL or a component of a path. A
+/// contract sees it as `units_of` it: their code units. A call that takes an allocator allocates,
+/// and [`Char16Slice::add_utf8_to`] may. No other call does.
 ///
 /// ```rust
 /// let name = CStr16::from_u16_with_nul(&[0x42, 0x6f, 0x6f, 0x74, 0])?;
@@ -113,7 +113,7 @@ pub struct Char16Slice<'a> {
 impl<'a> CStr16<'a> {
     ghost use Rattle.uefi_text.specs.Views.{text_of, units_of, units_left};
 
-    /// Borrows the units up to the first NUL, and with it, as a string.
+    /// Borrows the units up to and including the first NUL as a string.
     ///
     /// The first NUL or surrogate decides. A NUL ends the string, and later units do not matter. A
     /// surrogate is refused as `InvalidChar` with its index. If there is neither, the result is
@@ -165,9 +165,9 @@ impl<'a> CStr16<'a> {
         Ok(CStr16 { units })
     }
 
-    /// Returns the string of units that are known to be one, as a view of them. Looks at none of
-    /// them; does not allocate. For crates that prove of units that they are a string, as device
-    /// paths do of their texts; all others have the constructors above, which look.
+    /// Borrows units as a string, for which the caller has a proof. Reads none of the units, and
+    /// does not allocate. For crates that prove that units are a string, as device paths do of
+    /// their texts; other callers use the constructors above, which check the units.
     #[doc(hidden)]
     pub fn from_string(units: &'a [u16]) -> CStr16<'a>
         requires { IsString units.now }
@@ -203,7 +203,7 @@ impl<'a> CStr16<'a> {
     }
 
     /// Encodes a Rust text at the start of a buffer, and borrows it from there as a string.
-    /// [`CStr16::write_str`] says when it is refused and what the buffer then holds. Does not
+    /// [`CStr16::write_str`] says when it fails and what the buffer then contains. Does not
     /// allocate.
     ///
     /// ```rust
@@ -240,7 +240,7 @@ impl<'a> CStr16<'a> {
         }
     }
 
-    /// Returns the characters of the text, and the NUL.
+    /// Returns the characters of the text, with the NUL.
     pub fn as_slice_with_nul(&self) -> Char16Slice<'a>
         ensures { units_of result ≡ nul_terminated (text_of self.now) }
     {
@@ -254,14 +254,14 @@ impl<'a> CStr16<'a> {
         &self.units[..self.units.len() - 1]
     }
 
-    /// Returns the code units of the text, and the NUL.
+    /// Returns the code units of the text, with the NUL.
     pub fn to_u16_slice_with_nul(&self) -> &'a [u16]
         ensures { result.now ≡ nul_terminated (text_of self.now) }
     {
         self.units
     }
 
-    /// Returns the characters of the text in order, without the NUL.
+    /// Returns an iterator over the characters of the text in order, without the NUL.
     ///
     /// ```rust
     /// let mut characters = CStr16::from_u16_with_nul(&[0x48, 0x69, 0])?.iter();
@@ -285,9 +285,9 @@ impl<'a> CStr16<'a> {
         self.units.len() - 1
     }
 
-    /// Returns the number of bytes of the string: two for each character and two for the NUL. It
-    /// has to fit a `usize`, as it does for every slice in memory; [`CStr16::num_chars`] is the
-    /// test.
+    /// Returns the number of bytes of the string: two for each character and two for the NUL. The
+    /// number must fit in a `usize`, as it does for every slice in memory; test
+    /// [`CStr16::num_chars`].
     pub fn num_bytes(&self) -> usize
         requires { 2 * (length (text_of self.now) + 1) < 2 ^ 64 }
         ensures { result ≡ 2 * (length (text_of self.now) + 1) }
@@ -310,7 +310,7 @@ impl<'a> CStr16<'a> {
     }
 
     /// Returns the string as bytes, the low byte first on every machine: two for each character and
-    /// two for the NUL; or `AllocError`. One allocation of that size.
+    /// two for the NUL. Allocates once, with that size. Returns `AllocError` if memory runs out.
     ///
     /// ```rust
     /// let price = CStr16::from_u16_with_nul(&[0x35, 0x20ac, 0])?;
@@ -329,8 +329,8 @@ impl<'a> CStr16<'a> {
         Ok(bytes)
     }
 
-    /// Returns the text as a Rust `String`, or `AllocError`. One allocation at most: the bytes in
-    /// UTF-8 are counted first.
+    /// Returns the text as a Rust `String`. Allocates at most once, because it counts the bytes in
+    /// UTF-8 first. Returns `AllocError` if memory runs out.
     ///
     /// ```rust
     /// let price = CStr16::from_u16_with_nul(&[0x35, 0x20ac, 0])?;
@@ -347,10 +347,10 @@ impl<'a> CStr16<'a> {
     }
 
     /// Writes the characters of the text to a sink, in order, up to the first that it refuses. The
-    /// sink then holds those before it.
+    /// sink then contains the characters before that one.
     ///
-    /// The sink is offered 64 characters at a time, by [`CharSink::write_whole`]. Those that it
-    /// does not take so are written one by one. Only the sink may allocate.
+    /// The call offers the sink 64 characters at a time, by [`CharSink::write_whole`]. If the sink
+    /// does not take them at once, they are written one by one. Only the sink may allocate.
     ///
     /// ```rust
     /// let name = CStr16::from_u16_with_nul(&[0x48, 0x69, 0])?;
@@ -374,7 +374,7 @@ impl<'a> CStr16<'a> {
         Ok(())
     }
 
-    /// Returns whether the other string has the same text, as `==` says.
+    /// Returns whether the other string has the same text, as `==` does.
     pub fn eq_cstr16(&self, other: CStr16<'_>) -> bool
         ensures { IsTrue result ↔ (text_of self.now ≡ text_of other.entry) }
     {
@@ -412,7 +412,7 @@ impl<'a> Eq for CStr16<'a> {
     ghost laws = { on_texts_equal text_of };
 }
 
-/// The list order of the code units.
+/// Compares the code units, in list order.
 impl<'a> PartialOrd for CStr16<'a> {
     ghost use Rattle.uefi_text.specs.Views.{text_of};
 
@@ -425,7 +425,7 @@ impl<'a> PartialOrd for CStr16<'a> {
     }
 }
 
-/// `Equal` exactly for equal strings.
+/// Returns `Equal` exactly for equal strings.
 impl<'a> Ord for CStr16<'a> {
     ghost use Rattle.uefi_text.specs.Views.{text_of};
 
@@ -458,7 +458,7 @@ impl<'a> Hash for CStr16<'a> {
     }
 }
 
-/// The characters of the text in order, without the NUL. Does not allocate.
+/// Iterates over the characters of the text in order, without the NUL. Does not allocate.
 impl<'a> IntoIterator for CStr16<'a> {
     type Item = Char16;
 
@@ -494,7 +494,7 @@ impl<'a> EqStrUntilNul for CStr16<'a> {
     }
 }
 
-/// Gives the characters from the front, and then `None` for ever.
+/// Gives the characters from the front, and then always `None`.
 impl<'a> Iterator for CStr16Iter<'a> {
     type Item = Char16;
 
@@ -510,7 +510,7 @@ impl<'a> Iterator for CStr16Iter<'a> {
         Some(Char16::from_unit(*first))
     }
 
-    /// Exactly as many as are left.
+    /// Returns the exact number of characters that are left.
     fn size_hint(&self) -> (usize, Option<usize>)
         ensures lower { IsWithinCount result.0 (item_count units_left self.now) }
         ensures upper { IfSome result.1 (UpTo (item_count units_left self.now)) }
@@ -551,14 +551,14 @@ impl<'a> Char16Slice<'a> {
         self.units.len()
     }
 
-    /// Returns whether there are none.
+    /// Returns whether the slice is empty.
     pub fn is_empty(&self) -> bool
         ensures { IsTrue result ↔ (units_of self.now ≡ []) }
     {
         self.units.is_empty()
     }
 
-    /// Returns the character at an index, or `None` from the length on.
+    /// Returns the character at an index, or `None` if the index is not less than the length.
     pub fn get(&self, i: usize) -> Option<Char16>
         ensures { result ≡ slice_get (units_of self.now) i }
     {
@@ -566,7 +566,7 @@ impl<'a> Char16Slice<'a> {
         Some(Char16::from_unit(unit))
     }
 
-    /// Returns the characters in order.
+    /// Returns an iterator over the characters in order.
     pub fn iter(&self) -> CStr16Iter<'a>
         ensures same { units_left result ≡ units_of self.now }
         ensures bound { length (units_left result) < 2 ^ 64 }
@@ -590,8 +590,8 @@ impl<'a> Char16Slice<'a> {
         self.units
     }
 
-    /// Appends the characters in UTF-8 to bytes; or `AllocError`, and the bytes are unchanged.
-    /// Allocates at most once, and not if the bytes have room.
+    /// Appends the characters in UTF-8 to bytes. Returns `AllocError` if memory runs out, and
+    /// leaves the bytes unchanged. Allocates at most once, and not at all if the bytes have room.
     ///
     /// ```rust
     /// let price = CStr16::from_u16_with_nul(&[0x35, 0x20ac, 0])?;
@@ -606,7 +606,8 @@ impl<'a> Char16Slice<'a> {
         add_utf8(bytes, self.units)
     }
 
-    /// Adds at most [`PRINTED`] characters to a sink at once, where it takes them so.
+    /// Writes at most [`PRINTED`] characters to a sink at once, and returns whether the sink took
+    /// them.
     #[inline(always)]
     fn write_whole_to<W: CharSink>(&self, sink: &mut W) -> bool
         requires { length (units_of self.now) ≤ 64 }
@@ -648,7 +649,7 @@ impl<'a> Char16Slice<'a> {
         Ok(())
     }
 
-    /// Returns the characters from index `start` on, up to and without index `end`.
+    /// Returns the characters from index `start` up to, but not including, index `end`.
     pub fn part(&self, start: usize, end: usize) -> Char16Slice<'a>
         requires { (start ≤ end) × (end ≤ length (units_of self.now)) }
         ensures { units_of result ≡ slice_range (units_of self.now) start end }
@@ -678,7 +679,7 @@ impl<'a> Eq for Char16Slice<'a> {
     ghost laws = { on_texts_equal units_of };
 }
 
-/// The list order of the code units.
+/// Compares the code units, in list order.
 impl<'a> PartialOrd for Char16Slice<'a> {
     ghost use Rattle.uefi_text.specs.Views.{units_of};
 
@@ -691,7 +692,7 @@ impl<'a> PartialOrd for Char16Slice<'a> {
     }
 }
 
-/// `Equal` exactly for equal slices.
+/// Returns `Equal` exactly for equal slices.
 impl<'a> Ord for Char16Slice<'a> {
     ghost use Rattle.uefi_text.specs.Views.{units_of};
 
@@ -708,7 +709,7 @@ impl<'a> Ord for Char16Slice<'a> {
     }
 }
 
-/// Hashes the code units, so that equal slices hash alike, and a text as its string does.
+/// Hashes the code units, so that equal slices hash alike, and a text hashes as its string does.
 impl<'a> Hash for Char16Slice<'a> {
     ghost use Rattle.std.proofs.Common.{rules};
     ghost use Rattle.std.specs.Hash as fed;
@@ -751,7 +752,7 @@ impl<'a> fmt::Debug for Char16Slice<'a> {
     }
 }
 
-/// The characters in order. Does not allocate.
+/// Iterates over the characters in order. Does not allocate.
 impl<'a> IntoIterator for Char16Slice<'a> {
     type Item = Char16;
 

@@ -1,9 +1,9 @@
-//! Little-endian numbers that lie packed in bytes, wherever the bytes begin.
+//! Little-endian numbers that are packed in bytes, at any address.
 //!
 //! The tables and device paths of firmware are packed: a number of several bytes begins where the
-//! field before it ends, at an odd place of memory as well as at an even one, so that no slice of
-//! such numbers can be borrowed. An [`UnalignedSlice`] borrows the bytes instead, and decodes an item each
-//! time that one is asked for, the low byte first on every machine.
+//! field before it ends, at an odd or an even address, so that no slice of these numbers can be
+//! borrowed. An [`UnalignedSlice`] borrows the bytes instead, and decodes an item each time that
+//! one is requested, the low byte first on every machine.
 //!
 //! ```rust
 //! use uefi_text::UnalignedSlice;
@@ -45,20 +45,21 @@ use std::alloc::{AllocError, Allocator};
 use std::fmt;
 use std::marker::PhantomData;
 
-/// How many units are copied out and tested at a time.
+/// The number of units that are copied out and tested at a time.
 const TESTED: usize = 64;
 
-/// How many items are copied at a time. They pass through a block of their own, which nothing else
-/// shares: so the compiler makes one call of `memmove` for each block, and leaves the block out.
+/// The number of items that are copied at a time. They pass through a separate block, which nothing
+/// else shares, so that the compiler makes one call of `memmove` for each block, and omits the
+/// block.
 const COPIED: usize = 4096;
 
 /// So few items are copied one by one: a call of `memmove` costs more than it saves.
 const FEW_ITEMS: usize = 64;
 
-/// How many of few items become a part of a vector at a time.
+/// The number of items that become a part of a vector at a time, if there are few.
 const PIECE: usize = 16;
 
-/// A view of items that lie packed in borrowed bytes, which may begin at any address. A contract
+/// A view of items that are packed in borrowed bytes, which may begin at any address. A contract
 /// sees it as `items_of` it: the list of the items' numbers. A call that takes an allocator
 /// allocates, and no other does.
 #[derive(Copy)]
@@ -69,23 +70,23 @@ pub struct UnalignedSlice<'a, T: Packed> {
     pub ghost in_bytes: { len * T.SIZE ≤ length bytes.now },
 }
 
-/// An iterator over the items of a packed slice. A contract sees it as `items_left` of it: what
-/// remains.
+/// An iterator over the items of a packed slice. A contract sees it as `items_left` of it: the
+/// items that remain.
 #[derive(Drop)]
 pub struct UnalignedSliceIter<'a, T: Packed> {
     rest: UnalignedSlice<'a, T>,
 }
 
 /// The iterator that a packed slice itself becomes. A contract sees it as `into_iter_items_left` of
-/// it: what remains.
+/// it: the items that remain.
 #[derive(Drop)]
 pub struct UnalignedSliceIntoIter<'a, T: Packed> {
     items: UnalignedSliceIter<'a, T>,
 }
 
-/// Writes the items that bytes begin with, as many as there are places, one after the other. It takes
-/// both as slices, so that neither's place and length is read again for each item. It makes no call of
-/// `memmove`, and is public for the exports to C alone, which can't have one.
+/// Fills `dest` with the items at the start of the bytes, in order. Both are slices, so that their
+/// addresses and lengths are not read again for each item. Makes no call of `memmove`. Public only
+/// for the exports to C, which can't have a call of it.
 #[doc(hidden)]
 pub fn read_items<T: Packed>(bytes: &[u8], dest: &mut [T])
     requires { length dest.old * T.SIZE ≤ length bytes.now }
@@ -200,9 +201,9 @@ impl<'a, T: Packed> UnalignedSlice<'a, T> {
         }
     }
 
-    /// Returns a view of the first `len` items of the bytes, which lie one after the other from
-    /// their start. The bytes after them are never read. The bytes have to have room for the items,
-    /// which [`UnalignedSlice::fits`] tests.
+    /// Returns a view of the first `len` items of the bytes, in order from the start. The bytes
+    /// after them are never read. The bytes must have room for the items, which
+    /// [`UnalignedSlice::fits`] tests.
     ///
     /// ```rust
     /// let items: UnalignedSlice<u16> = UnalignedSlice::new(&[0x34, 0x12, 0x78, 0x56, 0xff], 2);
@@ -223,8 +224,8 @@ impl<'a, T: Packed> UnalignedSlice<'a, T> {
         }
     }
 
-    /// Returns the view of [`UnalignedSlice::new`], or `None` exactly if the bytes have no room for
-    /// the items.
+    /// Does what [`UnalignedSlice::new`] does, or returns `None` exactly if the bytes have no room
+    /// for the items.
     ///
     /// ```rust
     /// let bytes = [0x34, 0x12, 0xff];
@@ -267,7 +268,7 @@ impl<'a, T: Packed> UnalignedSlice<'a, T> {
         self.len == 0
     }
 
-    /// The items from the place `start` on, up to and without the place `end`.
+    /// Returns the items from index `start` up to, but not including, index `end`.
     fn part(&self, start: usize, end: usize) -> Self
         requires { (start ≤ end) × (end ≤ length (items_of self.now)) }
         ensures { items_of result ≡ slice_range (items_of self.now) start end }
@@ -279,7 +280,7 @@ impl<'a, T: Packed> UnalignedSlice<'a, T> {
         }
     }
 
-    /// The item at a place if there is one.
+    /// Returns the item at an index, which must exist.
     fn item(&self, place: usize) -> T
         requires { place < length (items_of self.now) }
         ensures { T.number result ≡ slice_index (items_of self.now) place }
@@ -288,7 +289,7 @@ impl<'a, T: Packed> UnalignedSlice<'a, T> {
         T::read_le(&self.bytes[start..start + T::SIZE])
     }
 
-    /// Returns the item at an index, or `None` from the length on.
+    /// Returns the item at an index, or `None` if the index is not less than the length.
     ///
     /// ```rust
     /// let items: UnalignedSlice<u16> = UnalignedSlice::new(&[0x34, 0x12, 0x78, 0x56], 2);
@@ -305,7 +306,7 @@ impl<'a, T: Packed> UnalignedSlice<'a, T> {
         }
     }
 
-    /// Takes the first item away, if there is one.
+    /// Removes and returns the first item, if there is one.
     fn take_first(&mut self) -> Option<T>
         ensures { YieldsFirstBy T.number items_of self.old result self.new }
     {
@@ -318,8 +319,8 @@ impl<'a, T: Packed> UnalignedSlice<'a, T> {
         Some(T::read_le(first))
     }
 
-    /// Returns the items in order, each once, and then `None` for ever. The iterator borrows the
-    /// bytes, so it may outlive this view.
+    /// Returns an iterator that gives each item once, in order, and then always `None`. The
+    /// iterator borrows the bytes, so it may outlive this view.
     ///
     /// ```rust
     /// let items: UnalignedSlice<u16> = UnalignedSlice::new(&[1, 0, 2, 0, 3, 0], 3);
@@ -334,9 +335,9 @@ impl<'a, T: Packed> UnalignedSlice<'a, T> {
         UnalignedSliceIter { rest: *self }
     }
 
-    /// Writes the items into `dest`, one after the other: for a few items, where a call of `memmove`
-    /// gains nothing. Apart from a caller that has a block of its own, since the compiler would make a call
-    /// of `memcpy` there, which the exports to C can't have.
+    /// Writes the items into `dest` in order, for few items, for which a call of `memmove` gains
+    /// nothing. A separate function, because in a caller with a block of its own the compiler would
+    /// make a call of `memcpy`, which the exports to C can't have.
     #[inline(never)]
     fn copy_each_to(&self, dest: &mut [T])
         requires { length dest.old ≡ length (items_of self.now) }
@@ -345,7 +346,7 @@ impl<'a, T: Packed> UnalignedSlice<'a, T> {
         read_items(self.bytes, dest);
     }
 
-    /// Writes the items to `dest`, which has to have as many places as there are items.
+    /// Writes the items to `dest`, which must have as many places as there are items.
     ///
     /// ```rust
     /// let items: UnalignedSlice<u16> = UnalignedSlice::new(&[0x34, 0x12, 0x78, 0x56], 2);
@@ -364,8 +365,8 @@ impl<'a, T: Packed> UnalignedSlice<'a, T> {
         }
     }
 
-    /// Returns the items as a vector, or `AllocError`. Allocates once, exactly the size of the
-    /// items, or not at all if there are no items.
+    /// Returns the items as a vector. Allocates once, exactly the size of the items, or not at all
+    /// if there are no items. Returns `AllocError` if memory runs out.
     ///
     /// ```rust
     /// let items: UnalignedSlice<u16> = UnalignedSlice::new(&[0x34, 0x12, 0x78, 0x56], 2);
@@ -389,7 +390,7 @@ impl<'a, T: Packed> UnalignedSlice<'a, T> {
     }
 }
 
-/// The items in order, each once, and then `None` for ever.
+/// Iterates over the items in order, each once, and then always gives `None`.
 impl<'a, T: Packed> IntoIterator for UnalignedSlice<'a, T> {
     type Item = T;
 
@@ -404,7 +405,7 @@ impl<'a, T: Packed> IntoIterator for UnalignedSlice<'a, T> {
     }
 }
 
-/// The clone shows the same items. It does not allocate, and is never refused.
+/// The clone is a view of the same items. Cloning does not allocate and never fails.
 impl<'a, T: Packed> Clone for UnalignedSlice<'a, T> {
     ghost is_clone = { λ slice clone. clone ≡ slice };
 
@@ -422,7 +423,7 @@ impl<'a, T: Packed + fmt::Debug> fmt::Debug for UnalignedSlice<'a, T> {
     }
 }
 
-/// Gives the items from the front, and then `None` for ever.
+/// Gives the items from the front, and then always `None`.
 impl<'a, T: Packed> Iterator for UnalignedSliceIter<'a, T> {
     type Item = T;
 
@@ -436,7 +437,7 @@ impl<'a, T: Packed> Iterator for UnalignedSliceIter<'a, T> {
         self.rest.take_first()
     }
 
-    /// Exactly as many as are left.
+    /// Returns the exact number of items that are left.
     fn size_hint(&self) -> (usize, Option<usize>)
         ensures lower { IsWithinCount result.0 (item_count items_left self.now) }
         ensures upper { IfSome result.1 (UpTo (item_count items_left self.now)) }
@@ -456,7 +457,7 @@ impl<'a, T: Packed + fmt::Debug> fmt::Debug for UnalignedSliceIter<'a, T> {
     }
 }
 
-/// Gives the items from the front, and then `None` for ever.
+/// Gives the items from the front, and then always `None`.
 impl<'a, T: Packed> Iterator for UnalignedSliceIntoIter<'a, T> {
     type Item = T;
 
@@ -470,7 +471,7 @@ impl<'a, T: Packed> Iterator for UnalignedSliceIntoIter<'a, T> {
         self.items.next()
     }
 
-    /// Exactly as many as are left.
+    /// Returns the exact number of items that are left.
     fn size_hint(&self) -> (usize, Option<usize>)
         ensures lower { IsWithinCount result.0 (item_count into_iter_items_left self.now) }
         ensures upper { IfSome result.1 (UpTo (item_count into_iter_items_left self.now)) }
@@ -490,7 +491,8 @@ impl<'a, T: Packed + fmt::Debug> fmt::Debug for UnalignedSliceIntoIter<'a, T> {
     }
 }
 
-/// Why units do not become a string in a buffer that has room for them, by why they are none.
+/// Returns why units do not become a string in a buffer that has room for them, given why they are
+/// not a string.
 fn refusal_in_buffer(error: FromSliceWithNulError) -> UnalignedCStr16Error
     ensures { result ≡ refusal_in_buffer error }
 {
@@ -528,8 +530,9 @@ impl<'a> UnalignedSlice<'a, u16> {
         }
     }
 
-    /// The place of the first item in a class among those from the place `start` on, up to and without
-    /// the place `end`, counted from `start`. They are copied to a block, where they lie as units do.
+    /// Returns the index of the first item in a class among the items from index `start` up to, but
+    /// not including, index `end`, counted from `start`. The items are copied to a block, where
+    /// they are aligned.
     fn find_first_in_block<C: Class<u16>>(&self, start: usize, end: usize) -> Option<usize>
         requires range { (start ≤ end) × (end ≤ length (items_of self.now)) }
         requires block { end ≤ start + 64 }
@@ -542,7 +545,7 @@ impl<'a> UnalignedSlice<'a, u16> {
         find_first::<u16, C>(units)
     }
 
-    /// The place of the first item in a class.
+    /// Returns the index of the first item in a class.
     fn find_first<C: Class<u16>>(&self) -> Option<usize>
         ensures place { result ≡ position C.holds (items_of self.now) }
         ensures units { IfSome result (λ place.
@@ -560,8 +563,9 @@ impl<'a> UnalignedSlice<'a, u16> {
         None
     }
 
-    /// Returns the units that bytes begin with, up to and with their first NUL, and the bytes after
-    /// it; or `None` exactly if no NUL is among the units. Units before the NUL may be surrogates.
+    /// Returns the units at the start of the bytes up to and including their first NUL, and the
+    /// bytes after it; or `None` exactly if there is no NUL among the units. Units before the NUL
+    /// may be surrogates.
     ///
     /// ```rust
     /// let field = [0x48, 0, 0x69, 0, 0, 0, 7, 8];
@@ -585,7 +589,7 @@ impl<'a> UnalignedSlice<'a, u16> {
         Some((UnalignedSlice::from_unit_bytes(string).unwrap(), rest))
     }
 
-    /// Why the items are not a string, if they are none.
+    /// Checks that the items are a string, and returns why if they are not.
     pub(crate) fn check_with_nul(&self) -> Result<(), FromSliceWithNulError>
         ensures refusal { result_err result ≡ with_nul_refusal (items_of self.now) }
         ensures accepted { OnOk result (IsString (items_of self.now)) }
@@ -596,8 +600,9 @@ impl<'a> UnalignedSlice<'a, u16> {
         check_deciding_unit(self.item(place), place, self.len())
     }
 
-    /// Copies the items into an owned string. Fails as [`CStr16::from_u16_with_nul`] does;
-    /// `OutOfMemory` comes last. All items are tested before the call allocates, once.
+    /// Copies the items into an owned string. Fails as [`CStr16::from_u16_with_nul`] does for the
+    /// same units, and otherwise with `OutOfMemory` if memory runs out. Allocates once, after all
+    /// items are tested.
     ///
     /// ```rust
     /// let units: UnalignedSlice<u16> = UnalignedSlice::new(&[0x48, 0, 0x69, 0, 0, 0], 3);
@@ -628,7 +633,7 @@ impl<'a> UnalignedSlice<'a, u16> {
         }
     }
 
-    /// Writes the items into the prefix of a buffer. What stands after them stays.
+    /// Writes the items to the start of a buffer. The rest of the buffer is unchanged.
     fn copy_to_prefix(&self, buffer: &mut [u16])
         requires { length (items_of self.now) ≤ length buffer.old }
         ensures { buffer.new ≡ items_of self.now ++ drop (length (items_of self.now)) buffer.old }
@@ -639,9 +644,9 @@ impl<'a> UnalignedSlice<'a, u16> {
 
     /// Copies the items to the start of a buffer, and checks that they are a string.
     ///
-    /// A buffer of fewer places than items is refused as `BufferTooSmall` and is unchanged.
-    /// Otherwise the buffer begins with the items, the rest is unchanged, and the first NUL or
-    /// surrogate decides, as in [`CStr16::from_u16_with_nul`].
+    /// If the buffer has fewer places than there are items, the result is `BufferTooSmall`, and the
+    /// buffer is unchanged. Otherwise the buffer begins with the items, the rest is unchanged, and
+    /// the first NUL or surrogate decides, as in [`CStr16::from_u16_with_nul`].
     ///
     /// ```rust
     /// let units: UnalignedSlice<u16> = UnalignedSlice::new(&[0x48, 0, 0, 0], 2);
@@ -670,7 +675,7 @@ impl<'a> UnalignedSlice<'a, u16> {
     }
 
     /// Copies the items to the start of a buffer, and borrows them from there as a string.
-    /// [`UnalignedSlice::write_cstr16`] says when they are refused and what the buffer then holds.
+    /// [`UnalignedSlice::write_cstr16`] says when it fails and what the buffer then contains.
     ///
     /// ```rust
     /// let units: UnalignedSlice<u16> = UnalignedSlice::new(&[0x48, 0, 0x69, 0, 0, 0], 3);
@@ -689,7 +694,7 @@ impl<'a> UnalignedSlice<'a, u16> {
     }
 }
 
-/// Whether bytes are even in number and end in a NUL of two.
+/// Returns whether bytes have an even length and end in a NUL of two bytes.
 fn ends_in_nul(bytes: &[u8]) -> bool
     ensures { result ≡ ends_in_nul bytes.now }
 {
@@ -699,13 +704,13 @@ fn ends_in_nul(bytes: &[u8]) -> bool
 impl<'a> CStr16<'a> {
     ghost use Rattle.uefi_text.specs.Views.{items_of, text_of};
 
-    /// Decodes bytes at any address, two for each code unit and the low byte first, into an owned
-    /// string.
+    /// Decodes bytes at any address into an owned string, two bytes for each code unit, the low
+    /// byte first.
     ///
-    /// An odd number of bytes, or do not end in two zeros, are refused as `NotNulTerminated`,
-    /// whatever units stand before. Otherwise the units decide as in [`CStr16::from_u16_with_nul`],
-    /// and `OutOfMemory` comes last. `NotAligned` is never returned. All bytes are tested before
-    /// the call allocates, once.
+    /// Bytes that have an odd length, or do not end in two zeros, are refused as
+    /// `NotNulTerminated`, whatever the units before the end are. Otherwise the units decide as in
+    /// [`CStr16::from_u16_with_nul`]. If the bytes are a string and memory runs out, the result is
+    /// `OutOfMemory`. `NotAligned` is never returned. Allocates once, after all bytes are tested.
     ///
     /// ```rust
     /// let name = CStr16::from_bytes_with_nul(rt.alloc(), &[0x48, 0, 0x69, 0, 0, 0])?;
@@ -731,7 +736,7 @@ impl<'a> CStr16<'a> {
         UnalignedSlice::new(bytes, bytes.len() / 2).to_cstring16(alloc)
     }
 
-    /// [`UnalignedSlice::to_cstr16`] of the slice. Does not allocate.
+    /// Does what [`UnalignedSlice::to_cstr16`] of the slice does. Does not allocate.
     ///
     /// ```rust
     /// let units: UnalignedSlice<u16> = UnalignedSlice::new(&[0x48, 0, 0x69, 0, 0, 0], 3);
@@ -755,7 +760,7 @@ impl<'a> CStr16<'a> {
 impl<A: Allocator> CString16<A> {
     ghost use Rattle.uefi_text.specs.Views.{items_of};
 
-    /// [`UnalignedSlice::to_cstring16`] of the slice, with one allocation.
+    /// Does what [`UnalignedSlice::to_cstring16`] of the slice does. Allocates once.
     ///
     /// ```rust
     /// let units: UnalignedSlice<u16> = UnalignedSlice::new(&[0x48, 0, 0x69, 0, 0, 0], 3);

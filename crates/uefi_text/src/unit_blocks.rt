@@ -1,4 +1,4 @@
-//! Units that are copied: a block over others, and a text into memory, with its NUL.
+//! Copies of units: a block over other units, and a text into memory, with its NUL.
 ghost use Rattle.std.specs.Prelude.{◌≡◌, ◌+◌, ◌≤◌, ◌++◌, IfOk, drop, length, take};
 ghost use Rattle.uefi_text.specs.Units.{nul_terminated};
 

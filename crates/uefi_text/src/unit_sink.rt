@@ -1,4 +1,4 @@
-//! Texts that are written into a caller's buffer as UTF-16.
+//! Texts that are written to a caller's buffer as UTF-16.
 #![tactic(auto, using(crate::proofs::Puts::puts))]
 
 ghost use Rattle.std.specs.Prelude.{◌≡◌, ℕ, ◌∷◌, ◌++◌, ◌+◌, ◌≤◌, [], List, length, map, take, Some};
@@ -14,12 +14,12 @@ use crate::text_sink::{Printed, TextSink, print};
 use std::error::Error;
 use std::fmt;
 
-/// The buffer has fewer places than the call needs, which are this many, or `usize::MAX` if they are more. It
-/// is unchanged.
+/// The buffer has fewer places than the call needs. The number is how many it needs, or
+/// `usize::MAX` if it needs more. The buffer is unchanged.
 #[derive(Clone, Copy, Debug, PartialEq, Eq)]
 pub struct BufferTooSmall(pub usize);
 
-/// Puts how many units are needed.
+/// Puts the number of units that are needed.
 impl Printed for BufferTooSmall {
     ghost printed = { buffer_too_small_text };
 
@@ -40,11 +40,11 @@ impl fmt::Display for BufferTooSmall {
 
 impl Error for BufferTooSmall {}
 
-/// Adds a unit to those that a buffer was given, of which `len` were counted: writes it if the buffer has a
-/// place for it, and returns how many there are now, or `usize::MAX` if they are more.
+/// Adds a unit to a buffer that was given `len` units before. Writes the unit if the buffer has a
+/// place for it, and returns the number of units now, or `usize::MAX` if there are more.
 ///
-/// Texts and paths that are made in a caller's buffer go through this call or [`sink_replaced`], once to
-/// count their units, and once to write them. Hidden: nothing promises that it stays.
+/// Texts and paths that are made in a caller's buffer go through this call or [`sink_replaced`],
+/// once to count their units, and once to write them. Hidden, because this call may change.
 #[doc(hidden)]
 #[inline(always)]
 pub fn sink_unit(buffer: &mut [u16], len: usize, unit: u16) -> usize
@@ -58,7 +58,7 @@ pub fn sink_unit(buffer: &mut [u16], len: usize, unit: u16) -> usize
     len.saturating_add(1)
 }
 
-/// Copies the first of some units into places, `replace` in each place of `search`.
+/// Copies the first of some units to `places`, with `replace` for each `search`.
 fn copy_replaced(places: &mut [u16], units: &[u16], search: u16, replace: u16)
     requires { length places.now ≤ length units.now }
     ensures { places.new ≡ map (replaced search replace) (take (length places.old) units.now) }
@@ -68,7 +68,7 @@ fn copy_replaced(places: &mut [u16], units: &[u16], search: u16, replace: u16)
     }
 }
 
-/// Adds units as [`sink_unit`] adds each, `replace` in each place of `search`.
+/// Adds units as [`sink_unit`] adds each, with `replace` for each `search`.
 #[doc(hidden)]
 pub fn sink_replaced(
     buffer: &mut [u16],
@@ -94,7 +94,7 @@ struct UnitSink<'b> {
 }
 
 impl<'b> UnitSink<'b> {
-    /// The buffer before any unit.
+    /// Returns a sink for the buffer, before any unit.
     fn of(buffer: &'b mut [u16]) -> Self
         ensures same_reference { result.buffer.ghost_name ≡ buffer.entry.ghost_name }
         ensures none { AreSunk [] buffer.old result.buffer.now result.len }
@@ -102,7 +102,7 @@ impl<'b> UnitSink<'b> {
         UnitSink { buffer, len: 0 }
     }
 
-    /// Adds a unit, where the buffer has a place for it.
+    /// Adds a unit, and writes it if the buffer has a place for it.
     fn add_unit(&mut self, unit: u16)
         ensures same_reference { self.new.buffer.ghost_name ≡ self.old.buffer.ghost_name }
         ensures sunk { (units old : List ℕ) → AreSunk units old self.old.buffer.now self.old.len →
@@ -153,8 +153,7 @@ fn put_text<P: Printed>(sink: &mut UnitSink<'_>, value: &P)
     value.put(sink);
 }
 
-/// Writes the units of the text of a value to a buffer, as many as it has places for, and counts all of
-/// them.
+/// Writes the units of the text of a value to a buffer, as many as fit, and counts all of them.
 fn fill_units<P: Printed>(buffer: &mut [u16], value: &P) -> usize
     ensures { AreSunk (utf16_units (P.printed value.now)) buffer.old buffer.new result }
 {

@@ -1,20 +1,20 @@
-//! What a line asks for. A verb with a text is what stands before the first space, and the text is
-//! all that follows that space; a verb without a text is the whole line.
+//! The commands that lines give. A verb with a text is the part of the line before the first space,
+//! and the text is everything after that space; a verb without a text is the whole line.
 ghost use Rattle.std.specs.Prelude.{◌≡◌};
 ghost use Rattle.upath.specs.Commands.{command_of, command_shown, verb_alone, verb_with};
 
-/// What a line asks for.
+/// The command of a line.
 pub(crate) enum Command<'a> {
-    /// `from T`: the path becomes that of T.
+    /// `from T`: the path becomes the path of T.
     From(&'a str),
 
     /// `push T`: the path of T is pushed.
     Push(&'a str),
 
-    /// `join T`: the path becomes what it joined with that of T is.
+    /// `join T`: the path becomes the result of joining it with the path of T.
     Join(&'a str),
 
-    /// `clear`: the path becomes the empty one.
+    /// `clear`: the path becomes empty.
     Clear,
 
     /// `parent`: the path becomes its parent, if it has one.
@@ -26,22 +26,22 @@ pub(crate) enum Command<'a> {
     /// `up`: the successive parents are printed.
     Up,
 
-    /// `eq T`: the path is compared with that of T.
+    /// `eq T`: the path is compared with the path of T.
     Eq(&'a str),
 
-    /// `cmp T`: the path is ordered against that of T.
+    /// `cmp T`: the path is ordered against the path of T.
     Cmp(&'a str),
 
-    /// `check`: the path is judged.
+    /// `check`: the path is checked.
     Check,
 
     /// `norm`: the normal path is printed.
     Norm,
 
-    /// A line that is no command.
+    /// A line that is not a command.
     Unknown,
 
-    /// A line that is no text.
+    /// A line that is not UTF-8.
     NotUtf8,
 }
 

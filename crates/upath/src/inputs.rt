@@ -13,7 +13,7 @@ use std::alloc::{AllocError, Allocator};
 pub(crate) struct PartialRun<A: Allocator + Copy> {
     run: Run<A>,
 
-    /// What is there of the line that has not ended: it holds no line feed.
+    /// The bytes of the line that has not ended: they contain no line feed.
     begun: Vec<u8, A>,
 }
 
@@ -46,7 +46,7 @@ impl<A: Allocator + Copy> PartialRun<A> {
         done
     }
 
-    /// Runs the lines that end in a part, and keeps what follows them. If nothing is printed, no
+    /// Runs the lines that end in a part, and keeps the bytes after them. If nothing is printed, no
     /// line ended.
     pub(crate) fn add(&mut self, part: &[u8]) -> Result<(), AllocError>
         requires { IsUnended self.old.begun.items }
@@ -85,15 +85,23 @@ impl<A: Allocator + Copy> PartialRun<A> {
 
 /// Returns what the lines of an input print, from the empty path on.
 ///
-/// Lines end at a line feed, and no other byte ends or trims one. `from T` makes the path that of
-/// T, its slashes replaced, `push T` and `join T` push that onto it, `clear` empties it, `parent`
-/// makes it its parent, and each prints it; `parent` prints `none` if there is none. These edits
-/// are those of [`crate::run_commands`]. `pieces` prints the number of components and each, `up`
-/// that of the successive parents and each; `eq T` and `cmp T` print how the path compares with
-/// that of T, taken as it stands; `check` prints whether it is accepted, or why not, and `norm` the
-/// normal path, or why there is none. A line that is not UTF-8, one that is no command and a T that
-/// is no text of UCS-2 print a line that says so and leave the path unchanged. The only error is
-/// out of memory, and then nothing of the output is returned.
+/// A line ends at a line feed; no other byte ends or trims a line.
+///
+/// | line | effect |
+/// |---|---|
+/// | `from T` | makes the path that of T, with its slashes replaced, and prints it |
+/// | `push T`, `join T` | push the path of T, and print the path |
+/// | `clear` | makes the path empty, and prints it |
+/// | `parent` | makes the path its parent, and prints it; prints `none` if there is no parent |
+/// | `pieces` | prints the number of components, and each component |
+/// | `up` | prints the number of successive parents, and each parent |
+/// | `eq T`, `cmp T` | print how the path compares with the path of T, whose slashes are kept |
+/// | `check` | prints whether the path is accepted, or why not |
+/// | `norm` | prints the normal path, or why there is none |
+///
+/// The edits are those of [`crate::run_commands`]. For a line that is not UTF-8, a line that is not
+/// a command, and a T that is not a text of UCS-2, the output is a line that says so, and the path
+/// is unchanged. The only error is out of memory; the output is then lost.
 ///
 /// ```rust
 /// let output = run_text(rt.alloc(), b"from /efi\npush boot\nparent\nparent\n")?;

@@ -1,4 +1,4 @@
-//! Bytes from outside, judged to be a path or refused.
+//! Checks that bytes from outside are a path.
 ghost use Rattle.std.specs.Prelude.{◌≡◌, None, IfErr, IfOk, Some};
 ghost use Rattle.uefi_text.specs.UnitBytes.{BytesEncode};
 ghost use Rattle.upath.specs.Judging.{IsPathOf, IsRefusalOf, bytes_fault};
@@ -11,10 +11,10 @@ use uefi_path::{PathBuf, PathError, validate_path};
 use uefi_text::text_sink::{Printed, TextSink, print};
 use uefi_text::{CString16, FromSliceWithNulError, UnalignedSlice};
 
-/// Why bytes are no path.
+/// The reason why bytes are not a path.
 #[derive(Clone, Copy, Debug, PartialEq, Eq)]
 pub enum JudgeError {
-    /// The bytes are odd in number.
+    /// The number of bytes is odd.
     HalfUnit,
 
     /// The code units that the bytes encode are not a string, for this reason, which is never
@@ -28,7 +28,7 @@ pub enum JudgeError {
     OutOfMemory,
 }
 
-/// Puts the reason; of `Text` and `Invalid`, the one within.
+/// Puts the reason; for `Text` and `Invalid`, the inner reason.
 impl Printed for JudgeError {
     ghost printed = { judge_error_text };
 
@@ -53,7 +53,7 @@ impl fmt::Display for JudgeError {
 
 impl Error for JudgeError {}
 
-/// The string that bytes encode, two for each code unit.
+/// Decodes bytes as a string, two for each code unit.
 fn read_string<A: Allocator>(alloc: A, bytes: &[u8]) -> Result<CString16<A>, JudgeError>
     ensures ok { IfOk result (λ string. BytesEncode bytes.now string × (bytes_fault bytes.now ≡ None)) }
     ensures refusal { IfErr result (λ error. IsRefusalOf bytes.now error) }
@@ -68,13 +68,17 @@ fn read_string<A: Allocator>(alloc: A, bytes: &[u8]) -> Result<CString16<A>, Jud
     }
 }
 
-/// Decodes bytes at any address as a string, two for each code unit and the low byte first, and
-/// returns its path, each slash replaced, where [`validate_path`] accepts that.
+/// Decodes bytes at any address as a string, two for each code unit, the low byte first, and
+/// returns its path, with each slash replaced, if [`validate_path`] accepts that path.
 ///
-/// The refusals come in this order. An odd number of bytes is `HalfUnit`. Units that are not a
-/// string are `Text` of what [`uefi_text::CStr16::from_u16_with_nul`] says of them. Refused memory
-/// is `OutOfMemory`. A path that is not accepted is `Invalid` of the reason. The bytes are tested
-/// before the call allocates.
+/// Fails for the first of these reasons. The bytes are tested before the call allocates.
+///
+/// | error | reason |
+/// |---|---|
+/// | `HalfUnit` | the number of bytes is odd |
+/// | `Text` | the units are not a string, with the error of `CStr16::from_u16_with_nul` |
+/// | `OutOfMemory` | memory ran out |
+/// | `Invalid` | the path is not accepted, with the error of [`validate_path`] |
 ///
 /// ```rust
 /// let path = judge(rt.alloc(), b"a\0/\0b\0\0\0")?;

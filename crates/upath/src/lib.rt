@@ -1,20 +1,22 @@
-//! What programs do with the paths of UEFI firmware: they judge bytes, run lists of commands, and read
-//! lines of commands and print what each gives.
+//! Operations of programs on the paths of UEFI firmware: checking bytes, running lists of commands,
+//! and reading lines of commands and printing the result of each.
 //!
-//! [`judge`] takes bytes from outside, and returns the path that they encode or why they encode none.
-//! [`run_commands`] does a list of commands on a path, [`pieces`] lists its components and
-//! [`all_parents`] its successive parents.
+//! [`judge`] returns the path that bytes from outside encode, or why they encode none.
+//! [`run_commands`] runs a list of commands on a path, [`pieces`] lists its components, and
+//! [`all_parents`] lists its successive parents.
 //!
-//! [`run_text`] returns what the lines of an input print, and [`run_streams`] writes the same from a
-//! reader to a writer, both [`Watched`]. The contract of both calls is one definition, `output_of` in
-//! `specs/Output.antt`: what is printed is a function of the whole input, and of nothing else.
+//! [`run_text`] returns what the lines of an input print, and [`run_streams`] writes the same from
+//! a reader to a writer, both [`Watched`]. The contract of both calls is one definition,
+//! `output_of` in `specs/Output.antt`: the output is a function of the whole input, and of nothing
+//! else.
 //!
 //! ```rust
 //! let output = upath::run_text(rt.alloc(), b"from \\foo\\bar\npieces\n")?;
 //! assert_eq!(rt; output.as_slice(), b"= \\foo\\bar\npieces 2\n| foo\n| bar\n".as_slice());
 //! ```
 //!
-//! [`ProgramEnd`] says how a program ends after such a run, and [`laws`] are what users may reason by.
+//! [`ProgramEnd`] says how a program ends after such a run, and [`laws`] has the laws for proofs of
+//! callers.
 #![tactic(auto)]
 
 mod commands;

@@ -1,4 +1,4 @@
-//! Where the lines of an input end.
+//! The ends of the lines of an input.
 ghost use Rattle.std.specs.Prelude.{◌≡◌, ◌<◌, IfSome, length, position};
 ghost use Rattle.upath.specs.Lines.{is_line_feed};
 

@@ -19,7 +19,7 @@ use uefi_text::{CStr16, Char16Slice};
 /// An edit of a path buffer.
 #[derive(Clone, Copy, Debug)]
 pub enum PathCommand<'a> {
-    /// The path becomes that of a string, each slash replaced.
+    /// The path becomes the path of a string, with each slash replaced.
     From(CStr16<'a>),
 
     /// Another path is pushed, as [`PathBuf::push`] does.
@@ -31,18 +31,18 @@ pub enum PathCommand<'a> {
     /// The path becomes empty.
     Clear,
 
-    /// The path becomes its parent, and is unchanged where it has none.
+    /// The path becomes its parent, or is unchanged if it has none.
     Parent,
 }
 
-/// A list of commands was cut short, since a request for memory was refused.
+/// A list of commands was cut short because memory ran out.
 #[derive(Clone, Copy, Debug, PartialEq, Eq)]
 pub struct RunFault {
-    /// How many commands were done.
+    /// The number of commands that were done.
     pub done: usize,
 }
 
-/// Puts `out of memory after N commands`, N in decimal.
+/// Puts `out of memory after N commands`, with N in decimal.
 impl Printed for RunFault {
     ghost printed = { λ fault. run_fault_text fault.done };
 
@@ -94,12 +94,12 @@ pub(crate) fn run_command<A: Allocator + Copy>(
     Ok(())
 }
 
-/// Does commands on a path, one after the other: the path becomes what folding their meaning over
-/// it gives.
+/// Runs commands on a path, one after the other: the path becomes the result of folding their
+/// meaning over it.
 ///
-/// If memory runs out the error says how many commands were done, fewer than all, and the path is
-/// what these made of it. `Clear`, `Push` of an empty path and `Parent` of a path that has none
-/// take no memory. Costs what the commands cost.
+/// If memory runs out, the error says how many commands were done, which is fewer than all, and the
+/// path is the result of these. `Clear`, `Push` of an empty path, and `Parent` of a path without a
+/// parent do not allocate. The cost is the total cost of the commands.
 ///
 /// ```rust
 /// let name = CStr16::from_u16_with_nul(&[0x65, 0x66, 0x69, 0])?;
@@ -127,9 +127,9 @@ pub fn run_commands<A: Allocator + Copy>(
     Ok(())
 }
 
-/// Returns the components of a path as a list, or `AllocError`. They are the only list of pieces
-/// without separators that joins to the path's canonical text, where a list of one empty piece does
-/// not count. Takes memory for the list.
+/// Returns the components of a path as a list. They are the only list of pieces without separators
+/// that joins to the path's canonical text, except that a list of one empty piece does not count.
+/// Allocates for the list. Returns `AllocError` if memory runs out.
 ///
 /// ```rust
 /// let text = CString16::try_from_str(rt.alloc(), r"\efi\boot")?;
@@ -150,9 +150,10 @@ pub fn pieces<'a, A: Allocator>(
     path.components().collect(alloc)
 }
 
-/// Returns the parent of a path, the parent of that, and so on until there is none; or
-/// `AllocError`. Of a valid path these are its shorter prefixes, the longest first. Allocates as
-/// [`PathBuf::parent`] does for each, and for the list; costs what the parents are long.
+/// Returns the parent of a path, the parent of that parent, and so on until there is none. For a
+/// valid path these are its shorter prefixes, the longest first. Allocates as [`PathBuf::parent`]
+/// does for each, and for the list. The cost is proportional to the total length of the parents.
+/// Returns `AllocError` if memory runs out.
 ///
 /// ```rust
 /// let text = CString16::try_from_str(rt.alloc(), r"\a\b\c")?;

@@ -1,4 +1,4 @@
-//! How a program that ends with a run ends itself.
+//! The end of a program after a run.
 ghost use Rattle.std.specs.Prelude.{◌≡◌};
 ghost use Rattle.std.specs.Process.{exit_status};
 ghost use Rattle.std.specs.Result.{result_err};
@@ -7,20 +7,24 @@ ghost use Rattle.upath.specs.ProgramEnds.{message_after, status_after};
 use crate::streams::StreamFault;
 use std::process::ExitCode;
 
-/// How a program ends that ends with a run: its status, and what standard error gets.
+/// The end of a program after a run: its status, and its message on standard error.
 #[derive(Clone, Copy)]
 pub struct ProgramEnd {
-    /// The status that the process ends with.
+    /// The exit status of the process.
     pub status: ExitCode,
 
-    /// What is written to standard error. It may be empty.
+    /// The text that is written to standard error. It may be empty.
     pub message: &'static str,
 }
 
 impl ProgramEnd {
-    /// The end of a program after this result of [`crate::run_streams`]: status 0 and no message
-    /// where all was written; 2 and no message where a read, a write or the flush failed; 3 and the
-    /// line `out of memory` where a request for memory was refused.
+    /// Returns the end of a program after this result of [`crate::run_streams`].
+    ///
+    /// | result | status | message |
+    /// |---|---|---|
+    /// | everything was written | 0 | none |
+    /// | a read, a write or the flush failed | 2 | none |
+    /// | memory ran out | 3 | the line `out of memory` |
     ///
     /// ```rust
     /// assert_eq!(rt; ProgramEnd::after(Ok(())).message, "");

@@ -1,4 +1,4 @@
-//! A run line by line: the path between the lines, and what each one prints.
+//! A run line by line: the path between the lines, and the output of each line.
 ghost use Rattle.std.specs.Prelude.{◌≡◌, ◌-◌, ◌++◌, [], length, Some, None, IfOk, IfSome, OnOk, MatchOption, codes};
 ghost use Rattle.std.specs.List.{flat_map};
 ghost use Rattle.std.specs.Str.{chars};
@@ -29,7 +29,7 @@ pub(crate) struct Run<A: Allocator + Copy> {
     output: Vec<u8, A>,
 }
 
-/// How many components a path has.
+/// Returns the number of components of a path.
 fn count_components<A: Allocator + Copy>(path: &PathBuf<A>) -> usize
     ensures { result ≡ length (components_of path.now) }
 {
@@ -50,7 +50,7 @@ fn add_component_lines<A: Allocator + Copy>(
     Ok(())
 }
 
-/// How many successive parents a path has whose first parent this is.
+/// Returns the number of successive parents of a path whose first parent this is.
 fn count_parents<A: Allocator + Copy>(parent: &Option<PathBuf<A>>) -> usize
     requires { IfSome parent.now (λ parent.
         length (parents_of parent) ≡ length (components_of parent) - 1) }
@@ -62,7 +62,8 @@ fn count_parents<A: Allocator + Copy>(parent: &Option<PathBuf<A>>) -> usize
     }
 }
 
-/// Adds a line for a path, if there is one, for its parent, and so on. Holds two of them at most.
+/// Adds a line for a path, if there is one, for its parent, and so on. Holds at most two of these
+/// paths.
 fn add_parent_lines<A: Allocator + Copy>(
     output: &mut Vec<u8, A>,
     mut next: Option<PathBuf<A>>,
@@ -89,7 +90,8 @@ impl<A: Allocator + Copy> Run<A> {
         })
     }
 
-    /// The string of a command's text. Where the text is refused this prints why, and returns `None`.
+    /// Returns the string of a command's text. If the text is refused, prints why, and returns
+    /// `None`.
     #[inline(always)]
     fn read_text(&mut self, text: &str) -> Result<Option<CString16<A>>, AllocError>
         ensures { IfOk result (λ string. (self.new.path ≡ self.old.path) × MatchOption string
@@ -270,7 +272,8 @@ impl<A: Allocator + Copy> Run<A> {
     {
         match Command::of_line(line) {
             Command::From(text) => self.from(text),
-            // Joined to the path between the lines, a text is pushed: nothing else keeps the path before it.
+            // A text that is joined to the path between the lines is pushed: nothing else needs the
+            // path before it.
             Command::Push(text) | Command::Join(text) => self.push(text),
             Command::Clear => self.edit(PathCommand::Clear),
             Command::Parent => self.parent(),
@@ -285,7 +288,7 @@ impl<A: Allocator + Copy> Run<A> {
         }
     }
 
-    /// What was printed.
+    /// Returns the output.
     pub(crate) fn into_output(self) -> Vec<u8, A>
         ensures { result ≡ self.output }
     {

@@ -14,7 +14,7 @@ use std::fmt;
 use std::io::{Read, Write};
 use uefi_text::text_sink::{Printed, TextSink, print};
 
-/// Why a run from a reader to a writer ended early.
+/// The reason why a run from a reader to a writer ended early.
 #[derive(Clone, Copy, Debug, PartialEq, Eq)]
 pub enum StreamFault {
     /// A read failed. Nothing was written.
@@ -23,7 +23,7 @@ pub enum StreamFault {
     /// A write or the flush failed. A prefix of the output may have been written.
     Write,
 
-    /// A request for memory was refused before a read failed. Nothing was written.
+    /// Memory ran out before a read failed. Nothing was written.
     OutOfMemory,
 }
 
@@ -51,11 +51,11 @@ impl fmt::Display for StreamFault {
 
 impl Error for StreamFault {}
 
-/// How many bytes are asked for at a read.
+/// The number of bytes that each read requests.
 const CHUNK: usize = 65536;
 
-/// What the lines of all that a reader still gives print. They run while they are read, so the input is
-/// not kept.
+/// Returns the output of the lines of everything that a reader still gives. They run while they are
+/// read, so the input is not kept.
 fn run_input<A: Allocator + Copy, R: Read>(
     alloc: A,
     reader: &mut Watched<R>,
@@ -113,13 +113,13 @@ fn write_output<W: Write>(writer: &mut Watched<W>, output: &[u8]) -> Result<(), 
     Ok(())
 }
 
-/// Reads a reader to its end, writes what [`crate::run_text`] returns for all of it, and nothing
-/// else, and flushes. Neither mark may be set before, which [`Watched::has_failed`] tests.
+/// Reads a reader to its end, writes exactly what [`crate::run_text`] returns for the whole input,
+/// and flushes. Neither mark may be set before, which [`Watched::has_failed`] tests.
 ///
-/// [`StreamFault::Read`] comes only where the reader's mark is set then, and [`StreamFault::Write`]
-/// only where the writer's is: what was written is a prefix of the output. After any other result
-/// neither mark is set. Nothing was written where a read failed or memory was refused. No failed
-/// call is made again, not even an interrupted one, and no call comes after it.
+/// Returns [`StreamFault::Read`] only if the reader's mark is then set, and [`StreamFault::Write`]
+/// only if the writer's mark is; the bytes written are then a prefix of the output. After any other
+/// result neither mark is set. If a read failed or memory ran out, nothing was written. No failed
+/// call is repeated, not even an interrupted one, and no call follows it.
 ///
 /// ```rust
 /// let mut reader = Watched::new(b"from \\efi\npush boot\n".as_slice());

@@ -9,7 +9,7 @@ use std::io::{self, ErrorKind, Read, Write};
 /// A wrapper of a reader or a writer that records failed calls. The first failed call sets a mark,
 /// which then stays set.
 ///
-/// Each call returns an `Err` exactly if it sets the mark. None is made again.
+/// Each call returns an `Err` exactly if it sets the mark. No call is repeated.
 ///
 /// ```rust
 /// let mut reader = Watched::new(b"abc".as_slice());
@@ -36,14 +36,14 @@ impl<T> Watched<T> {
         }
     }
 
-    /// Returns whether a call failed: the mark.
+    /// Returns whether a call failed: whether the mark is set.
     pub fn has_failed(&self) -> bool
         ensures { result ≡ is_marked self.now }
     {
         self.failed
     }
 
-    /// Gives back the stream. The mark is lost.
+    /// Returns the stream. The mark is lost.
     pub fn into_inner(self) -> T
         ensures { result ≡ stream_of self }
     {
@@ -53,7 +53,8 @@ impl<T> Watched<T> {
 }
 
 impl<R: Read> Watched<R> {
-    /// One read of the reader. Where it fails, an interrupted one too, the mark is set.
+    /// Reads once from the reader. Sets the mark if the read fails, even if it was only
+    /// interrupted.
     pub fn read(&mut self, buf: &mut [u8]) -> io::Result<usize>
         ensures bound { ReadsAtMost result buf.new }
         ensures bytes { ReadConsumes
@@ -68,8 +69,9 @@ impl<R: Read> Watched<R> {
 }
 
 impl<W: Write> Watched<W> {
-    /// One write of the writer. Where it fails, an interrupted one too, the mark is set. A write of
-    /// at least one byte that takes none has failed, with [`ErrorKind::WriteZero`].
+    /// Writes once to the writer. Sets the mark if the write fails, even if it was only
+    /// interrupted. A write of at least one byte that takes none has failed, with
+    /// [`ErrorKind::WriteZero`].
     ///
     /// ```rust
     /// let mut bytes = [0; 2];
@@ -93,7 +95,7 @@ impl<W: Write> Watched<W> {
         outcome
     }
 
-    /// One flush of the writer. Where it fails the mark is set.
+    /// Flushes the writer once. Sets the mark if the flush fails.
     ///
     /// ```rust
     /// let mut writer = Watched::new(Vec::<u8>::new(rt.alloc()));
@@ -110,7 +112,7 @@ impl<W: Write> Watched<W> {
     }
 }
 
-/// As [`Watched::read`].
+/// Does what [`Watched::read`] does.
 impl<R: Read> Read for Watched<R> {
     ghost remaining = { λ watched. R.remaining (stream_of watched) };
 
@@ -119,7 +121,7 @@ impl<R: Read> Read for Watched<R> {
     }
 }
 
-/// As [`Watched::write`] and [`Watched::flush`].
+/// Does what [`Watched::write`] and [`Watched::flush`] do.
 impl<W: Write> Write for Watched<W> {
     ghost contents = { λ watched. W.contents (stream_of watched) };
 

@@ -18,7 +18,7 @@ use core::str::FromStr;
 #[repr(transparent)]
 pub struct Guid([u8; 16]);
 
-/// Where the digits of each byte stand in the text.
+/// The index in the text of the digits of each byte.
 const DIGITS: [usize; 16] = [6, 4, 2, 0, 11, 9, 16, 14, 19, 21, 24, 26, 28, 30, 32, 34];
 
 impl Guid {

@@ -429,7 +429,7 @@ impl CStr16 {
         self.num_chars() == 0
     }
 
-    /// Returns the number of bytes, with those of the NUL.
+    /// Returns the number of bytes, including the NUL.
     #[must_use]
     pub const fn num_bytes(&self) -> usize {
         self.0.len() * 2

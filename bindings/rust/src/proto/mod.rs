@@ -1,3 +1,3 @@
-//! What firmware offers.
+//! The protocols of firmware.
 
 pub mod device_path;

@@ -9,7 +9,7 @@ use core::ops::Deref;
 /// Iterates over the components of a path, as slices of characters.
 #[derive(Clone, Debug)]
 pub struct Components<'a> {
-    /// What is left: no component, or one and more after each separator.
+    /// The text that is left: no component, or one, and one more after each separator.
     rest: Option<&'a [Char16]>,
 }
 

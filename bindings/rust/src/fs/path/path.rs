@@ -96,7 +96,7 @@ impl Path {
     #[must_use]
     pub fn file_name(&self) -> Option<&CStr16> {
         let mut start = 0;
-        // What follows the last separator ends in the NUL of the whole.
+        // The units after the last separator end in the NUL of the whole string.
         sys::nard_path_file_name(self.0.to_u16_slice(), &mut start)
             .then(|| CStr16::of(&self.units()[start..]))
     }
@@ -219,7 +219,7 @@ fn written(reason: u32, length: usize, buffer: &[u16]) -> Result<&Path, Error> {
     Ok(Path::new(CStr16::of(&buffer[..=length])))
 }
 
-/// What needs memory.
+/// Calls that allocate.
 #[cfg(feature = "alloc")]
 impl Path {
     /// Copies the path, replacing each `/` with `\`.
@@ -274,7 +274,7 @@ impl Path {
     /// # Ok::<(), nardcorbel::Error>(())
     /// ```
     pub fn normalize(&self) -> Result<PathBuf, Error> {
-        // A lone separator stands for nothing.
+        // A lone separator has no components.
         let mut units = alloc::vec![0; self.units().len().max(2)];
         let length = self.normalize_in_buf(&mut units)?.0.num_chars();
         units.truncate(length + 1);

@@ -80,9 +80,9 @@ impl PathBuf {
     }
 }
 
-/// What can be joined with a path: another path, or a text.
+/// A value that can be joined with a path: another path, or a text.
 pub trait PathArgument {
-    /// What a call returns that would return `T` for a path.
+    /// The result of a call that would return `T` for a path.
     type Result<T>;
 
     /// Calls a function with the path.

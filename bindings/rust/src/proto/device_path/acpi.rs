@@ -20,7 +20,7 @@ views! {
         uid: u32 = EXPANDED_UID;
         /// The number of its compatible ID, `_CID`.
         cid: u32 = EXPANDED_CID;
-        /// The three strings of its IDs, each up to a NUL: those of `_HID`, `_UID` and `_CID`.
+        /// The strings of its three IDs `_HID`, `_UID` and `_CID`, each ended by a NUL.
         id_strings: &'a [u8] = EXPANDED_ID_STRINGS;
     }
 

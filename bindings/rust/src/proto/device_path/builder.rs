@@ -132,7 +132,7 @@ where
 }
 
 impl<'a> DevicePathBuilder<'a> {
-    /// Starts a path without nodes in a buffer, of which it needs 4 bytes for the end.
+    /// Starts a path without nodes in a buffer. It needs 4 bytes for the end node.
     pub fn with_buf<B: Buffer + ?Sized>(buffer: &'a mut B) -> Self {
         let (buffer, mut length) = (buffer.initialized(), 0);
         if sys::nard_device_path_begin(buffer, &mut length) != sys::OK {
@@ -196,7 +196,7 @@ impl<'a> DevicePathBuilder<'a> {
         Ok(self)
     }
 
-    /// Calls the library with a buffer, and again with a larger one if it is one that grows.
+    /// Calls the library with a buffer, and again with a larger one if the buffer can grow.
     fn add(mut self, call: &mut dyn FnMut(&mut [u8], &mut usize) -> u32) -> Result<Self, Error> {
         let mut length = 0;
         let mut reason = call(self.room(0)?, &mut length);
@@ -236,8 +236,8 @@ impl<'a> DevicePathBuilder<'a> {
     /// numbers in decimal or after `0x`, numbers left out at the end of a call, and a file's name in `File(..)` or without its
     /// first backslash. A comma ends an instance.
     ///
-    /// `scratch` takes copies and then holds anything. Fails with [`Reason::ScratchTooSmall`] if it is not longer than the text,
-    /// and with [`Reason::NoNode`] at the wrong byte of the first node that can't be read.
+    /// `scratch` is for copies; its contents are then unspecified. Fails with [`Reason::ScratchTooSmall`] if it is not longer than
+    /// the text, and with [`Reason::NoNode`] at the wrong byte of the first node that can't be read.
     ///
     /// ```
     /// use nardcorbel::proto::device_path::build::DevicePathBuilder;
@@ -254,7 +254,7 @@ impl<'a> DevicePathBuilder<'a> {
         })
     }
 
-    /// Adds the nodes of a text that libefivar prints, and efibootmgr with it. libefivar prints the identifier of an NVMe node from
+    /// Adds the nodes of a text that libefivar and efibootmgr print. libefivar prints the identifier of an NVMe node from
     /// its first byte on, and `Ata` with three numbers; `Fibre(..)`, `SAS(..)`, `UsbClass(..)` and a `PciRoot(..)` without `0x` are
     /// refused. Other nodes are read, and the call fails, as by [`push_lenient_text`](Self::push_lenient_text).
     ///
@@ -274,7 +274,7 @@ impl<'a> DevicePathBuilder<'a> {
         })
     }
 
-    /// Returns how many bytes of a text are the path that it begins with, as [`push_lenient_text`](Self::push_lenient_text) reads
+    /// Returns the number of bytes at the start of a text that are a path, as [`push_lenient_text`](Self::push_lenient_text) reads
     /// it, if something else may follow: efibootmgr prints optional data directly after a path.
     ///
     /// ```
@@ -292,7 +292,8 @@ impl<'a> DevicePathBuilder<'a> {
         Ok(length)
     }
 
-    /// Returns the same of a text that libefivar prints, as [`push_libefivar_text`](Self::push_libefivar_text) reads it.
+    /// Returns the number of bytes at the start of a text that are a path, as [`push_libefivar_text`](Self::push_libefivar_text)
+    /// reads it.
     pub fn libefivar_text_extent(text: &str, scratch: &mut [u8]) -> Result<usize, Error> {
         let mut length = 0;
         let reason = sys::nard_libefivar_text_extent(text.as_bytes(), scratch, &mut length);

@@ -38,7 +38,7 @@ views! {
         ending_address: u64 = MEMORY_MAPPED_ENDING_ADDRESS;
     }
 
-    /// A node of a vendor's own, named by a GUID.
+    /// A vendor's own node, named by a GUID.
     Vendor['a]: HARDWARE_VENDOR, 16 {
         /// The GUID that names the vendor.
         vendor_guid: Guid = HARDWARE_VENDOR_VENDOR_GUID;

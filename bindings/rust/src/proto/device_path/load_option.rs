@@ -38,7 +38,7 @@ impl<'a> LoadOption<'a> {
     /// Returns the attributes.
     #[must_use]
     pub fn attributes(&self) -> u32 {
-        // The library says that these are 32 bits.
+        // The library promises that these are 32 bits.
         self.parts.attributes as u32
     }
 
@@ -139,11 +139,11 @@ pub mod build {
     pub struct LoadOption<'a> {
         /// The attributes; the first bit says that firmware tries the option by itself.
         pub attributes: u32,
-        /// What the firmware's menu shows.
+        /// The text that the firmware's menu shows.
         pub description: &'a CStr16,
-        /// What is loaded.
+        /// The device path of the image to load.
         pub device_path: &'a DevicePath,
-        /// What is passed to it.
+        /// The data that is passed to the image.
         pub optional_data: &'a [u8],
     }
 
@@ -175,7 +175,7 @@ pub mod build {
         /// Returns the bytes of the load option. Fails if the device path has more than 65,535.
         #[cfg(feature = "alloc")]
         pub fn to_vec(&self) -> Result<alloc::vec::Vec<u8>, Error> {
-            // Six bytes stand before the description.
+            // There are six bytes before the description.
             let parts = [
                 self.description.num_bytes(),
                 self.device_path.as_bytes().len(),

@@ -30,7 +30,7 @@ views! {
         partition_number: u32 = HARD_DRIVE_PARTITION_NUMBER;
         /// The first block of the partition.
         partition_start: u64 = HARD_DRIVE_PARTITION_START;
-        /// How many blocks it has.
+        /// The number of its blocks.
         partition_size: u64 = HARD_DRIVE_PARTITION_SIZE;
         /// Its signature, by which firmware finds it.
         partition_signature: PartitionSignature = HARD_DRIVE_PARTITION_SIGNATURE;
@@ -44,7 +44,7 @@ views! {
         boot_entry: u32 = CD_ROM_BOOT_ENTRY;
         /// The first block.
         partition_start: u64 = CD_ROM_PARTITION_START;
-        /// How many blocks it has.
+        /// The number of its blocks.
         partition_size: u64 = CD_ROM_PARTITION_SIZE;
     }
 
@@ -76,9 +76,9 @@ views! {
 
     /// A range of bytes of the medium before it.
     RelativeOffsetRange[]: RELATIVE_OFFSET_RANGE, 20 {
-        /// Where its first byte lies.
+        /// The offset of its first byte.
         starting_offset: u64 = RELATIVE_OFFSET_RANGE_STARTING_OFFSET;
-        /// Where its last byte lies.
+        /// The offset of its last byte.
         ending_offset: u64 = RELATIVE_OFFSET_RANGE_ENDING_OFFSET;
     }
 
@@ -149,7 +149,7 @@ impl Put for PartitionSignature {
     fn bytes(&self, write: &mut dyn FnMut(&[u8])) {
         let (signature_type, signature) = self.parts();
         write(&signature);
-        // Between the signature and its type lies the format, the next field.
+        // The format, which is the next field, is between the signature and its type.
         write(&[0, signature_type]);
     }
 }
@@ -162,7 +162,7 @@ view! {
 /// The type and the sub-type of a file's name.
 const FILE_PATH: (u8, u8) = (4, 4);
 
-/// What [`build::media`](super::build::media) has beside the structs of the table.
+/// The items of [`build::media`](super::build::media) besides the structs of the table.
 pub(super) mod file {
     use super::{BuildNode, CStr16, DeviceSubType, DeviceType, FILE_PATH};
 

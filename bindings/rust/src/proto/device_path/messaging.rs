@@ -33,7 +33,7 @@ named! {
 }
 
 named! {
-    /// How many bits end a character of a serial line.
+    /// The number of bits that end a character of a serial line.
     StopBits(u8) {
         DEFAULT = 0;
         ONE = 1;
@@ -50,7 +50,7 @@ named! {
 }
 
 named! {
-    /// Where an IPv4 address comes from.
+    /// The origin of an IPv4 address.
     Ipv4AddressOrigin(u8) {
         DHCP = 0;
         STATIC = 1;
@@ -58,7 +58,7 @@ named! {
 }
 
 named! {
-    /// Where an IPv6 address comes from.
+    /// The origin of an IPv6 address.
     Ipv6AddressOrigin(u8) {
         MANUAL = 0;
         STATELESS_AUTO_CONFIGURATION = 1;
@@ -140,7 +140,7 @@ views! {
 
     /// A device on InfiniBand.
     Infiniband[]: INFINIBAND, 44 {
-        /// What the node names, in bits: 0 an I/O controller or a service, 1 an extension of the boot environment, 2 a
+        /// The target of the node, in bits: 0 an I/O controller or a service, 1 an extension of the boot environment, 2 a
         /// console, 3 storage, 4 a network.
         resource_flags: u32 = INFINIBAND_RESOURCE_FLAGS;
         /// The bytes of the global identifier of the remote fabric port.
@@ -153,7 +153,7 @@ views! {
         device_id: u64 = INFINIBAND_DEVICE_ID;
     }
 
-    /// A node of a vendor's own, named by a GUID.
+    /// A vendor's own node, named by a GUID.
     Vendor['a]: MESSAGING_VENDOR, 16 {
         /// The GUID that names the vendor.
         vendor_guid: Guid = MESSAGING_VENDOR_VENDOR_GUID;
@@ -179,14 +179,14 @@ views! {
         local_port: u16 = IPV4_LOCAL_PORT;
         /// The remote port.
         remote_port: u16 = IPV4_REMOTE_PORT;
-        /// The protocol over IP, as that of UDP or TCP.
+        /// The number of the protocol over IP, for example of UDP or TCP.
         protocol: u16 = IPV4_PROTOCOL;
-        /// Zero where the local address came by DHCP.
+        /// Zero if the local address came by DHCP.
         ip_address_origin: Ipv4AddressOrigin = IPV4_IP_ADDRESS_ORIGIN;
-        /// The address of the gateway, or `None` where the node ends before it: nodes of 19 bytes, from before the
+        /// The address of the gateway, or `None` if the node ends before it: nodes of 19 bytes, from before the
         /// standard had this field, have none.
         gateway_ip_address: Option<[u8; 4]> = IPV4_GATEWAY_IP_ADDRESS;
-        /// The mask of the subnet, or `None` where the node ends before it, as [`Ipv4::gateway_ip_address`] says.
+        /// The mask of the subnet, or `None` if the node ends before it, as [`Ipv4::gateway_ip_address`] says.
         subnet_mask: Option<[u8; 4]> = IPV4_SUBNET_MASK;
     }
 
@@ -200,11 +200,11 @@ views! {
         local_port: u16 = IPV6_LOCAL_PORT;
         /// The remote port.
         remote_port: u16 = IPV6_REMOTE_PORT;
-        /// The protocol over IP, as that of UDP or TCP.
+        /// The number of the protocol over IP, for example of UDP or TCP.
         protocol: u16 = IPV6_PROTOCOL;
         /// How the local address was set: 0 by hand, 1 automatically without state, 2 automatically with state.
         ip_address_origin: Ipv6AddressOrigin = IPV6_IP_ADDRESS_ORIGIN;
-        /// How many bits the prefix has.
+        /// The number of bits of the prefix.
         prefix_length: u8 = IPV6_PREFIX_LENGTH;
         /// The address of the gateway.
         gateway_ip_address: [u8; 16] = IPV6_GATEWAY_IP_ADDRESS;
@@ -214,7 +214,7 @@ views! {
     Uart[]: UART, 15 {
         /// The baud rate; 0 is the default of the device.
         baud_rate: u64 = UART_BAUD_RATE;
-        /// How many data bits; 0 is the default of the device.
+        /// The number of data bits; 0 is the default of the device.
         data_bits: u8 = UART_DATA_BITS;
         /// The parity: 0 default, 1 none, 2 even, 3 odd, 4 mark, 5 space.
         parity: Parity = UART_PARITY;
@@ -259,7 +259,7 @@ views! {
     Sata[]: SATA, 6 {
         /// The number of the port of the host bus adapter.
         hba_port_number: u16 = SATA_HBA_PORT_NUMBER;
-        /// The number of the port of a port multiplier; 0xffff where there is none.
+        /// The number of the port of a port multiplier; 0xffff if there is none.
         port_multiplier_port_number: u16 = SATA_PORT_MULTIPLIER_PORT_NUMBER;
         /// The logical unit number.
         logical_unit_number: u16 = SATA_LOGICAL_UNIT_NUMBER;
@@ -299,7 +299,7 @@ views! {
         sas_address: [u8; 8] = SAS_EX_SAS_ADDRESS;
         /// The bytes of the logical unit number.
         logical_unit_number: [u8; 8] = SAS_EX_LOGICAL_UNIT_NUMBER;
-        /// What is known of the device and of how it is attached.
+        /// Information about the device and its connection.
         info: u16 = SAS_EX_INFO;
         /// The relative target port.
         relative_target_port: u16 = SAS_EX_RELATIVE_TARGET_PORT;
@@ -313,7 +313,7 @@ views! {
         ieee_extended_unique_identifier: u64 = NVME_NAMESPACE_IEEE_EXTENDED_UNIQUE_IDENTIFIER;
     }
 
-    /// What a URI names.
+    /// The URI of a resource.
     Uri['a]: URI, 0 {
         /// The bytes of the URI.
         value: &'a [u8] = URI_VALUE;

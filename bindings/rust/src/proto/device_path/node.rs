@@ -26,7 +26,7 @@ impl DeviceType {
 #[repr(transparent)]
 pub struct DeviceSubType(pub u8);
 
-/// The node is not of the kind that was asked for, or of no kind that this crate knows.
+/// The node is not of the requested kind, or of no kind that this crate knows.
 #[derive(Clone, Copy, Debug, PartialEq, Eq)]
 pub enum NodeConversionError {
     /// It has fewer bytes than its kind needs.
@@ -86,7 +86,7 @@ impl DevicePathNode {
         (self.device_type(), self.sub_type())
     }
 
-    /// Returns how many bytes the node has, with its header.
+    /// Returns the number of bytes of the node, including its header.
     #[must_use]
     pub fn length(&self) -> u16 {
         u16::from_le_bytes([self.0[2], self.0[3]])
@@ -116,8 +116,8 @@ impl DevicePathNode {
         (self.0[0], self.0[1]) == kind
     }
 
-    /// Returns a number of the data, such as `HARD_DRIVE_PARTITION_START` of [`fields`](crate::fields), or `None` if the data end
-    /// before it or the field is no number.
+    /// Returns a number of the data, such as `HARD_DRIVE_PARTITION_START` of [`fields`](crate::fields), or `None` if the data ends
+    /// before it or the field is not a number.
     ///
     /// ```
     /// use nardcorbel::{fields, DevicePathNode};
@@ -132,7 +132,7 @@ impl DevicePathNode {
         (sys::nard_node_number(self.data(), place, width, &mut number) == sys::OK).then_some(number)
     }
 
-    /// Returns the bytes of a field, or `None` if the data end before it.
+    /// Returns the bytes of a field, or `None` if the data ends before it.
     #[must_use]
     pub fn bytes(&self, (place, width): (usize, usize)) -> Option<&[u8]> {
         let rest = self.data().get(place..)?;
@@ -142,7 +142,7 @@ impl DevicePathNode {
         }
     }
 
-    /// Tests what a view asks for.
+    /// Tests the conditions of a view.
     pub(super) fn check_kind(
         &self,
         kind: (u8, u8),
@@ -173,7 +173,7 @@ impl DevicePathNode {
 impl<'a> TryFrom<&'a [u8]> for &'a DevicePathNode {
     type Error = Error;
 
-    /// Reads the node that bytes begin with. Bytes after it are ignored.
+    /// Reads the node at the start of bytes. Bytes after it are ignored.
     fn try_from(bytes: &'a [u8]) -> Result<Self, Error> {
         let (mut offset, mut node) = (0, sys::DeviceNode::default());
         match sys::nard_device_path_next_node(bytes, &mut offset, &mut node) {

@@ -1,11 +1,11 @@
-//! What the views of nodes and their builders are made of.
+//! The parts of which the views of nodes and their builders are made.
 
 use crate::data_types::unaligned_slice::Plain;
 use crate::data_types::{Guid, UnalignedSlice};
 
 /// A part of a node's data, which a view returns.
 pub(crate) trait Field<'a>: Sized {
-    /// How many bytes it has, or each of its items.
+    /// The number of bytes of the part, or of each of its items.
     const WIDTH: usize;
 
     /// Reads it. The data of a view has as many bytes as its kind needs.
@@ -173,7 +173,7 @@ macro_rules! view {
 pub(crate) use view;
 
 /// Defines views of nodes, with a call for each field, and structs of the same fields that build the nodes. The constants of
-/// [`fields`](crate::fields) say where the fields lie.
+/// [`fields`](crate::fields) have the offsets of the fields.
 macro_rules! views {
     ($($(#[$about:meta])* $name:ident[$($life:lifetime)?]: $kind:ident, $least:literal {
         $($(#[$field_about:meta])* $field:ident: $type:ty $(| $built:ty)? = $place:ident;)*
@@ -221,7 +221,7 @@ macro_rules! views {
                     }
 
                     fn parts(&self, write: &mut dyn FnMut(usize, &[u8])) {
-                        // What no field has is zero.
+                        // Bytes that belong to no field are zero.
                         write($least, &[]);
                         $(
                             let mut place = $crate::fields::$place.0;

@@ -10,7 +10,7 @@ use alloc::{borrow::ToOwned, boxed::Box, vec, vec::Vec};
 use core::fmt;
 use core::iter::FusedIterator;
 
-/// A device path: nodes one after the other, and the one that ends it.
+/// A device path: nodes one after the other, and the end node.
 ///
 /// ```
 /// use nardcorbel::DevicePath;
@@ -27,13 +27,13 @@ use core::iter::FusedIterator;
 pub struct DevicePath([u8]);
 
 impl DevicePath {
-    /// The bytes of a whole path.
+    /// Borrows the bytes of a whole path.
     pub(super) fn of(bytes: &[u8]) -> &Self {
         // SAFETY: `DevicePath` is a transparent wrapper.
         unsafe { &*(core::ptr::from_ref(bytes) as *const Self) }
     }
 
-    /// Reads the device path that bytes begin with, and ignores what follows it.
+    /// Reads the device path at the start of bytes, and ignores the bytes after it.
     ///
     /// Fails for the first malformed node. The error's place is the offset of the bytes at fault.
     ///
@@ -53,7 +53,7 @@ impl DevicePath {
     ///
     /// # Safety
     ///
-    /// Nodes stand there, up to the one that ends the path, and are unchanged while the path is used.
+    /// There are nodes at the address, up to the end node, and they are unchanged while the path is used.
     #[must_use]
     pub unsafe fn from_ffi_ptr<'a>(ptr: *const u8) -> &'a Self {
         // SAFETY: the caller's, for each header up to the end node's and for the slice of all.
@@ -71,8 +71,8 @@ impl DevicePath {
 
     /// Reads the device path at an address, if it has at most `limit` bytes.
     ///
-    /// Reads no byte that a well-formed path from there on does not contain. Fails as [`DevicePath::from_bytes`] of the first
-    /// `limit` bytes.
+    /// Reads no byte that a well-formed path at the address would not contain. Fails as [`DevicePath::from_bytes`] does for the
+    /// first `limit` bytes.
     ///
     /// ```
     /// use nardcorbel::{DevicePath, Reason};
@@ -113,13 +113,13 @@ impl DevicePath {
         self.0.as_ptr()
     }
 
-    /// Returns all bytes of the path, with those of its end node.
+    /// Returns all bytes of the path, including its end node.
     #[must_use]
     pub const fn as_bytes(&self) -> &[u8] {
         &self.0
     }
 
-    /// Iterates over the nodes, without the one that ends the path.
+    /// Iterates over the nodes, without the end node.
     #[must_use]
     pub fn node_iter(&self) -> DevicePathNodeIterator<'_> {
         DevicePathNodeIterator {
@@ -144,7 +144,7 @@ impl DevicePath {
 
     /// Writes the names of all nodes that name files to the start of a buffer, as one path, and returns it.
     ///
-    /// Fails if such a name is not a string, or if the buffer is too small.
+    /// Fails if one of these names is not a string, or if the buffer is too small.
     pub fn file_path_in_buf<'b>(&self, buffer: &'b mut [u16]) -> Result<&'b Path, Error> {
         let mut length = 0;
         check(
@@ -170,7 +170,7 @@ impl DevicePath {
         Ok(&buffer[..length])
     }
 
-    /// Formats the path as libefivar does, and efibootmgr with it, into a buffer, and returns its UTF-16 without the NUL.
+    /// Formats the path as libefivar and efibootmgr do, into a buffer, and returns its UTF-16 without the NUL.
     ///
     /// ```
     /// # use nardcorbel::proto::device_path::DevicePath;
@@ -200,10 +200,10 @@ impl DevicePath {
     }
 }
 
-/// What needs memory.
+/// Calls that allocate.
 #[cfg(feature = "alloc")]
 impl DevicePath {
-    /// The path of bytes, which a proved call wrote.
+    /// Returns the path of bytes, which a proved call wrote.
     fn boxed(bytes: Vec<u8>) -> Box<Self> {
         // SAFETY: `DevicePath` is a transparent wrapper.
         unsafe { Box::from_raw(Box::into_raw(bytes.into_boxed_slice()) as *mut Self) }
@@ -215,7 +215,7 @@ impl DevicePath {
         Self::boxed(self.0.to_vec())
     }
 
-    /// Copies the nodes of this path and then those of another one.
+    /// Copies the nodes of this path, followed by those of another.
     ///
     /// ```
     /// use nardcorbel::DevicePath;
@@ -236,7 +236,7 @@ impl DevicePath {
         Ok(Self::boxed(bytes))
     }
 
-    /// Copies the nodes of this path and then another one.
+    /// Copies the nodes of this path, followed by another node.
     pub fn append_node(&self, right: &DevicePathNode) -> Result<Box<Self>, Error> {
         let (mut bytes, mut length) = (self.0.to_vec(), 0);
         bytes.resize(bytes.len() + right.as_bytes().len(), 0);
@@ -249,7 +249,7 @@ impl DevicePath {
         Ok(Self::boxed(bytes))
     }
 
-    /// Copies the names of all nodes that name files, as one path. Fails if such a name is not a string.
+    /// Copies the names of all nodes that name files, as one path. Fails if one of these names is not a string.
     ///
     /// ```
     /// use nardcorbel::DevicePath;
@@ -285,7 +285,7 @@ impl Clone for Box<DevicePath> {
 impl core::str::FromStr for Box<DevicePath> {
     type Err = Error;
 
-    /// Reads the text of a device path, as it is displayed. Fails with the offset where a node has to begin and none does.
+    /// Reads the text of a device path, as it is displayed. Fails with the offset at which a node must begin and none does.
     fn from_str(text: &str) -> Result<Self, Error> {
         let mut bytes = Vec::new();
         let path = super::build::DevicePathBuilder::with_vec(&mut bytes)
@@ -324,13 +324,13 @@ impl fmt::Debug for DevicePath {
     }
 }
 
-/// An instance of a device path: some of its nodes, and the one that ends the instance or the path.
+/// An instance of a device path: some of its nodes, and the node that ends the instance or the path.
 #[derive(PartialEq, Eq, Hash)]
 #[repr(transparent)]
 pub struct DevicePathInstance([u8]);
 
 impl DevicePathInstance {
-    /// Iterates over the nodes, without the one that ends the instance.
+    /// Iterates over the nodes, without the node that ends the instance.
     #[must_use]
     pub fn node_iter(&self) -> DevicePathNodeIterator<'_> {
         DevicePathNodeIterator {
@@ -339,7 +339,7 @@ impl DevicePathInstance {
         }
     }
 
-    /// Returns all bytes, with those of the node that ends the instance.
+    /// Returns all bytes, including the node that ends the instance.
     #[must_use]
     pub const fn as_bytes(&self) -> &[u8] {
         &self.0

@@ -14,7 +14,7 @@ pub struct DisplayOnly(pub bool);
 #[derive(Clone, Copy, Debug, Default, PartialEq, Eq)]
 pub struct AllowShortcuts(pub bool);
 
-/// How many units of a text are kept on the stack.
+/// The number of units of a text that are kept on the stack.
 const ROOM: usize = 256;
 
 /// Writes the text that a call gives, or `Err` with the error of the call, if the text is too long for the stack and there is no
