@@ -206,7 +206,7 @@ fn word<'a>(words: &[Word], text: &'a [u8]) -> Option<(u64, &'a [u8])>
 {
     for word in words {
         if let Some(rest) = after(word.text.as_bytes(), text) {
-            return Some((word.number, rest));
+            return Some((word.number as u64, rest));
         }
     }
     None

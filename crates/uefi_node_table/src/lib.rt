@@ -4,6 +4,8 @@
 
 pub mod laws;
 pub mod layouts;
+pub mod packed;
+pub mod parts;
 pub mod printing;
 pub mod rows;
 pub mod table;
