@@ -18,7 +18,8 @@ use crate::fields::{after, last, put_low, read_value};
 use crate::numerals::{digit_of, digits_after};
 use crate::stops::stop_at;
 use uefi_node_table::rows::{Piece, Shape};
-use uefi_node_table::words::{Word, Words, words_of};
+use uefi_node_table::word_lists::words_of;
+use uefi_node_table::words::{Word, Words};
 
 /// Whether a text begins with `0x`.
 pub(crate) fn begins_base(text: &[u8]) -> bool

@@ -18,7 +18,8 @@ use crate::text_node::TextNode;
 use uefi_field_texts::ids::eisa_bits;
 use uefi_node_table::printing::{form_of, number_of};
 use uefi_node_table::rows::{Items, Mode, Piece, Row, Shape, Tail};
-use uefi_node_table::words::{Word, suits, words_of};
+use uefi_node_table::word_lists::{suits, words_of};
+use uefi_node_table::words::Word;
 
 /// The number that the word for a number is read as.
 fn word_number(words: &[Word], number: u64) -> u64

@@ -13,7 +13,7 @@ ghost use Rattle.uefi_node_table.specs.Table.{forms, has_form, table_text};
 
 use crate::rows::{Item, Mode, Piece, Row, Shape, Tail};
 use crate::table::{GROUPS, group, item_of};
-use crate::words::{word_for, words_of};
+use crate::word_lists::{word_for, words_of};
 use uefi_field_texts::hexadecimal::{put_back, put_bytes, put_comma_bytes, put_dashed_back};
 use uefi_field_texts::ids::{put_eisa_id, put_id_strings};
 use uefi_field_texts::shown_texts::{put_byte_text, put_utf16_text, until_nul};

@@ -27,8 +27,8 @@ pub enum Shape {
     Word(Words),
 }
 
-/// A field in the order of the text. `N` is a number, and `T` a text: no contract can name a constant whose type
-/// has a reference of its own.
+/// A field in the order of the text. `N` is a number, and `T` a text: no contract can name a constant
+/// whose type has a reference of its own.
 #[derive(Clone, Copy)]
 pub struct PieceOf<N, T> {
     /// How it stands in a text.

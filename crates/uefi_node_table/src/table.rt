@@ -1,7 +1,7 @@
 //! The table of kinds of nodes (UEFI Specification 2.10, sections 10.3 and 10.6.1): a row for each form in
 //! which a node is printed. A kind whose text a row can say stands here and nowhere else. `specs/Rows.antt`
-//! says what a row means.
-#![tactic(auto, unfolding(crate::specs::Parts::bytes_of, crate::specs::Parts::pieces_of, crate::specs::Parts::text_of))]
+//! says what a row means. Definitions alone cite these constants: `packed.rt` is what is compiled.
+#![tactic(auto)]
 
 ghost use Rattle.std.specs.Prelude.{◌≡◌, ◌<◌, ◌≤◌, IsTrue, length, map};
 ghost use Rattle.std.specs.List.{list_all};
@@ -606,123 +606,25 @@ pub fn item_of(items: Items) -> Item
 /// How many groups of forms there are.
 pub const GROUPS: usize = 12;
 
-/// The forms of [`HARDWARE`].
-///
-/// Each constant has a function of its own, since one that names them all is too large to check.
-fn hardware() -> &'static [Row]
-    ensures forms { map as_form result.now ≡ map const_form HARDWARE.now }
-    ensures few { length result.now ≤ 1000 }
-{
-    packed::HARDWARE_ROWS
-}
-
-/// The forms of [`ACPI`].
-fn acpi() -> &'static [Row]
-    ensures forms { map as_form result.now ≡ map const_form ACPI.now }
-    ensures few { length result.now ≤ 1000 }
-{
-    packed::ACPI_ROWS
-}
-
-/// The forms of [`SAS`].
-fn sas() -> &'static [Row]
-    ensures forms { map as_form result.now ≡ map const_form SAS.now }
-    ensures few { length result.now ≤ 1000 }
-{
-    packed::SAS_ROWS
-}
-
-/// The forms of [`SAS_IN_BAYS`].
-fn sas_in_bays() -> &'static [Row]
-    ensures forms { map as_form result.now ≡ map const_form SAS_IN_BAYS.now }
-    ensures few { length result.now ≤ 1000 }
-{
-    packed::SAS_IN_BAYS_ROWS
-}
-
-/// The forms of [`SAS_EX`].
-fn sas_ex() -> &'static [Row]
-    ensures forms { map as_form result.now ≡ map const_form SAS_EX.now }
-    ensures few { length result.now ≤ 1000 }
-{
-    packed::SAS_EX_ROWS
-}
-
-/// The forms of [`MESSAGING`].
-fn messaging() -> &'static [Row]
-    ensures forms { map as_form result.now ≡ map const_form MESSAGING.now }
-    ensures few { length result.now ≤ 1000 }
-{
-    packed::MESSAGING_ROWS
-}
-
-/// The forms of [`IPV4`].
-fn ipv4() -> &'static [Row]
-    ensures forms { map as_form result.now ≡ map const_form IPV4.now }
-    ensures few { length result.now ≤ 1000 }
-{
-    packed::IPV4_ROWS
-}
-
-/// The forms of [`IPV6`].
-fn ipv6() -> &'static [Row]
-    ensures forms { map as_form result.now ≡ map const_form IPV6.now }
-    ensures few { length result.now ≤ 1000 }
-{
-    packed::IPV6_ROWS
-}
-
-/// The forms of [`IPV6_SHORT`].
-fn ipv6_short() -> &'static [Row]
-    ensures forms { map as_form result.now ≡ map const_form IPV6_SHORT.now }
-    ensures few { length result.now ≤ 1000 }
-{
-    packed::IPV6_SHORT_ROWS
-}
-
-/// The forms of [`USB_CLASSES`].
-fn usb_classes() -> &'static [Row]
-    ensures forms { map as_form result.now ≡ map const_form USB_CLASSES.now }
-    ensures few { length result.now ≤ 1000 }
-{
-    packed::USB_CLASSES_ROWS
-}
-
-/// The forms of [`MEDIA`].
-fn media() -> &'static [Row]
-    ensures forms { map as_form result.now ≡ map const_form MEDIA.now }
-    ensures few { length result.now ≤ 1000 }
-{
-    packed::MEDIA_ROWS
-}
-
-/// The forms of [`BOOT`].
-fn boot() -> &'static [Row]
-    ensures forms { map as_form result.now ≡ map const_form BOOT.now }
-    ensures few { length result.now ≤ 1000 }
-{
-    packed::BOOT_ROWS
-}
-
 /// The forms of a group.
-#[tactic(auto, unfolding(crate::specs::Table::group_forms))]
+#[tactic(auto, unfolding(crate::specs::Parts::bytes_of, crate::specs::Parts::pieces_of, crate::specs::Parts::text_of, crate::specs::Table::group_forms))]
 pub fn group(index: usize) -> &'static [Row]
     ensures forms { map as_form result.now ≡ group_forms index }
     ensures few { length result.now ≤ 1000 }
 {
     match index {
-        0 => hardware(),
-        1 => acpi(),
-        2 => sas(),
-        3 => sas_in_bays(),
-        4 => sas_ex(),
-        5 => messaging(),
-        6 => ipv4(),
-        7 => ipv6(),
-        8 => ipv6_short(),
-        9 => usb_classes(),
-        10 => media(),
-        11 => boot(),
+        0 => packed::HARDWARE_ROWS,
+        1 => packed::ACPI_ROWS,
+        2 => packed::SAS_ROWS,
+        3 => packed::SAS_IN_BAYS_ROWS,
+        4 => packed::SAS_EX_ROWS,
+        5 => packed::MESSAGING_ROWS,
+        6 => packed::IPV4_ROWS,
+        7 => packed::IPV6_ROWS,
+        8 => packed::IPV6_SHORT_ROWS,
+        9 => packed::USB_CLASSES_ROWS,
+        10 => packed::MEDIA_ROWS,
+        11 => packed::BOOT_ROWS,
         _ => &[],
     }
 }

@@ -1,11 +1,7 @@
 //! Words that stand for numbers in texts of nodes (UEFI Specification 2.10, section 10.6.1), and in
 //! those of EDK II. `specs/Words.antt` says what a list means.
-#![tactic(auto, unfolding(crate::specs::Parts::text_of, crate::specs::Words::words_of))]
+#![tactic(auto)]
 
-ghost use Rattle.std.specs.Prelude.{◌≡◌, map};
-ghost use Rattle.uefi_node_table.specs.Words.{as_word, const_word, suits, word_text, words_of};
-
-use crate::packed;
 use crate::parts::Text;
 
 /// A list of words, by the field whose numbers they stand for.
@@ -84,70 +80,3 @@ const LOGIN: &[WrittenWord] = &[
 
 /// The words of [`Words::Protocol`].
 const PROTOCOL: &[WrittenWord] = &[word!(0xffff 0 "TCP)"), word!(0 1 "reserved)")];
-
-/// The words of [`Words::Parity`].
-fn parity() -> &'static [Word]
-    ensures { map as_word result.now ≡ map const_word PARITY.now }
-{
-    packed::PARITY_WORDS
-}
-
-/// The words of [`Words::StopBits`].
-fn stop_bits() -> &'static [Word]
-    ensures { map as_word result.now ≡ map const_word STOP_BITS.now }
-{
-    packed::STOP_BITS_WORDS
-}
-
-/// The words of [`Words::Digests`].
-fn digests() -> &'static [Word]
-    ensures { map as_word result.now ≡ map const_word DIGESTS.now }
-{
-    packed::DIGESTS_WORDS
-}
-
-/// The words of [`Words::Login`].
-fn login() -> &'static [Word]
-    ensures { map as_word result.now ≡ map const_word LOGIN.now }
-{
-    packed::LOGIN_WORDS
-}
-
-/// The words of [`Words::Protocol`].
-fn protocol() -> &'static [Word]
-    ensures { map as_word result.now ≡ map const_word PROTOCOL.now }
-{
-    packed::PROTOCOL_WORDS
-}
-
-/// The words of a list.
-pub fn words_of(words: Words) -> &'static [Word]
-    ensures { map as_word result.now ≡ words_of words }
-{
-    match words {
-        Words::Parity => parity(),
-        Words::StopBits => stop_bits(),
-        Words::Digests => digests(),
-        Words::Login => login(),
-        Words::Protocol => protocol(),
-    }
-}
-
-/// Whether a word stands for a number.
-pub fn suits(word: &Word, number: u64) -> bool
-    ensures { result ≡ suits number (as_word word.now) }
-{
-    word.mask == 0 || number & u64::from(word.mask) == u64::from(word.number)
-}
-
-/// The word for a number, or an empty text where no word suits it.
-pub fn word_for(words: &[Word], number: u64) -> &'static str
-    ensures { result.now ≡ word_text (map as_word words.now) number }
-{
-    for word in words {
-        if suits(word, number) {
-            return word.text.as_str();
-        }
-    }
-    ""
-}
