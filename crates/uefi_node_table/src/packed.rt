@@ -2,8 +2,8 @@
 //! `table.rt`, `words.rt` and `other_forms.rt` of `uefi_node_reader`. Definitions cite the written table, and
 //! `group`, `item_of`, `words_of`, `own_forms` and `pasted_forms` prove that the packed one means the same.
 //!
-//! The texts, fields and bytes of all rows are three constants. Part `n` of a constant begins at number `n`
-//! of its starts, and ends where part `n + 1` begins.
+//! Texts, fields, bytes, rows and words are one constant each. Part `n` of a constant begins at number `n` of
+//! its starts, and ends where part `n + 1` begins.
 #![tactic(auto)]
 
 use crate::parts::{Bytes, Pieces, Text};
@@ -38,7 +38,7 @@ macro_rules! item {
 macro_rules! rows {
     ($($kind:literal $sub_kind:literal $mode:ident $least:literal $more:literal $when:literal $also:literal
         $start:literal $pieces:literal $tail:ident $(($items:ident))? $close:literal $rest:literal),*) => {
-        &[$(RowOf {
+        [$(RowOf {
             kind: $kind,
             sub_kind: $sub_kind,
             mode: Mode::$mode,
@@ -58,7 +58,7 @@ macro_rules! rows {
 /// Words: the bits that count, what they are, and the number of the text.
 macro_rules! words {
     ($($mask:literal $number:literal $text:literal),*) => {
-        &[$(WordOf { mask: $mask, number: $number, text: Text { number: $text } }),*]
+        [$(WordOf { mask: $mask, number: $number, text: Text { number: $text } }),*]
     };
 }
 
@@ -341,29 +341,15 @@ pub const BYTE_STARTS: [u16; 103] = [
     483, 484, 485, 486, 502, 518, 534, 550, 552, 554, 556, 558, 560, 562, 578, 594, 610, 626, 642, 644
 ];
 
-/// `NUMBERS`, packed.
-pub const NUMBERS_ITEM: Item = item!(4 1 1);
-
-/// `IPV4_ADDRESSES`, packed.
-pub const IPV4_ADDRESSES_ITEM: Item = item!(16 2 2);
-
-/// `IPV6_ADDRESSES`, packed.
-pub const IPV6_ADDRESSES_ITEM: Item = item!(16 2 3);
-
-/// `HARDWARE`, packed.
+/// The rows of all groups.
 #[rattlefmt::skip]
-pub const HARDWARE_ROWS: &[Row] = rows!(
+pub const ROWS: [Row; 164] = rows!(
     1 1 Read 2 0 0 0 5 4 Nothing 0 0,
     1 2 Read 1 0 0 0 7 5 Nothing 0 0,
     1 3 Read 20 0 0 0 8 6 Nothing 0 0,
     1 4 Read 16 0 0 0 9 7 Bytes 6 0,
     1 5 Read 4 0 0 0 11 8 Nothing 0 0,
-    1 6 Read 9 0 0 0 12 9 Nothing 0 0
-);
-
-/// `ACPI`, packed.
-#[rattlefmt::skip]
-pub const ACPI_ROWS: &[Row] = rows!(
+    1 6 Read 9 0 0 0 12 9 Nothing 0 0,
     2 1 Read 8 0 1 0 13 10 Nothing 0 0,
     2 1 Read 8 0 2 0 14 10 Nothing 0 0,
     2 1 Read 8 0 3 0 15 10 Nothing 0 0,
@@ -373,12 +359,7 @@ pub const ACPI_ROWS: &[Row] = rows!(
     2 1 Read 8 0 7 0 19 11 Nothing 0 0,
     2 2 Read 12 3 0 0 20 12 Ids 6 0,
     2 3 Read 4 0 0 0 21 1 Repeated(Numbers) 6 0,
-    2 1 Read 8 0 0 0 22 13 Nothing 0 0
-);
-
-/// `SAS`, packed.
-#[rattlefmt::skip]
-pub const SAS_ROWS: &[Row] = rows!(
+    2 1 Read 8 0 0 0 22 13 Nothing 0 0,
     3 10 Read 40 0 8 0 23 14 Nothing 0 0,
     3 10 Read 40 0 9 0 23 15 Nothing 0 0,
     3 10 Read 40 0 10 0 23 16 Nothing 0 0,
@@ -387,12 +368,7 @@ pub const SAS_ROWS: &[Row] = rows!(
     3 10 Read 40 0 13 0 23 19 Nothing 0 0,
     3 10 Read 40 0 14 0 23 20 Nothing 0 0,
     3 10 Read 40 0 15 0 23 21 Nothing 0 0,
-    3 10 Read 40 0 16 0 23 22 Nothing 0 0
-);
-
-/// `SAS_IN_BAYS`, packed.
-#[rattlefmt::skip]
-pub const SAS_IN_BAYS_ROWS: &[Row] = rows!(
+    3 10 Read 40 0 16 0 23 22 Nothing 0 0,
     3 10 Read 40 0 17 0 23 23 Nothing 0 0,
     3 10 Read 40 0 18 0 23 24 Nothing 0 0,
     3 10 Read 40 0 19 0 23 25 Nothing 0 0,
@@ -401,12 +377,7 @@ pub const SAS_IN_BAYS_ROWS: &[Row] = rows!(
     3 10 Read 40 0 22 0 23 28 Nothing 0 0,
     3 10 Read 40 0 23 0 23 29 Nothing 0 0,
     3 10 Read 40 0 24 0 23 30 Nothing 0 0,
-    3 10 Read 40 0 25 0 23 31 Nothing 0 0
-);
-
-/// `SAS_EX`, packed.
-#[rattlefmt::skip]
-pub const SAS_EX_ROWS: &[Row] = rows!(
+    3 10 Read 40 0 25 0 23 31 Nothing 0 0,
     3 22 Read 20 0 26 0 42 32 Nothing 0 0,
     3 22 Read 20 0 27 0 42 33 Nothing 0 0,
     3 22 Read 20 0 28 0 42 34 Nothing 0 0,
@@ -424,12 +395,7 @@ pub const SAS_EX_ROWS: &[Row] = rows!(
     3 22 Read 20 0 40 0 42 46 Nothing 0 0,
     3 22 Read 20 0 41 0 42 47 Nothing 0 0,
     3 22 Read 20 0 42 0 42 48 Nothing 0 0,
-    3 22 Read 20 0 0 0 42 49 Nothing 0 0
-);
-
-/// `MESSAGING`, packed.
-#[rattlefmt::skip]
-pub const MESSAGING_ROWS: &[Row] = rows!(
+    3 22 Read 20 0 0 0 42 49 Nothing 0 0,
     3 1 Display 4 0 0 0 53 50 Nothing 0 0,
     3 1 Read 4 0 43 0 54 50 Nothing 0 0,
     3 1 Read 4 0 44 0 55 50 Nothing 0 0,
@@ -464,12 +430,7 @@ pub const MESSAGING_ROWS: &[Row] = rows!(
     3 26 Read 1 0 0 0 85 5 Nothing 0 0,
     3 27 Read 6 0 0 0 86 68 Nothing 0 0,
     3 29 Read 1 0 0 0 87 5 Nothing 0 0,
-    3 30 Read 7 0 0 0 88 69 Nothing 0 0
-);
-
-/// `IPV4`, packed.
-#[rattlefmt::skip]
-pub const IPV4_ROWS: &[Row] = rows!(
+    3 30 Read 7 0 0 0 88 69 Nothing 0 0,
     3 12 Display 15 0 0 0 89 70 Nothing 0 0,
     3 12 Read 23 0 52 0 89 71 Nothing 0 0,
     3 12 Read 23 0 53 54 89 72 Nothing 0 0,
@@ -482,12 +443,7 @@ pub const IPV4_ROWS: &[Row] = rows!(
     3 12 Read 15 0 55 0 89 79 Nothing 0 0,
     3 12 Read 15 0 56 54 89 80 Nothing 0 0,
     3 12 Read 15 0 57 0 89 81 Nothing 0 0,
-    3 12 Read 15 0 0 54 89 82 Nothing 0 0
-);
-
-/// `IPV6`, packed.
-#[rattlefmt::skip]
-pub const IPV6_ROWS: &[Row] = rows!(
+    3 12 Read 15 0 0 54 89 82 Nothing 0 0,
     3 13 Display 39 0 0 0 96 83 Nothing 0 0,
     3 13 Read 56 0 58 0 96 84 Nothing 0 0,
     3 13 Read 56 0 59 0 96 85 Nothing 0 0,
@@ -497,12 +453,7 @@ pub const IPV6_ROWS: &[Row] = rows!(
     3 13 Read 56 0 64 61 96 89 Nothing 0 0,
     3 13 Read 56 0 65 0 96 90 Nothing 0 0,
     3 13 Read 56 0 66 0 96 91 Nothing 0 0,
-    3 13 Read 56 0 0 61 96 92 Nothing 0 0
-);
-
-/// `IPV6_SHORT`, packed.
-#[rattlefmt::skip]
-pub const IPV6_SHORT_ROWS: &[Row] = rows!(
+    3 13 Read 56 0 0 61 96 92 Nothing 0 0,
     3 13 Read 39 0 58 0 96 93 Nothing 0 0,
     3 13 Read 39 0 59 0 96 94 Nothing 0 0,
     3 13 Read 39 0 60 61 96 95 Nothing 0 0,
@@ -511,12 +462,7 @@ pub const IPV6_SHORT_ROWS: &[Row] = rows!(
     3 13 Read 39 0 64 61 96 98 Nothing 0 0,
     3 13 Read 39 0 65 0 96 99 Nothing 0 0,
     3 13 Read 39 0 66 0 96 100 Nothing 0 0,
-    3 13 Read 39 0 0 61 96 101 Nothing 0 0
-);
-
-/// `USB_CLASSES`, packed.
-#[rattlefmt::skip]
-pub const USB_CLASSES_ROWS: &[Row] = rows!(
+    3 13 Read 39 0 0 61 96 101 Nothing 0 0,
     3 15 Read 7 0 67 0 103 102 Nothing 0 0,
     3 15 Read 7 0 68 0 104 102 Nothing 0 0,
     3 15 Read 7 0 69 0 105 102 Nothing 0 0,
@@ -532,12 +478,7 @@ pub const USB_CLASSES_ROWS: &[Row] = rows!(
     3 15 Read 7 0 79 0 115 103 Nothing 0 0,
     3 15 Read 7 0 80 0 116 103 Nothing 0 0,
     3 15 Read 7 0 81 0 117 103 Nothing 0 0,
-    3 15 Read 7 0 0 0 118 104 Nothing 0 0
-);
-
-/// `MEDIA`, packed.
-#[rattlefmt::skip]
-pub const MEDIA_ROWS: &[Row] = rows!(
+    3 15 Read 7 0 0 0 118 104 Nothing 0 0,
     4 1 Read 38 0 82 83 119 105 Nothing 0 0,
     4 1 Read 38 0 84 85 119 106 Nothing 0 0,
     4 1 Printed 38 0 0 0 119 107 Nothing 0 0,
@@ -552,12 +493,7 @@ pub const MEDIA_ROWS: &[Row] = rows!(
     4 9 Read 34 0 87 0 130 109 Nothing 0 0,
     4 9 Read 34 0 88 0 131 109 Nothing 0 0,
     4 9 Read 34 0 89 0 132 109 Nothing 0 0,
-    4 9 Read 34 0 0 0 133 110 Nothing 0 0
-);
-
-/// `BOOT`, packed.
-#[rattlefmt::skip]
-pub const BOOT_ROWS: &[Row] = rows!(
+    4 9 Read 34 0 0 0 133 110 Nothing 0 0,
     5 1 Display 4 1 90 0 134 0 Name 6 0,
     5 1 Display 4 1 91 0 135 0 Name 6 0,
     5 1 Display 4 1 92 0 136 0 Name 6 0,
@@ -574,46 +510,45 @@ pub const BOOT_ROWS: &[Row] = rows!(
     5 1 Read 4 1 0 0 140 111 Name 1 50
 );
 
-/// `PARITY`, packed.
+/// Where each group begins.
 #[rattlefmt::skip]
-pub const PARITY_WORDS: &[Word] = words!(
-    255 0 141, 255 1 142, 255 2 143, 255 3 144, 255 4 145, 255 5 146, 0 255 147
+pub const ROW_STARTS: [u16; 13] = [
+    0, 6, 16, 25, 34, 52, 87, 100, 110, 119, 135, 150, 164
+];
+
+/// The words of all lists.
+#[rattlefmt::skip]
+pub const WORDS: [Word; 21] = words!(
+    255 0 141, 255 1 142, 255 2 143, 255 3 144, 255 4 145, 255 5 146, 0 255 147, 255 0 148, 255 1 149,
+    255 2 150, 255 3 151, 0 255 152, 10 10 153, 10 2 154, 10 8 155, 0 0 156, 8 8 157, 16 16 158,
+    0 0 159, 65535 0 160, 0 1 161
 );
 
-/// `STOP_BITS`, packed.
+/// Where each list of words begins.
 #[rattlefmt::skip]
-pub const STOP_BITS_WORDS: &[Word] = words!(
-    255 0 148, 255 1 149, 255 2 150, 255 3 151, 0 255 152
-);
+pub const WORD_STARTS: [u16; 6] = [
+    0, 7, 12, 16, 19, 21
+];
 
-/// `DIGESTS`, packed.
-#[rattlefmt::skip]
-pub const DIGESTS_WORDS: &[Word] = words!(
-    10 10 153, 10 2 154, 10 8 155, 0 0 156
-);
+/// `NUMBERS`, packed.
+pub const NUMBERS_ITEM: Item = item!(4 1 1);
 
-/// `LOGIN`, packed.
-#[rattlefmt::skip]
-pub const LOGIN_WORDS: &[Word] = words!(
-    8 8 157, 16 16 158, 0 0 159
-);
+/// `IPV4_ADDRESSES`, packed.
+pub const IPV4_ADDRESSES_ITEM: Item = item!(16 2 2);
 
-/// `PROTOCOL`, packed.
-#[rattlefmt::skip]
-pub const PROTOCOL_WORDS: &[Word] = words!(
-    65535 0 160, 0 1 161
-);
+/// `IPV6_ADDRESSES`, packed.
+pub const IPV6_ADDRESSES_ITEM: Item = item!(16 2 3);
 
 /// `OWN`, packed.
 #[rattlefmt::skip]
-pub const OWN_ROWS: &[Row] = rows!(
+pub const OWN_ROWS: &[Row] = &rows!(
     3 1 Read 4 0 0 0 162 112 Nothing 0 0,
     3 23 Read 12 0 0 0 163 113 Nothing 0 0
 );
 
 /// `PASTED`, packed.
 #[rattlefmt::skip]
-pub const PASTED_ROWS: &[Row] = rows!(
+pub const PASTED_ROWS: &[Row] = &rows!(
     3 10 Read 16 0 0 96 164 0 Nothing 0 0,
     3 10 Read 16 0 0 97 165 0 Nothing 0 0,
     3 10 Read 16 0 0 98 166 0 Nothing 0 0,

@@ -20,7 +20,7 @@ fn start_of(starts: &[u16], number: usize) -> usize
 }
 
 /// The part that has a number. It ends where the next begins.
-fn part<'a, T>(items: &'a [T], starts: &[u16], number: u8) -> &'a [T]
+pub(crate) fn part<'a, T>(items: &'a [T], starts: &[u16], number: u8) -> &'a [T]
     ensures { result.now ≡ part_of items.now starts.now number }
 {
     let number = usize::from(number);

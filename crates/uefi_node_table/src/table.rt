@@ -5,9 +5,12 @@
 
 ghost use Rattle.std.specs.Prelude.{◌≡◌, ◌<◌, ◌≤◌, IsTrue, length, map};
 ghost use Rattle.std.specs.List.{list_all};
+ghost use Rattle.uefi_node_table.specs.Parts.{part_of};
 ghost use Rattle.uefi_node_table.specs.Rows.{as_form, as_item, as_piece, const_form, is_within, item_of};
 ghost use Rattle.uefi_node_table.specs.Table.{group_forms};
 
+use crate::packed::{ROW_STARTS, ROWS};
+use crate::pools::part;
 use crate::rows::{
     Item, ItemOf, Items, Mode, PieceOf, Row, RowOf, Shape, Tail, WrittenItem, WrittenRow,
 };
@@ -606,25 +609,34 @@ pub fn item_of(items: Items) -> Item
 /// How many groups of forms there are.
 pub const GROUPS: usize = 12;
 
-/// The forms of a group.
+/// The part of the packed rows that has a group.
 #[tactic(auto, unfolding(crate::specs::Parts::bytes_of, crate::specs::Parts::pieces_of, crate::specs::Parts::text_of, crate::specs::Table::group_forms))]
+fn part_of_group(index: usize) -> u8
+    ensures forms { map as_form (part_of ROWS ROW_STARTS result) ≡ group_forms index }
+    ensures few { length (part_of ROWS ROW_STARTS result) ≤ 1000 }
+{
+    match index {
+        0 => 0,
+        1 => 1,
+        2 => 2,
+        3 => 3,
+        4 => 4,
+        5 => 5,
+        6 => 6,
+        7 => 7,
+        8 => 8,
+        9 => 9,
+        10 => 10,
+        11 => 11,
+        // No part begins here, so this one is empty.
+        _ => 12,
+    }
+}
+
+/// The forms of a group.
 pub fn group(index: usize) -> &'static [Row]
     ensures forms { map as_form result.now ≡ group_forms index }
     ensures few { length result.now ≤ 1000 }
 {
-    match index {
-        0 => packed::HARDWARE_ROWS,
-        1 => packed::ACPI_ROWS,
-        2 => packed::SAS_ROWS,
-        3 => packed::SAS_IN_BAYS_ROWS,
-        4 => packed::SAS_EX_ROWS,
-        5 => packed::MESSAGING_ROWS,
-        6 => packed::IPV4_ROWS,
-        7 => packed::IPV6_ROWS,
-        8 => packed::IPV6_SHORT_ROWS,
-        9 => packed::USB_CLASSES_ROWS,
-        10 => packed::MEDIA_ROWS,
-        11 => packed::BOOT_ROWS,
-        _ => &[],
-    }
+    part(&ROWS, &ROW_STARTS, part_of_group(index))
 }

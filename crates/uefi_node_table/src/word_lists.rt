@@ -2,23 +2,32 @@
 #![tactic(auto)]
 
 ghost use Rattle.std.specs.Prelude.{◌≡◌, map};
+ghost use Rattle.uefi_node_table.specs.Parts.{part_of};
 ghost use Rattle.uefi_node_table.specs.Words.{as_word, suits, word_text, words_of};
 
-use crate::packed;
+use crate::packed::{WORD_STARTS, WORDS};
+use crate::pools::part;
 use crate::words::{Word, Words};
 
-/// The words of a list.
+/// The part of the packed words that has a list.
 #[tactic(auto, unfolding(crate::specs::Parts::text_of, crate::specs::Words::words_of))]
+fn part_of_list(words: Words) -> u8
+    ensures { map as_word (part_of WORDS WORD_STARTS result) ≡ words_of words }
+{
+    match words {
+        Words::Parity => 0,
+        Words::StopBits => 1,
+        Words::Digests => 2,
+        Words::Login => 3,
+        Words::Protocol => 4,
+    }
+}
+
+/// The words of a list.
 pub fn words_of(words: Words) -> &'static [Word]
     ensures { map as_word result.now ≡ words_of words }
 {
-    match words {
-        Words::Parity => packed::PARITY_WORDS,
-        Words::StopBits => packed::STOP_BITS_WORDS,
-        Words::Digests => packed::DIGESTS_WORDS,
-        Words::Login => packed::LOGIN_WORDS,
-        Words::Protocol => packed::PROTOCOL_WORDS,
-    }
+    part(&WORDS, &WORD_STARTS, part_of_list(words))
 }
 
 /// Whether a word stands for a number.
