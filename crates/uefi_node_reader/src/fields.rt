@@ -11,7 +11,8 @@ ghost use Rattle.uefi_node_reader.specs.Numerals.{number_read};
 
 use crate::numerals::{digit_of, number};
 use uefi_node_table::rows::Shape;
-use uefi_node_table::words::{Word, Words, words_of};
+use uefi_node_table::word_lists::words_of;
+use uefi_node_table::words::{Word, Words};
 
 /// What stands after a literal that a text begins with.
 pub(crate) fn after<'a>(literal: &[u8], text: &'a [u8]) -> Option<&'a [u8]>
@@ -206,7 +207,7 @@ fn word<'a>(words: &[Word], text: &'a [u8]) -> Option<(u64, &'a [u8])>
 {
     for word in words {
         if let Some(rest) = after(word.text.as_bytes(), text) {
-            return Some((word.number, rest));
+            return Some((word.number as u64, rest));
         }
     }
     None

@@ -18,7 +18,8 @@ use crate::fields::{after, last, put_low, read_value};
 use crate::numerals::{digit_of, digits_after};
 use crate::stops::stop_at;
 use uefi_node_table::rows::{Piece, Shape};
-use uefi_node_table::words::{Word, Words, words_of};
+use uefi_node_table::word_lists::words_of;
+use uefi_node_table::words::{Word, Words};
 
 /// Whether a text begins with `0x`.
 pub(crate) fn begins_base(text: &[u8]) -> bool
@@ -146,7 +147,7 @@ fn any_word<'a>(words: &[Word], text: &'a [u8]) -> Option<(u64, &'a [u8])>
 {
     for word in words {
         if let Ok(rest) = after_literal(word.text.as_bytes(), text) {
-            return Some((word.number, rest));
+            return Some((word.number as u64, rest));
         }
     }
     None
@@ -276,11 +277,11 @@ fn set_value<'a>(
     ensures { result_map_both (λ rest. (content.new, rest.now)) (λ e. e) result
         ≡ value_set kind sub_kind (as_piece piece.now) content.old text.now }
 {
-    let (from, to) = (piece.place, piece.place + piece.width);
-    let spare = left_out(kind, sub_kind, piece.place);
-    match value_or_spare(piece.shape, spare, &mut content[from..to], text) {
+    let (from, width) = (piece.place as usize, piece.width as usize);
+    let spare = left_out(kind, sub_kind, from);
+    match value_or_spare(piece.shape, spare, &mut content[from..from + width], text) {
         Some(rest) => Ok(rest),
-        None => Err(stop_at(text, expected_field(piece.shape, piece.width))),
+        None => Err(stop_at(text, expected_field(piece.shape, width))),
     }
 }
 

@@ -122,8 +122,8 @@ fn told_row<'a>(row: &Row, text: &'a [u8]) -> Result<TextNode<'a>, Stop>
 {
     let rest = after_literal(row.start.as_bytes(), text)?;
     let mut fixed = fixed_part(row);
-    let content = &mut fixed[..row.least];
-    let rest = set_pieces(row.kind, row.sub_kind, row.pieces, content, rest)?;
+    let content = &mut fixed[..row.least as usize];
+    let rest = set_pieces(row.kind, row.sub_kind, row.pieces.as_slice(), content, rest)?;
     match told(row, finish_row(row, fixed, rest)) {
         Some(node) => Ok(node),
         None => Err(stop_of(rest_end(row.tail, row.close.as_bytes(), rest))),

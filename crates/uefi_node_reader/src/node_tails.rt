@@ -23,7 +23,8 @@ fn read_piece<'a>(piece: &Piece, content: &mut [u8], text: &'a [u8]) -> Option<&
     ensures { option_map (λ rest. (content.new, rest.now)) result
         ≡ piece_put (as_piece piece.now) content.old text.now }
 {
-    let (from, to) = (piece.place, piece.place + piece.width);
+    let from = piece.place as usize;
+    let to = from + piece.width as usize;
     let rest = read_value(piece.shape, &mut content[from..to], text)?;
     after(piece.ending.as_bytes(), rest)
 }
@@ -80,14 +81,14 @@ fn push_item<'a>(
     text: &'a [u8],
 ) -> Option<(usize, &'a [u8])>
     requires few { item.now.size ≤ 16 }
-    requires laid_out { IsTrue (list_all (is_within item.now.size) (map as_piece item.now.pieces.now)) }
+    requires laid_out { IsTrue (list_all (is_within item.now.size) (as_item item.now).pieces) }
     ensures { option_map (λ x. ((places.new, x.0), x.1.now)) result
         ≡ option_and_then (put_on (places.old, len))
-        (pieces_put (map as_piece item.now.pieces.now) (replicate item.now.size 0) text.now) }
+        (pieces_put (as_item item.now).pieces (replicate item.now.size 0) text.now) }
 {
     let mut buffer = [0; 16];
     let bytes = &mut buffer[..item.size];
-    let rest = read_pieces(item.pieces, bytes, text)?;
+    let rest = read_pieces(item.pieces.as_slice(), bytes, text)?;
     Some((push_all(places, len, bytes), rest))
 }
 
@@ -99,7 +100,7 @@ fn push_items<'a>(
     text: &'a [u8],
 ) -> Option<(usize, &'a [u8])>
     requires few { item.now.size ≤ 16 }
-    requires laid_out { IsTrue (list_all (is_within item.now.size) (map as_piece item.now.pieces.now)) }
+    requires laid_out { IsTrue (list_all (is_within item.now.size) (as_item item.now).pieces) }
     ensures { option_map (λ x. ((places.new, x.0), x.1.now)) result
         ≡ option_and_then (put_on (places.old, len)) (list_read (as_item item.now) text.now) }
 {

@@ -5,7 +5,8 @@ ghost use Rattle.std.specs.Prelude.{◌≡◌, map};
 ghost use Rattle.uefi_node_table.specs.Rows.{as_form};
 ghost use Rattle.uefi_node_reader.specs.OtherForms.{own_forms, pasted_forms};
 
-use uefi_node_table::rows::{Mode, PieceOf, Row, RowOf, Shape, Tail};
+use uefi_node_table::packed::{OWN_ROWS, PASTED_ROWS};
+use uefi_node_table::rows::{Mode, PieceOf, Row, RowOf, Shape, Tail, WrittenRow};
 
 /// A form of these: the type, the sub-type, how many bytes the data have, those that are fixed, what
 /// the text begins with, and the fields.
@@ -31,7 +32,7 @@ macro_rules! form {
 
 /// Forms in which libefivar alone prints nodes, in the letters of a tidied call.
 #[rattlefmt::skip]
-const OWN: &[Row] = &[
+const OWN: &[WrittenRow] = &[
     form!(3 1 4 [] "ATA(" [Decimal 0 1 ","] [Decimal 1 1 ","] [Decimal 2 2 ")"]),
     form!(3 23 12 [] "NVME(0x" [Hexadecimal 0 4 ","] [Forth 4 1 "-"] [Forth 5 1 "-"] [Forth 6 1 "-"]
         [Forth 7 1 "-"] [Forth 8 1 "-"] [Forth 9 1 "-"] [Forth 10 1 "-"] [Forth 11 1 ")"]),
@@ -40,7 +41,7 @@ const OWN: &[Row] = &[
 /// Forms that programs print and people paste: short names of vendors' nodes, as the UEFI Specification
 /// 2.10 lists them in section 10.6.1.6, and fields that other programs write otherwise or leave out.
 #[rattlefmt::skip]
-const PASTED: &[Row] = &[
+const PASTED: &[WrittenRow] = &[
     form!(3 10 16 [0 = 0x53 1 = 0x47 2 = 0xc1 3 = 0xe0 4 = 0xbe 5 = 0xf9 6 = 0xd2 7 = 0x11
         8 = 0x9a 9 = 0x0c 10 = 0x00 11 = 0x90 12 = 0x27 13 = 0x3f 14 = 0xc1 15 = 0x4d] "VenPcAnsi()"),
     form!(3 10 16 [0 = 0x65 1 = 0x60 2 = 0xa6 3 = 0xdf 4 = 0x19 5 = 0xb4 6 = 0xd3 7 = 0x11
@@ -76,17 +77,17 @@ const PASTED: &[Row] = &[
 ];
 
 /// The forms of [`OWN`].
-#[tactic(auto, unfolding(crate::specs::OtherForms::own_forms))]
+#[tactic(auto, unfolding(crate::specs::OtherForms::own_forms, uefi_node_table::specs::Parts::bytes_of, uefi_node_table::specs::Parts::pieces_of, uefi_node_table::specs::Parts::text_of))]
 pub(crate) fn own_forms() -> &'static [Row]
     ensures { map as_form result.now ≡ own_forms }
 {
-    OWN
+    OWN_ROWS
 }
 
 /// The forms of [`PASTED`].
-#[tactic(auto, unfolding(crate::specs::OtherForms::pasted_forms))]
+#[tactic(auto, unfolding(crate::specs::OtherForms::pasted_forms, uefi_node_table::specs::Parts::bytes_of, uefi_node_table::specs::Parts::pieces_of, uefi_node_table::specs::Parts::text_of))]
 pub(crate) fn pasted_forms() -> &'static [Row]
     ensures { map as_form result.now ≡ pasted_forms }
 {
-    PASTED
+    PASTED_ROWS
 }

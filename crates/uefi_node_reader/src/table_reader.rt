@@ -20,12 +20,12 @@ use uefi_node_table::rows::{Mode, Row};
 use uefi_node_table::table::{GROUPS, group};
 
 /// Puts bytes at their places.
-fn put_bytes(content: &mut [u8], bytes: &[(usize, u8)])
+fn put_bytes(content: &mut [u8], bytes: &[(u8, u8)])
     requires { IsTrue (are_within (length content.old) bytes.now) }
     ensures { content.new ≡ put_all bytes.now content.old }
 {
     for (place, byte) in bytes {
-        content[*place] = *byte;
+        content[*place as usize] = *byte;
     }
 }
 
@@ -35,8 +35,8 @@ pub(crate) fn fixed_part(row: &Row) -> [u8; 64]
     ensures { take row.now.least result ≡ blank (as_form row.now) }
 {
     let mut fixed = [0; 64];
-    put_bytes(&mut fixed, row.when);
-    put_bytes(&mut fixed, row.also);
+    put_bytes(&mut fixed, row.when.as_slice());
+    put_bytes(&mut fixed, row.also.as_slice());
     fixed
 }
 
@@ -48,7 +48,7 @@ pub(crate) fn finish_row<'a>(
     text: &'a [u8],
 ) -> Option<(TextNode<'a>, &'a [u8])>
     requires small { row.now.least ≤ 64 }
-    requires within { IsTrue (list_all (is_within row.now.least) (map as_piece row.now.rest.now)) }
+    requires within { IsTrue (list_all (is_within row.now.least) (as_form row.now).rest) }
     ensures types { IfSome result (λ x.
         (x.0.device_type ≡ row.now.kind) × (x.0.sub_type ≡ row.now.sub_kind)) }
     ensures data { option_map (λ x. (text_node_data x.0, x.1.now)) result
@@ -58,13 +58,13 @@ pub(crate) fn finish_row<'a>(
         row.kind,
         row.sub_kind,
         fixed,
-        row.least,
+        row.least as usize,
         row.tail,
-        row.close,
+        row.close.as_str(),
         text,
     )?;
     let rest = after(row.close.as_bytes(), rest)?;
-    node.with_fields(row.rest, rest)
+    node.with_fields(row.rest.as_slice(), rest)
 }
 
 /// Reads a node of a form. Returns what stands after it, too.
@@ -81,7 +81,11 @@ pub(crate) fn read_row<'a>(row: &Row, text: &'a [u8]) -> Option<(TextNode<'a>, &
     };
     let rest = after(row.start.as_bytes(), text)?;
     let mut fixed = fixed_part(row);
-    let rest = read_pieces(row.pieces, &mut fixed[..row.least], rest)?;
+    let rest = read_pieces(
+        row.pieces.as_slice(),
+        &mut fixed[..row.least as usize],
+        rest,
+    )?;
     finish_row(row, fixed, rest)
 }
 

@@ -18,7 +18,8 @@ use crate::text_node::TextNode;
 use uefi_field_texts::ids::eisa_bits;
 use uefi_node_table::printing::{form_of, number_of};
 use uefi_node_table::rows::{Items, Mode, Piece, Row, Shape, Tail};
-use uefi_node_table::words::{Word, suits, words_of};
+use uefi_node_table::word_lists::{suits, words_of};
+use uefi_node_table::words::Word;
 
 /// The number that the word for a number is read as.
 fn word_number(words: &[Word], number: u64) -> u64
@@ -26,7 +27,7 @@ fn word_number(words: &[Word], number: u64) -> u64
 {
     for word in words {
         if suits(word, number) {
-            return word.number;
+            return word.number as u64;
         }
     }
     number
@@ -39,7 +40,8 @@ fn put_kept(piece: &Piece, fixed: &[u8], content: &mut [u8])
     ensures { content.new ≡ put_at (as_piece piece.now)
         (field_kept piece.now.shape (value_at (as_piece piece.now) fixed.now)) content.old }
 {
-    let (from, to) = (piece.place, piece.place + piece.width);
+    let from = piece.place as usize;
+    let to = from + piece.width as usize;
     let value = &fixed[from..to];
     match piece.shape {
         Shape::Word(words) => {
@@ -76,9 +78,9 @@ fn tells_fixed(row: &Row, fixed: &[u8]) -> bool
     ensures { result ≡ tells_fixed (as_form row.now) fixed.now }
 {
     let mut again = fixed_part(row);
-    let content = &mut again[..row.least];
-    put_all_kept(row.pieces, fixed, content);
-    put_all_kept(row.rest, fixed, content);
+    let content = &mut again[..row.least as usize];
+    put_all_kept(row.pieces.as_slice(), fixed, content);
+    put_all_kept(row.rest.as_slice(), fixed, content);
     &*content == fixed
 }
 
@@ -100,7 +102,7 @@ fn tells_tail(read: &Row, row: &Row, len: usize) -> bool
     ensures { result ≡ tells_tail (as_form read.now) row.now.least row.now.tail len }
 {
     match row.tail {
-        Tail::Nothing => len == row.least,
+        Tail::Nothing => len == row.least as usize,
         Tail::Bytes => true,
         Tail::Repeated(items) => are_items(items, read.tail) && read.least == row.least,
         _ => false,
@@ -121,5 +123,5 @@ pub(crate) fn tells(read: &Row, node: &TextNode<'_>) -> bool
         return false;
     };
     let len = node.data_len();
-    tells_fixed(row, &head[..row.least]) && tells_tail(read, row, len)
+    tells_fixed(row, &head[..row.least as usize]) && tells_tail(read, row, len)
 }

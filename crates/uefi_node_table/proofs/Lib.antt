@@ -1,4 +1,5 @@
 pub mod Lists
+pub mod Texts
 pub mod Items
 pub mod Forms
 pub mod Groups

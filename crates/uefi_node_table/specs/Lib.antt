@@ -1,4 +1,5 @@
 pub mod Fields
+pub mod Parts
 pub mod Rows
 pub mod Table
 pub mod Words

@@ -1,10 +1,13 @@
 -- The forms of nodes: how each is printed (UEFI Specification 2.10, section 10.6.1).
-use Rattle.std.specs.Borrow.{Bor}
 use Rattle.std.specs.Prelude.{ℕ, ◌+◌, ◌/◌, Bool, true, false, nat_le, ◌==◌, ◌&&◌, if◌then◌else◌, List, [], ◌∷◌, ◌++◌, length, drop, take, slice_range, slice_index, map, Option, Some, None}
 use Rattle.std.specs.List.{flat_map, list_all}
 use Rattle.std.specs.Simd.{first_chunks}
 use Rattle.uefi_field_texts.specs.FieldTexts.{comma_bytes, id_strings_text, shown_bytes, until_nul, utf16_text}
 use Rattle.uefi_node_table.specs.Fields.{field_text, fits_shape}
+use Rattle.uefi_node_table.specs.Parts.{bytes_of, pieces_of, text_of}
+use Rattle.uefi_node_table.specs.declared.parts.Bytes.{Bytes as PackedBytes}
+use Rattle.uefi_node_table.specs.declared.parts.Pieces.{Pieces}
+use Rattle.uefi_node_table.specs.declared.parts.Text.{Text as PackedText}
 use Rattle.uefi_node_table.specs.declared.rows.Mode.{Mode}
 use Rattle.uefi_node_table.specs.declared.rows.Mode.TheVariants.{Read, Printed, Display}
 use Rattle.uefi_node_table.specs.declared.rows.Shape.{Shape}
@@ -39,34 +42,34 @@ pub record Form : Type 0 where
   pub close : List ℕ
   pub rest : List Piece
 
--- the field that a value is
-abbrev pub as_piece : PieceOf (Bor (List ℕ)) → Piece
-as_piece p = record { shape = p.shape; place = p.place; width = p.width; ending = p.ending.now }
+-- the field that a packed one is
+abbrev pub as_piece : PieceOf ℕ PackedText → Piece
+as_piece p = record { shape = p.shape; place = p.place; width = p.width; ending = text_of p.ending }
 
--- the form that a value is
-abbrev pub as_form : RowOf (Bor (List ℕ)) (Bor (List (ℕ × ℕ))) (Bor (List (PieceOf (Bor (List ℕ))))) → Form
+-- the form that a packed one is
+abbrev pub as_form : RowOf ℕ PackedText PackedBytes Pieces → Form
 as_form r = record {
   kind = r.kind;
   sub_kind = r.sub_kind;
   mode = r.mode;
   least = r.least;
   more = r.more;
-  when = r.when.now;
-  also = r.also.now;
-  start = r.start.now;
-  pieces = map as_piece r.pieces.now;
+  when = bytes_of r.when;
+  also = bytes_of r.also;
+  start = text_of r.start;
+  pieces = map as_piece (pieces_of r.pieces);
   tail = r.tail;
-  close = r.close.now;
-  rest = map as_piece r.rest.now;
+  close = text_of r.close;
+  rest = map as_piece (pieces_of r.rest);
 }
 
--- the field that a constant is, whose references have no places
-abbrev pub const_piece : PieceOf (record { now : List ℕ }) → Piece
+-- the field that a written one is
+abbrev pub const_piece : PieceOf ℕ (record { now : List ℕ }) → Piece
 const_piece p = record { shape = p.shape; place = p.place; width = p.width; ending = p.ending.now }
 
--- the form that a constant is
-abbrev pub const_form : RowOf (record { now : List ℕ }) (record { now : List (ℕ × ℕ) })
-    (record { now : List (PieceOf (record { now : List ℕ })) }) → Form
+-- the form that a written one is
+abbrev pub const_form : RowOf ℕ (record { now : List ℕ }) (record { now : List (ℕ × ℕ) })
+    (record { now : List (PieceOf ℕ (record { now : List ℕ })) }) → Form
 const_form r = record {
   kind = r.kind;
   sub_kind = r.sub_kind;
@@ -100,13 +103,13 @@ pub record Item : Type 0 where
   pub start : List ℕ
   pub pieces : List Piece
 
--- the item that a value is
-abbrev pub as_item : ItemOf (Bor (List ℕ)) (Bor (List (PieceOf (Bor (List ℕ))))) → Item
-as_item i = record { size = i.size; start = i.start.now; pieces = map as_piece i.pieces.now }
+-- the item that a packed one is
+abbrev pub as_item : ItemOf PackedText Pieces → Item
+as_item i = record { size = i.size; start = text_of i.start; pieces = map as_piece (pieces_of i.pieces) }
 
--- the item that a constant is
+-- the item that a written one is
 abbrev pub const_item :
-    ItemOf (record { now : List ℕ }) (record { now : List (PieceOf (record { now : List ℕ })) }) → Item
+    ItemOf (record { now : List ℕ }) (record { now : List (PieceOf ℕ (record { now : List ℕ })) }) → Item
 const_item i = record { size = i.size; start = i.start.now; pieces = map const_piece i.pieces.now }
 
 -- the items of a list

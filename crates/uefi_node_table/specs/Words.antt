@@ -1,6 +1,7 @@
 -- Words that stand for numbers.
-use Rattle.std.specs.Borrow.{Bor}
 use Rattle.std.specs.Prelude.{ℕ, Bool, ◌==◌, ◌||◌, bit_and, if◌then◌else◌, List, [], ◌∷◌, map}
+use Rattle.uefi_node_table.specs.Parts.{text_of}
+use Rattle.uefi_node_table.specs.declared.parts.Text.{Text}
 use Rattle.uefi_node_table.specs.declared.words.TheConstants.{PARITY, STOP_BITS, DIGESTS, LOGIN, PROTOCOL}
 use Rattle.uefi_node_table.specs.declared.words.Words.{Words}
 use Rattle.uefi_node_table.specs.declared.words.Words.TheVariants.{Parity, StopBits, Digests, Login, Protocol}
@@ -12,12 +13,12 @@ pub record Word : Type 0 where
   pub number : ℕ
   pub text : List ℕ
 
--- the word that a value is
-abbrev pub as_word : WordOf (Bor (List ℕ)) → Word
-as_word w = record { mask = w.mask; number = w.number; text = w.text.now }
+-- the word that a packed one is
+abbrev pub as_word : WordOf ℕ Text → Word
+as_word w = record { mask = w.mask; number = w.number; text = text_of w.text }
 
--- the word that a constant is, whose references have no places
-abbrev pub const_word : WordOf (record { now : List ℕ }) → Word
+-- the word that a written one is
+abbrev pub const_word : WordOf ℕ (record { now : List ℕ }) → Word
 const_word w = record { mask = w.mask; number = w.number; text = w.text.now }
 
 -- the words of a list

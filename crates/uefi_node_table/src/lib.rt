@@ -4,7 +4,11 @@
 
 pub mod laws;
 pub mod layouts;
+pub mod packed;
+pub mod parts;
+mod pools;
 pub mod printing;
 pub mod rows;
 pub mod table;
+pub mod word_lists;
 pub mod words;

@@ -13,7 +13,7 @@ ghost use Rattle.uefi_node_table.specs.Table.{forms, has_form, table_text};
 
 use crate::rows::{Item, Mode, Piece, Row, Shape, Tail};
 use crate::table::{GROUPS, group, item_of};
-use crate::words::{word_for, words_of};
+use crate::word_lists::{word_for, words_of};
 use uefi_field_texts::hexadecimal::{put_back, put_bytes, put_comma_bytes, put_dashed_back};
 use uefi_field_texts::ids::{put_eisa_id, put_id_strings};
 use uefi_field_texts::shown_texts::{put_byte_text, put_utf16_text, until_nul};
@@ -83,9 +83,10 @@ fn put_piece<S: TextSink>(sink: &mut S, piece: &Piece, content: &[u8])
     requires { IsTrue (is_within (length content.now) (as_piece piece.now)) }
     ensures { WritesInCalls S.puts sink.old (piece_text content.now (as_piece piece.now)) sink.new }
 {
-    let value = &content[piece.place..piece.place + piece.width];
+    let place = usize::from(piece.place);
+    let value = &content[place..place + usize::from(piece.width)];
     put_value(sink, piece.shape, value);
-    sink.put_str(piece.ending);
+    sink.put_str(piece.ending.as_str());
 }
 
 /// Puts the fields of a form.
@@ -100,17 +101,17 @@ fn put_pieces<S: TextSink>(sink: &mut S, pieces: &[Piece], content: &[u8])
 
 /// Puts an item of a list.
 fn put_item<S: TextSink>(sink: &mut S, item: &Item, bytes: &[u8])
-    requires { IsTrue (list_all (is_within (length bytes.now)) (map as_piece item.now.pieces.now)) }
+    requires { IsTrue (list_all (is_within (length bytes.now)) (as_item item.now).pieces) }
     ensures { WritesInCalls S.puts sink.old (item_text (as_item item.now) bytes.now) sink.new }
 {
-    sink.put_str(item.start);
-    put_pieces(sink, item.pieces, bytes);
+    sink.put_str(item.start.as_str());
+    put_pieces(sink, item.pieces.as_slice(), bytes);
 }
 
 /// Puts the whole items of a list.
 fn put_list<S: TextSink>(sink: &mut S, item: &Item, bytes: &[u8])
     requires some { 0 < item.now.size }
-    requires laid_out { IsTrue (list_all (is_within item.now.size) (map as_piece item.now.pieces.now)) }
+    requires laid_out { IsTrue (list_all (is_within item.now.size) (as_item item.now).pieces) }
     ensures { WritesInCalls S.puts sink.old (list_text (as_item item.now) bytes.now) sink.new }
 {
     let mut rest = bytes;
@@ -150,11 +151,11 @@ fn put_row<S: TextSink>(sink: &mut S, row: &Row, content: &[u8])
     requires long { row.now.least ≤ length content.now }
     ensures { WritesInCalls S.puts sink.old (form_text (as_form row.now) content.now) sink.new }
 {
-    sink.put_str(row.start);
-    put_pieces(sink, row.pieces, content);
-    put_tail(sink, row.tail, &content[row.least..]);
-    sink.put_str(row.close);
-    put_pieces(sink, row.rest, content);
+    sink.put_str(row.start.as_str());
+    put_pieces(sink, row.pieces.as_slice(), content);
+    put_tail(sink, row.tail, &content[usize::from(row.least)..]);
+    sink.put_str(row.close.as_str());
+    put_pieces(sink, row.rest.as_slice(), content);
 }
 
 /// The byte at a place, or 0 after the last.
@@ -168,12 +169,10 @@ fn byte_at(content: &[u8], place: usize) -> u8
 }
 
 /// Whether data hold these bytes.
-fn has_bytes(bytes: &[(usize, u8)], content: &[u8]) -> bool
+fn has_bytes(bytes: &[(u8, u8)], content: &[u8]) -> bool
     ensures { result ≡ has_bytes bytes.now content.now }
 {
-    bytes
-        .iter()
-        .all(|(place, byte)| byte_at(content, *place) == *byte)
+    bytes.iter().all(|(place, byte)| byte_at(content, usize::from(*place)) == *byte)
 }
 
 /// Whether a form is used for a text.
@@ -191,7 +190,7 @@ fn is_used(mode: Mode, display_only: bool) -> bool
 fn is_long_enough(row: &Row, len: usize) -> bool
     ensures { result ≡ nat_le (row.now.least + row.now.more) len }
 {
-    row.least <= len && row.more <= len - row.least
+    usize::from(row.least) + usize::from(row.more) <= len
 }
 
 /// Whether a node may have a form.
@@ -199,7 +198,7 @@ pub fn matches(row: &Row, display_only: bool, kind: u8, sub_kind: u8, content: &
     ensures { result ≡ matches display_only kind sub_kind content.now (as_form row.now) }
 {
     let is_kind = row.kind == kind && row.sub_kind == sub_kind && is_used(row.mode, display_only);
-    is_kind && is_long_enough(row, content.len()) && has_bytes(row.when, content)
+    is_kind && is_long_enough(row, content.len()) && has_bytes(row.when.as_slice(), content)
 }
 
 /// The first form of these that a node may have.

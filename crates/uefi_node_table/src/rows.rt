@@ -1,6 +1,7 @@
 //! What a row of the table holds: a form of nodes, and where its fields lie.
 #![tactic(auto)]
 
+use crate::parts::{Bytes, Pieces, Text};
 use crate::words::Words;
 
 /// How the bytes of a field stand in a text.
@@ -26,16 +27,16 @@ pub enum Shape {
     Word(Words),
 }
 
-/// A field in the order of the text. `T` is a text that stays as long as the program: no contract can name a
-/// constant whose type has a reference of its own.
+/// A field in the order of the text. `N` is a number, and `T` a text: no contract can name a constant
+/// whose type has a reference of its own.
 #[derive(Clone, Copy)]
-pub struct PieceOf<T> {
+pub struct PieceOf<N, T> {
     /// How it stands in a text.
     pub shape: Shape,
     /// Where its first byte lies in the data.
-    pub place: usize,
+    pub place: N,
     /// How many bytes it has.
-    pub width: usize,
+    pub width: N,
     /// What stands after it.
     pub ending: T,
 }
@@ -84,9 +85,6 @@ pub struct ItemOf<T, P> {
     pub pieces: P,
 }
 
-/// What each item has.
-pub type Item = ItemOf<&'static str, &'static [Piece]>;
-
 /// For which texts a form is used.
 #[derive(Clone, Copy)]
 pub enum Mode {
@@ -100,7 +98,7 @@ pub enum Mode {
 
 /// A form of the nodes of one kind. A node is printed in the first form of the table that it fits.
 #[derive(Clone, Copy)]
-pub struct RowOf<T, B, P> {
+pub struct RowOf<N, T, B, P> {
     /// The type.
     pub kind: u8,
     /// The sub-type.
@@ -108,9 +106,9 @@ pub struct RowOf<T, B, P> {
     /// For which texts it is used.
     pub mode: Mode,
     /// How many bytes the fixed part of the data has.
-    pub least: usize,
+    pub least: N,
     /// How many bytes the data have after it at least.
-    pub more: usize,
+    pub more: N,
     /// Bytes of the fixed part that distinguish this form from others of its kind: where each lies,
     /// and what it is.
     pub when: B,
@@ -128,8 +126,20 @@ pub struct RowOf<T, B, P> {
     pub rest: P,
 }
 
-/// A field.
-pub type Piece = PieceOf<&'static str>;
+/// A field, packed.
+pub type Piece = PieceOf<u8, Text>;
 
-/// A form.
-pub type Row = RowOf<&'static str, &'static [(usize, u8)], &'static [Piece]>;
+/// What each item has, packed.
+pub type Item = ItemOf<Text, Pieces>;
+
+/// A form, packed.
+pub type Row = RowOf<u8, Text, Bytes, Pieces>;
+
+/// A field, as people write it.
+pub type WrittenPiece = PieceOf<usize, &'static str>;
+
+/// What each item has, as people write it.
+pub type WrittenItem = ItemOf<&'static str, &'static [WrittenPiece]>;
+
+/// A form, as people write it.
+pub type WrittenRow = RowOf<usize, &'static str, &'static [(usize, u8)], &'static [WrittenPiece]>;

@@ -1,16 +1,21 @@
 //! The table of kinds of nodes (UEFI Specification 2.10, sections 10.3 and 10.6.1): a row for each form in
 //! which a node is printed. A kind whose text a row can say stands here and nowhere else. `specs/Rows.antt`
-//! says what a row means.
+//! says what a row means. Definitions alone cite these constants: `packed.rt` is what is compiled.
 #![tactic(auto)]
 
 ghost use Rattle.std.specs.Prelude.{◌≡◌, ◌<◌, ◌≤◌, IsTrue, length, map};
 ghost use Rattle.std.specs.List.{list_all};
+ghost use Rattle.uefi_node_table.specs.Parts.{part_of};
 ghost use Rattle.uefi_node_table.specs.Rows.{as_form, as_item, as_piece, const_form, is_within, item_of};
 ghost use Rattle.uefi_node_table.specs.Table.{group_forms};
 
-use crate::layouts;
-use crate::rows::{Item, ItemOf, Items, Mode, PieceOf, Row, RowOf, Shape, Tail};
+use crate::packed::{ROW_STARTS, ROWS};
+use crate::pools::part;
+use crate::rows::{
+    Item, ItemOf, Items, Mode, PieceOf, Row, RowOf, Shape, Tail, WrittenItem, WrittenRow,
+};
 use crate::words::Words;
+use crate::{layouts, packed};
 
 /// A field of these.
 macro_rules! field {
@@ -230,21 +235,21 @@ macro_rules! boot {
 }
 
 /// The items of [`Items::Numbers`].
-const NUMBERS: Item = ItemOf {
+const NUMBERS: WrittenItem = ItemOf {
     size: 4,
     start: ",0x",
     pieces: fields!([] [Hexadecimal 0 4 ""]),
 };
 
 /// The items of [`Items::Ipv4`].
-const IPV4_ADDRESSES: Item = ItemOf {
+const IPV4_ADDRESSES: WrittenItem = ItemOf {
     size: 16,
     start: ",",
     pieces: fields!([] [Ipv4 0 ""]),
 };
 
 /// The items of [`Items::Ipv6`].
-const IPV6_ADDRESSES: Item = ItemOf {
+const IPV6_ADDRESSES: WrittenItem = ItemOf {
     size: 16,
     start: ",",
     pieces: fields!([] [Ipv6 0 ""]),
@@ -252,7 +257,7 @@ const IPV6_ADDRESSES: Item = ItemOf {
 
 /// Nodes of type Hardware.
 #[rattlefmt::skip]
-const HARDWARE: &[Row] = &[
+const HARDWARE: &[WrittenRow] = &[
     row!(HARDWARE_TYPE PCI Read PCI_LEAST [] [] "Pci(0x" [Hexadecimal PCI_DEVICE ",0x"]
         [Hexadecimal PCI_FUNCTION ")"] Nothing ""),
     row!(HARDWARE_TYPE PCCARD Read PCCARD_LEAST [] [] "PcCard(0x" [Hexadecimal PCCARD_FUNCTION ")"]
@@ -271,7 +276,7 @@ const HARDWARE: &[Row] = &[
 
 /// Nodes of type ACPI that name devices.
 #[rattlefmt::skip]
-const ACPI: &[Row] = &[
+const ACPI: &[WrittenRow] = &[
     acpi_device!([0xd0 0x41 0x03 0x0a] "PciRoot(0x"),
     acpi_device!([0xd0 0x41 0x08 0x0a] "PcieRoot(0x"),
     acpi_device!([0xd0 0x41 0x04 0x06] "Floppy(0x"),
@@ -290,7 +295,7 @@ const ACPI: &[Row] = &[
 
 /// SAS devices, as a vendor's nodes of messages, in no bay. They stand before the nodes of all vendors.
 #[rattlefmt::skip]
-const SAS: &[Row] = &[
+const SAS: &[WrittenRow] = &[
     sas!([36 = 0x00, 37 = 0x00] ",NoTopology,0,0,0,0x"),
     sas!([36 = 0x01, 37 = 0x00] ",SAS,Internal,Direct,0,0x"),
     sas!([36 = 0x11, 37 = 0x00] ",SATA,Internal,Direct,0,0x"),
@@ -304,7 +309,7 @@ const SAS: &[Row] = &[
 
 /// The same in a bay of a drive, and with a topology that no word tells.
 #[rattlefmt::skip]
-const SAS_IN_BAYS: &[Row] = &[
+const SAS_IN_BAYS: &[WrittenRow] = &[
     sas!([36 = 0x02] ",SAS,Internal,Direct,0x" [Next 37 1 ",0x"]),
     sas!([36 = 0x12] ",SATA,Internal,Direct,0x" [Next 37 1 ",0x"]),
     sas!([36 = 0x22] ",SAS,External,Direct,0x" [Next 37 1 ",0x"]),
@@ -318,7 +323,7 @@ const SAS_IN_BAYS: &[Row] = &[
 
 /// SAS devices, as nodes of their own.
 #[rattlefmt::skip]
-const SAS_EX: &[Row] = &[
+const SAS_EX: &[WrittenRow] = &[
     sas_ex!([SAS_EX_INFO = [0x00 0x00]] ",NoTopology,0,0,0)"),
     sas_ex!([SAS_EX_INFO = [0x01 0x00]] ",SAS,Internal,Direct,0)"),
     sas_ex!([SAS_EX_INFO = [0x11 0x00]] ",SATA,Internal,Direct,0)"),
@@ -341,7 +346,7 @@ const SAS_EX: &[Row] = &[
 
 /// Nodes of type Messaging, but for those above and below.
 #[rattlefmt::skip]
-const MESSAGING: &[Row] = &[
+const MESSAGING: &[WrittenRow] = &[
     row!(MESSAGING_TYPE ATAPI Display ATAPI_LEAST [] [] "Ata(0x"
         [Hexadecimal ATAPI_LOGICAL_UNIT_NUMBER ")"] Nothing ""),
     row!(MESSAGING_TYPE ATAPI Read ATAPI_LEAST
@@ -425,7 +430,7 @@ const MESSAGING: &[Row] = &[
 
 /// Connections over IP version 4, with a gateway and a mask and without.
 #[rattlefmt::skip]
-const IPV4: &[Row] = &[
+const IPV4: &[WrittenRow] = &[
     row!(MESSAGING_TYPE IPV4 Display IPV4_LEAST [] [] "IPv4(" [Ipv4 IPV4_REMOTE_IP_ADDRESS ")"]
         Nothing ""),
     ipv4!(whole [IPV4_PROTOCOL = [0x06 0x00], IPV4_IP_ADDRESS_ORIGIN = 0x00] [] ",TCP,DHCP,"),
@@ -444,7 +449,7 @@ const IPV4: &[Row] = &[
 
 /// Connections over IP version 6, with a prefix and a gateway.
 #[rattlefmt::skip]
-const IPV6: &[Row] = &[
+const IPV6: &[WrittenRow] = &[
     row!(MESSAGING_TYPE IPV6 Display 39 [] [] "IPv6(" [Ipv6 IPV6_REMOTE_IP_ADDRESS ")"] Nothing ""),
     ipv6!(whole [IPV6_PROTOCOL = [0x06 0x00], IPV6_IP_ADDRESS_ORIGIN = 0x00] [] ",TCP,Static,"),
     ipv6!(whole [IPV6_PROTOCOL = [0x06 0x00], IPV6_IP_ADDRESS_ORIGIN = 0x01] []
@@ -465,7 +470,7 @@ const IPV6: &[Row] = &[
 
 /// Connections over IP version 6 of older nodes, without these.
 #[rattlefmt::skip]
-const IPV6_SHORT: &[Row] = &[
+const IPV6_SHORT: &[WrittenRow] = &[
     ipv6!(short [IPV6_PROTOCOL = [0x06 0x00], IPV6_IP_ADDRESS_ORIGIN = 0x00] [] ",TCP,Static,"),
     ipv6!(short [IPV6_PROTOCOL = [0x06 0x00], IPV6_IP_ADDRESS_ORIGIN = 0x01] []
         ",TCP,StatelessAutoConfigure,"),
@@ -485,7 +490,7 @@ const IPV6_SHORT: &[Row] = &[
 
 /// Classes of USB devices.
 #[rattlefmt::skip]
-const USB_CLASSES: &[Row] = &[
+const USB_CLASSES: &[WrittenRow] = &[
     usb_class!(0x01 "UsbAudio(0x"),
     usb_class!(0x02 "UsbCDCControl(0x"),
     usb_class!(0x03 "UsbHID(0x"),
@@ -520,7 +525,7 @@ const USB_CLASSES: &[Row] = &[
 
 /// Nodes of type Media, but for those that name files.
 #[rattlefmt::skip]
-const MEDIA: &[Row] = &[
+const MEDIA: &[WrittenRow] = &[
     row!(MEDIA_TYPE HARD_DRIVE Read HARD_DRIVE_LEAST [HARD_DRIVE_SIGNATURE_TYPE = 0x01]
         [HARD_DRIVE_PARTITION_FORMAT = 0x01] "HD(" [Decimal HARD_DRIVE_PARTITION_NUMBER ",MBR,0x"]
         [Back HARD_DRIVE_PARTITION_SIGNATURE + 0 4 ",0x"]
@@ -566,7 +571,7 @@ const MEDIA: &[Row] = &[
 /// Devices that a legacy BIOS can boot, by their types (BIOS Boot Specification). Their flags are left out in
 /// texts for display alone.
 #[rattlefmt::skip]
-const BOOT: &[Row] = &[
+const BOOT: &[WrittenRow] = &[
     boot!(Display 0x01 "BBS(Floppy,"),
     boot!(Display 0x02 "BBS(HD,"),
     boot!(Display 0x03 "BBS(CDROM,"),
@@ -587,140 +592,51 @@ const BOOT: &[Row] = &[
 ];
 
 /// What each item of a list has.
-#[tactic(auto, unfolding(crate::specs::Rows::item_of))]
+#[tactic(auto, unfolding(crate::specs::Parts::pieces_of, crate::specs::Parts::text_of, crate::specs::Rows::item_of))]
 pub fn item_of(items: Items) -> Item
     ensures item { as_item result ≡ item_of items }
     ensures some { 0 < result.size }
     ensures few { result.size ≤ 16 }
-    ensures laid_out { IsTrue (list_all (is_within result.size) (map as_piece result.pieces.now)) }
+    ensures laid_out { IsTrue (list_all (is_within result.size) (as_item result).pieces) }
 {
     match items {
-        Items::Numbers => NUMBERS,
-        Items::Ipv4 => IPV4_ADDRESSES,
-        Items::Ipv6 => IPV6_ADDRESSES,
+        Items::Numbers => packed::NUMBERS_ITEM,
+        Items::Ipv4 => packed::IPV4_ADDRESSES_ITEM,
+        Items::Ipv6 => packed::IPV6_ADDRESSES_ITEM,
     }
 }
 
 /// How many groups of forms there are.
 pub const GROUPS: usize = 12;
 
-/// The forms of [`HARDWARE`].
-///
-/// Each constant has a function of its own, since one that names them all is too large to check.
-fn hardware() -> &'static [Row]
-    ensures forms { map as_form result.now ≡ map const_form HARDWARE.now }
-    ensures few { length result.now ≤ 1000 }
+/// The part of the packed rows that has a group.
+#[tactic(auto, unfolding(crate::specs::Parts::bytes_of, crate::specs::Parts::pieces_of, crate::specs::Parts::text_of, crate::specs::Table::group_forms))]
+fn part_of_group(index: usize) -> u8
+    ensures forms { map as_form (part_of ROWS ROW_STARTS result) ≡ group_forms index }
+    ensures few { length (part_of ROWS ROW_STARTS result) ≤ 1000 }
 {
-    HARDWARE
-}
-
-/// The forms of [`ACPI`].
-fn acpi() -> &'static [Row]
-    ensures forms { map as_form result.now ≡ map const_form ACPI.now }
-    ensures few { length result.now ≤ 1000 }
-{
-    ACPI
-}
-
-/// The forms of [`SAS`].
-fn sas() -> &'static [Row]
-    ensures forms { map as_form result.now ≡ map const_form SAS.now }
-    ensures few { length result.now ≤ 1000 }
-{
-    SAS
-}
-
-/// The forms of [`SAS_IN_BAYS`].
-fn sas_in_bays() -> &'static [Row]
-    ensures forms { map as_form result.now ≡ map const_form SAS_IN_BAYS.now }
-    ensures few { length result.now ≤ 1000 }
-{
-    SAS_IN_BAYS
-}
-
-/// The forms of [`SAS_EX`].
-fn sas_ex() -> &'static [Row]
-    ensures forms { map as_form result.now ≡ map const_form SAS_EX.now }
-    ensures few { length result.now ≤ 1000 }
-{
-    SAS_EX
-}
-
-/// The forms of [`MESSAGING`].
-fn messaging() -> &'static [Row]
-    ensures forms { map as_form result.now ≡ map const_form MESSAGING.now }
-    ensures few { length result.now ≤ 1000 }
-{
-    MESSAGING
-}
-
-/// The forms of [`IPV4`].
-fn ipv4() -> &'static [Row]
-    ensures forms { map as_form result.now ≡ map const_form IPV4.now }
-    ensures few { length result.now ≤ 1000 }
-{
-    IPV4
-}
-
-/// The forms of [`IPV6`].
-fn ipv6() -> &'static [Row]
-    ensures forms { map as_form result.now ≡ map const_form IPV6.now }
-    ensures few { length result.now ≤ 1000 }
-{
-    IPV6
-}
-
-/// The forms of [`IPV6_SHORT`].
-fn ipv6_short() -> &'static [Row]
-    ensures forms { map as_form result.now ≡ map const_form IPV6_SHORT.now }
-    ensures few { length result.now ≤ 1000 }
-{
-    IPV6_SHORT
-}
-
-/// The forms of [`USB_CLASSES`].
-fn usb_classes() -> &'static [Row]
-    ensures forms { map as_form result.now ≡ map const_form USB_CLASSES.now }
-    ensures few { length result.now ≤ 1000 }
-{
-    USB_CLASSES
-}
-
-/// The forms of [`MEDIA`].
-fn media() -> &'static [Row]
-    ensures forms { map as_form result.now ≡ map const_form MEDIA.now }
-    ensures few { length result.now ≤ 1000 }
-{
-    MEDIA
-}
-
-/// The forms of [`BOOT`].
-fn boot() -> &'static [Row]
-    ensures forms { map as_form result.now ≡ map const_form BOOT.now }
-    ensures few { length result.now ≤ 1000 }
-{
-    BOOT
+    match index {
+        0 => 0,
+        1 => 1,
+        2 => 2,
+        3 => 3,
+        4 => 4,
+        5 => 5,
+        6 => 6,
+        7 => 7,
+        8 => 8,
+        9 => 9,
+        10 => 10,
+        11 => 11,
+        // No part begins here, so this one is empty.
+        _ => 12,
+    }
 }
 
 /// The forms of a group.
-#[tactic(auto, unfolding(crate::specs::Table::group_forms))]
 pub fn group(index: usize) -> &'static [Row]
     ensures forms { map as_form result.now ≡ group_forms index }
     ensures few { length result.now ≤ 1000 }
 {
-    match index {
-        0 => hardware(),
-        1 => acpi(),
-        2 => sas(),
-        3 => sas_in_bays(),
-        4 => sas_ex(),
-        5 => messaging(),
-        6 => ipv4(),
-        7 => ipv6(),
-        8 => ipv6_short(),
-        9 => usb_classes(),
-        10 => media(),
-        11 => boot(),
-        _ => &[],
-    }
+    part(&ROWS, &ROW_STARTS, part_of_group(index))
 }

@@ -1,9 +1,8 @@
 //! Words that stand for numbers in texts of nodes (UEFI Specification 2.10, section 10.6.1), and in
 //! those of EDK II. `specs/Words.antt` says what a list means.
-#![tactic(auto, unfolding(crate::specs::Words::words_of))]
+#![tactic(auto)]
 
-ghost use Rattle.std.specs.Prelude.{◌≡◌, map};
-ghost use Rattle.uefi_node_table.specs.Words.{as_word, const_word, suits, word_text, words_of};
+use crate::parts::Text;
 
 /// A list of words, by the field whose numbers they stand for.
 #[derive(Clone, Copy)]
@@ -20,19 +19,22 @@ pub enum Words {
     Protocol,
 }
 
-/// A word of a list. A number has the first that suits it. `T` is a text that stays as long as the program.
+/// A word of a list. A number has the first that suits it. `N` is a number, and `T` a text.
 #[derive(Clone, Copy)]
-pub struct WordOf<T> {
+pub struct WordOf<N, T> {
     /// The bits of a number that count. A word without any suits each number.
-    pub mask: u64,
+    pub mask: N,
     /// What these bits are, and the number that the word is read as.
-    pub number: u64,
+    pub number: N,
     /// The word.
     pub text: T,
 }
 
-/// A word.
-pub type Word = WordOf<&'static str>;
+/// A word, packed.
+pub type Word = WordOf<u16, Text>;
+
+/// A word, as people write it.
+type WrittenWord = WordOf<u64, &'static str>;
 
 /// A word of these.
 macro_rules! word {
@@ -42,7 +44,7 @@ macro_rules! word {
 }
 
 /// The words of [`Words::Parity`].
-const PARITY: &[Word] = &[
+const PARITY: &[WrittenWord] = &[
     word!(0xff 0 "D,"),
     word!(0xff 1 "N,"),
     word!(0xff 2 "E,"),
@@ -53,7 +55,7 @@ const PARITY: &[Word] = &[
 ];
 
 /// The words of [`Words::StopBits`].
-const STOP_BITS: &[Word] = &[
+const STOP_BITS: &[WrittenWord] = &[
     word!(0xff 0 "D)"),
     word!(0xff 1 "1)"),
     word!(0xff 2 "1.5)"),
@@ -62,7 +64,7 @@ const STOP_BITS: &[Word] = &[
 ];
 
 /// The words of [`Words::Digests`].
-const DIGESTS: &[Word] = &[
+const DIGESTS: &[WrittenWord] = &[
     word!(0x0a 0x0a "CRC32C,CRC32C,"),
     word!(0x0a 0x02 "CRC32C,None,"),
     word!(0x0a 0x08 "None,CRC32C,"),
@@ -70,78 +72,11 @@ const DIGESTS: &[Word] = &[
 ];
 
 /// The words of [`Words::Login`].
-const LOGIN: &[Word] = &[
+const LOGIN: &[WrittenWord] = &[
     word!(0x08 0x08 "None,"),
     word!(0x10 0x10 "CHAP_UNI,"),
     word!(0 0 "CHAP_BI,"),
 ];
 
 /// The words of [`Words::Protocol`].
-const PROTOCOL: &[Word] = &[word!(0xffff 0 "TCP)"), word!(0 1 "reserved)")];
-
-/// The words of [`Words::Parity`].
-fn parity() -> &'static [Word]
-    ensures { map as_word result.now ≡ map const_word PARITY.now }
-{
-    PARITY
-}
-
-/// The words of [`Words::StopBits`].
-fn stop_bits() -> &'static [Word]
-    ensures { map as_word result.now ≡ map const_word STOP_BITS.now }
-{
-    STOP_BITS
-}
-
-/// The words of [`Words::Digests`].
-fn digests() -> &'static [Word]
-    ensures { map as_word result.now ≡ map const_word DIGESTS.now }
-{
-    DIGESTS
-}
-
-/// The words of [`Words::Login`].
-fn login() -> &'static [Word]
-    ensures { map as_word result.now ≡ map const_word LOGIN.now }
-{
-    LOGIN
-}
-
-/// The words of [`Words::Protocol`].
-fn protocol() -> &'static [Word]
-    ensures { map as_word result.now ≡ map const_word PROTOCOL.now }
-{
-    PROTOCOL
-}
-
-/// The words of a list.
-pub fn words_of(words: Words) -> &'static [Word]
-    ensures { map as_word result.now ≡ words_of words }
-{
-    match words {
-        Words::Parity => parity(),
-        Words::StopBits => stop_bits(),
-        Words::Digests => digests(),
-        Words::Login => login(),
-        Words::Protocol => protocol(),
-    }
-}
-
-/// Whether a word stands for a number.
-pub fn suits(word: &Word, number: u64) -> bool
-    ensures { result ≡ suits number (as_word word.now) }
-{
-    word.mask == 0 || number & word.mask == word.number
-}
-
-/// The word for a number, or an empty text where no word suits it.
-pub fn word_for(words: &[Word], number: u64) -> &'static str
-    ensures { result.now ≡ word_text (map as_word words.now) number }
-{
-    for word in words {
-        if suits(word, number) {
-            return word.text;
-        }
-    }
-    ""
-}
+const PROTOCOL: &[WrittenWord] = &[word!(0xffff 0 "TCP)"), word!(0 1 "reserved)")];

@@ -19,7 +19,7 @@ returns-in-Some c =
     let whole : take form.least (c.set_pieces.new.content ++ drop form.least c.fixed_part-fixed.result) ≡ c.set_pieces.new.content =
     take_at c.set_pieces.new.content (drop form.least c.fixed_part-fixed.result) form.least size in
     let start = rw c.in_ok-rest.was at c.after_literal.ensures in
-    let fields = rw c.in_ok-rest-2.was at c.set_pieces.ensures in
+    let fields = rw (c.in_ok-rest-2.was, c.as_slice.ensures) at c.set_pieces.ensures in
     let told = rw c.in-Some.is at c.told.ensures in
     told_by form c.args.text.now c.in_ok-rest.rest.now read
     (start ∙ ap (λ (s : List ℕ). after_literal s c.args.text.now) c.as_bytes.ensures.value)
@@ -35,7 +35,7 @@ returns-in-None c =
     let whole : take form.least (c.set_pieces.new.content ++ drop form.least c.fixed_part-fixed.result) ≡ c.set_pieces.new.content =
     take_at c.set_pieces.new.content (drop form.least c.fixed_part-fixed.result) form.least size in
     let start = rw c.in_ok-rest.was at c.after_literal.ensures in
-    let fields = rw c.in_ok-rest-2.was at c.set_pieces.ensures in
+    let fields = rw (c.in_ok-rest-2.was, c.as_slice.ensures) at c.set_pieces.ensures in
     let told = rw c.in-None.is at c.told.ensures in
     untold_by form c.args.text.now c.in_ok-rest.rest.now read
     (start ∙ ap (λ (s : List ℕ). after_literal s c.args.text.now) c.as_bytes.ensures.value)

@@ -5,14 +5,15 @@ use Rattle.uefi_node_reader.proofs.FixedParts.{also_within, fixed_is, when_withi
 use Rattle.uefi_node_reader.proofs.table_reader.fixed_part.Goals as goal
 
 pub put_bytes-requires : goal.put_bytes-requires
-put_bytes-requires c = when_within (as_form c.args.row.now) c.requires
+put_bytes-requires c = rw c.as_slice.ensures (when_within (as_form c.args.row.now) c.requires)
 
 pub put_bytes-requires-2 : goal.put_bytes-requires-2
 put_bytes-requires-2 c =
-    ap (λ (n : ℕ). are_within n c.args.row.now.also.now) c.put_bytes.auto.content ∙ also_within (as_form c.args.row.now) c.requires
+    rw c.as_slice-2.ensures (ap (λ (n : ℕ). are_within n (as_form c.args.row.now).also) c.put_bytes.auto.content ∙ also_within (as_form c.args.row.now) c.requires)
 
 pub returns : goal.returns
 returns c =
-    let row = c.args.row.now in
-    ap (λ (l : List ℕ). take row.least l) (c.put_bytes-2.ensures ∙ ap (λ (l : List ℕ). put_all row.also.now l) c.put_bytes.ensures)
-    ∙ fixed_is (as_form row) c.requires _ refl
+    let form = as_form c.args.row.now in
+    ap (λ (l : List ℕ). take form.least l)
+    ((rw c.as_slice-2.ensures at c.put_bytes-2.ensures) ∙ ap (λ (l : List ℕ). put_all form.also l) (rw c.as_slice.ensures at c.put_bytes.ensures))
+    ∙ fixed_is form c.requires _ refl

@@ -11,6 +11,6 @@ returns c =
     let fixed : List ℕ = c.args.fixed.now in
     let both = overlay-append form.pieces form.rest fixed (blank form) in
     let first : List ℕ = overlay form.pieces fixed (blank form) in
-    let one : c.put_all_kept.new.content ≡ first = c.put_all_kept.ensures ∙ ap (overlay form.pieces fixed) c.fixed_part-again.ensures in
-    let two : c.put_all_kept-2.new.content ≡ overlay form.rest fixed first = c.put_all_kept-2.ensures ∙ ap (overlay form.rest fixed) one in
+    let one : c.put_all_kept.new.content ≡ first = (rw c.as_slice.ensures at c.put_all_kept.ensures) ∙ ap (overlay form.pieces fixed) c.fixed_part-again.ensures in
+    let two : c.put_all_kept-2.new.content ≡ overlay form.rest fixed first = (rw c.as_slice-2.ensures at c.put_all_kept-2.ensures) ∙ ap (overlay form.rest fixed) one in
     c.eq.ensures ∙ ap (λ (x : List ℕ). pointwise eqb x fixed) (two ∙ sym both)

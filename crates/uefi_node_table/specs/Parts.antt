@@ -1,0 +1,26 @@
+-- The parts of the packed table: texts, bytes and fields, by their numbers.
+use Rattle.std.specs.Prelude.{ℕ, ◌+◌, ◌-◌, List, drop, slice_index, take}
+use Rattle.uefi_node_table.specs.declared.packed.TheConstants.{BYTE_STARTS, BYTES, PIECE_STARTS}
+use Rattle.uefi_node_table.specs.declared.packed.TheConstants.{PIECES, TEXT_STARTS, TEXTS}
+use Rattle.uefi_node_table.specs.declared.parts.Bytes.{Bytes}
+use Rattle.uefi_node_table.specs.declared.parts.Pieces.{Pieces}
+use Rattle.uefi_node_table.specs.declared.parts.Text.{Text}
+use Rattle.uefi_node_table.specs.declared.rows.PieceOf.{PieceOf}
+
+-- the part that has a number: from where it begins to where the next does
+abbrev pub part_of : {X : Type 0} → List X → List ℕ → ℕ → List X
+part_of items starts number =
+    take (slice_index starts (number + 1) - slice_index starts number)
+    (drop (slice_index starts number) items)
+
+-- the text
+unfoldable pub text_of : Text → List ℕ
+text_of t = part_of TEXTS TEXT_STARTS t.number
+
+-- the bytes: where each lies, and what it is
+unfoldable pub bytes_of : Bytes → List (ℕ × ℕ)
+bytes_of b = part_of BYTES BYTE_STARTS b.number
+
+-- the fields
+unfoldable pub pieces_of : Pieces → List (PieceOf ℕ Text)
+pieces_of p = part_of PIECES PIECE_STARTS p.number

@@ -1,0 +1,572 @@
+//! The packed table, which is compiled. tools/pack-table makes this file from the table that people write, in
+//! `table.rt`, `words.rt` and `other_forms.rt` of `uefi_node_reader`. Definitions cite the written table, and
+//! `group`, `item_of`, `words_of`, `own_forms` and `pasted_forms` prove that the packed one means the same.
+//!
+//! Texts, fields, bytes, rows and words are one constant each. Part `n` of a constant begins at number `n` of
+//! its starts, and ends where part `n + 1` begins.
+#![tactic(auto)]
+
+use crate::parts::{Bytes, Pieces, Text};
+use crate::rows::{Item, ItemOf, Items, Mode, Piece, PieceOf, Row, RowOf, Shape, Tail};
+use crate::words::{Word, WordOf, Words};
+
+/// Fields: the shape, the place, the width, and the number of the text that stands after it.
+macro_rules! pieces {
+    ($($shape:ident $(($words:ident))? $place:literal $width:literal $ending:literal),*) => {
+        [$(PieceOf {
+            shape: Shape::$shape $((Words::$words))?,
+            place: $place,
+            width: $width,
+            ending: Text { number: $ending },
+        }),*]
+    };
+}
+
+/// An item: the size, and the numbers of its text and its fields.
+macro_rules! item {
+    ($size:literal $start:literal $pieces:literal) => {
+        ItemOf {
+            size: $size,
+            start: Text { number: $start },
+            pieces: Pieces { number: $pieces },
+        }
+    };
+}
+
+/// Rows: the type, the sub-type, the mode, the least length and what follows it, and then in the order of
+/// [`RowOf`] the tail, and the numbers of the parts.
+macro_rules! rows {
+    ($($kind:literal $sub_kind:literal $mode:ident $least:literal $more:literal $when:literal $also:literal
+        $start:literal $pieces:literal $tail:ident $(($items:ident))? $close:literal $rest:literal),*) => {
+        [$(RowOf {
+            kind: $kind,
+            sub_kind: $sub_kind,
+            mode: Mode::$mode,
+            least: $least,
+            more: $more,
+            when: Bytes { number: $when },
+            also: Bytes { number: $also },
+            start: Text { number: $start },
+            pieces: Pieces { number: $pieces },
+            tail: Tail::$tail $((Items::$items))?,
+            close: Text { number: $close },
+            rest: Pieces { number: $rest },
+        }),*]
+    };
+}
+
+/// Words: the bits that count, what they are, and the number of the text.
+macro_rules! words {
+    ($($mask:literal $number:literal $text:literal),*) => {
+        [$(WordOf { mask: $mask, number: $number, text: Text { number: $text } }),*]
+    };
+}
+
+/// The texts.
+#[rattlefmt::skip]
+pub const TEXTS: [u8; 2094] = *b"\
+    ,0x,.:Pci(0x)PcCard(0xMemoryMapped(0xVenHw(-Ctrl(0xBMC(0xPciRoot(0xPcieRoot(0xFloppy(0xKeyboard(0x\
+    Serial(0xParallelPort(0xAcpi(PNPAcpiEx(AcpiAdr(0xAcpi(0xSAS(0x,NoTopology,0,0,0,0x,SAS,Internal,Di\
+    rect,0,0x,SATA,Internal,Direct,0,0x,SAS,External,Direct,0,0x,SATA,External,Direct,0,0x,SAS,Interna\
+    l,Expanded,0,0x,SATA,Internal,Expanded,0,0x,SAS,External,Expanded,0,0x,SATA,External,Expanded,0,0x\
+    ,SAS,Internal,Direct,0x,SATA,Internal,Direct,0x,SAS,External,Direct,0x,SATA,External,Direct,0x,SAS\
+    ,Internal,Expanded,0x,SATA,Internal,Expanded,0x,SAS,External,Expanded,0x,SATA,External,Expanded,0x\
+    ,0,0,0,0xSasEx(0x,NoTopology,0,0,0),SAS,Internal,Direct,0),SATA,Internal,Direct,0),SAS,External,Di\
+    rect,0),SATA,External,Direct,0),SAS,Internal,Expanded,0),SATA,Internal,Expanded,0),SAS,External,Ex\
+    panded,0),SATA,External,Expanded,0),0,0,0)Ata(0xAta(Secondary,Slave,0xAta(Secondary,Master,0xAta(P\
+    rimary,Slave,0xAta(Primary,Master,0xScsi(0xFibre(0xI1394(USB(0xI2O(0xInfiniband(0xUartFlowCtrl(Non\
+    e)UartFlowCtrl(Hardware)UartFlowCtrl(XonXoff)VenMsg(MAC(,0x0),0x1)Uart(UsbWwid(0x,\"\")Dns(Unit(0xSa\
+    ta(0xVlan(FibreEx(0xNVMe(0xiSCSI(Wi-Fi(Uri(UFS(0xSD(0xBluetooth(eMMC(0xBluetoothLE(IPv4(,TCP,DHCP,\
+    ,TCP,Static,,UDP,DHCP,,UDP,Static,,DHCP,,Static,IPv6(,TCP,StatelessAutoConfigure,,TCP,StatefulAuto\
+    Configure,,UDP,StatelessAutoConfigure,,UDP,StatefulAutoConfigure,,StatelessAutoConfigure,,Stateful\
+    AutoConfigure,UsbAudio(0xUsbCDCControl(0xUsbHID(0xUsbImage(0xUsbPrinter(0xUsbMassStorage(0xUsbHub(\
+    0xUsbCDCData(0xUsbSmartCard(0xUsbVideo(0xUsbDiagnostic(0xUsbWireless(0xUsbDeviceFirmwareUpdate(0xU\
+    sbIrdaBridge(0xUsbTestAndMeasurement(0xUsbClass(0xHD(,MBR,0x,GPT,,0,0xCDROM(0xVenMedia(Media(FvFil\
+    e(Fv(Offset(0xVirtualDisk(0xVirtualCD(0xPersistentVirtualDisk(0xPersistentVirtualCD(0xRamDisk(0xBB\
+    S(Floppy,BBS(HD,BBS(CDROM,BBS(PCMCIA,BBS(USB,BBS(Network,BBS(0xD,N,E,O,M,S,x,D)1)1.5)2)x)CRC32C,CR\
+    C32C,CRC32C,None,None,CRC32C,None,None,None,CHAP_UNI,CHAP_BI,TCP)reserved)ATA(NVME(0xVenPcAnsi()Ve\
+    nVt100()VenVt100Plus()VenUtf8()DebugPort()Ata(0x0)Ata(Primary,Master)Ata(Primary,Slave)Ata(Seconda\
+    ry,Master)Ata(Secondary,Slave)FvVol(";
+
+/// Where each text begins.
+#[rattlefmt::skip]
+pub const TEXT_STARTS: [u16; 176] = [
+    0, 0, 3, 4, 5, 6, 12, 13, 22, 37, 43, 44, 51, 57, 67, 78, 87, 98, 107, 122, 130, 137, 147, 154, 160,
+    180, 205, 231, 256, 282, 309, 337, 364, 392, 415, 439, 462, 486, 511, 537, 562, 588, 597, 605, 623,
+    646, 670, 693, 717, 742, 768, 793, 819, 826, 832, 854, 877, 897, 918, 925, 933, 939, 945, 951, 964,
+    982, 1004, 1025, 1032, 1036, 1041, 1046, 1051, 1061, 1063, 1065, 1069, 1076, 1083, 1088, 1098, 1105,
+    1111, 1117, 1121, 1127, 1132, 1142, 1149, 1161, 1166, 1176, 1188, 1198, 1210, 1216, 1224, 1229,
+    1257, 1284, 1312, 1339, 1363, 1386, 1397, 1413, 1422, 1433, 1446, 1463, 1472, 1485, 1500, 1511,
+    1527, 1541, 1567, 1583, 1607, 1618, 1621, 1628, 1633, 1638, 1646, 1655, 1661, 1668, 1671, 1680,
+    1694, 1706, 1730, 1752, 1762, 1773, 1780, 1790, 1801, 1809, 1821, 1827, 1829, 1831, 1833, 1835,
+    1837, 1839, 1841, 1843, 1845, 1849, 1851, 1853, 1867, 1879, 1891, 1901, 1906, 1915, 1923, 1927,
+    1936, 1940, 1947, 1958, 1968, 1982, 1991, 2002, 2010, 2029, 2047, 2068, 2088, 2094
+];
+
+/// The fields.
+#[rattlefmt::skip]
+pub const PIECES: [Piece; 860] = pieces!(
+    Hexadecimal 0 4 0, Decimal 0 1 3, Decimal 1 1 3, Decimal 2 1 3, Decimal 3 1 0, Forth 0 2 4,
+    Forth 2 2 4, Forth 4 2 4, Forth 6 2 4, Forth 8 2 4, Forth 10 2 4, Forth 12 2 4, Forth 14 2 0,
+    Hexadecimal 1 1 1, Hexadecimal 0 1 6, Hexadecimal 0 1 6, Hexadecimal 0 4 1, Hexadecimal 4 8 1,
+    Hexadecimal 12 8 6, Back 0 4 10, Back 4 2 10, Back 6 2 10, Forth 8 2 10, Forth 10 6 0,
+    Hexadecimal 0 4 6, Hexadecimal 0 1 1, Hexadecimal 1 8 6, Hexadecimal 4 4 6, Back 2 2 1,
+    Hexadecimal 4 4 6, Eisa 0 4 2, Eisa 8 4 1, Hexadecimal 4 4 2, Back 0 4 1, Hexadecimal 4 4 6,
+    Hexadecimal 20 8 1, Hexadecimal 28 8 1, Hexadecimal 38 2 24, Hexadecimal 16 4 6, Hexadecimal 20 8 1,
+    Hexadecimal 28 8 1, Hexadecimal 38 2 25, Hexadecimal 16 4 6, Hexadecimal 20 8 1, Hexadecimal 28 8 1,
+    Hexadecimal 38 2 26, Hexadecimal 16 4 6, Hexadecimal 20 8 1, Hexadecimal 28 8 1,
+    Hexadecimal 38 2 27, Hexadecimal 16 4 6, Hexadecimal 20 8 1, Hexadecimal 28 8 1,
+    Hexadecimal 38 2 28, Hexadecimal 16 4 6, Hexadecimal 20 8 1, Hexadecimal 28 8 1,
+    Hexadecimal 38 2 29, Hexadecimal 16 4 6, Hexadecimal 20 8 1, Hexadecimal 28 8 1,
+    Hexadecimal 38 2 30, Hexadecimal 16 4 6, Hexadecimal 20 8 1, Hexadecimal 28 8 1,
+    Hexadecimal 38 2 31, Hexadecimal 16 4 6, Hexadecimal 20 8 1, Hexadecimal 28 8 1,
+    Hexadecimal 38 2 32, Hexadecimal 16 4 6, Hexadecimal 20 8 1, Hexadecimal 28 8 1,
+    Hexadecimal 38 2 33, Next 37 1 1, Hexadecimal 16 4 6, Hexadecimal 20 8 1, Hexadecimal 28 8 1,
+    Hexadecimal 38 2 34, Next 37 1 1, Hexadecimal 16 4 6, Hexadecimal 20 8 1, Hexadecimal 28 8 1,
+    Hexadecimal 38 2 35, Next 37 1 1, Hexadecimal 16 4 6, Hexadecimal 20 8 1, Hexadecimal 28 8 1,
+    Hexadecimal 38 2 36, Next 37 1 1, Hexadecimal 16 4 6, Hexadecimal 20 8 1, Hexadecimal 28 8 1,
+    Hexadecimal 38 2 37, Next 37 1 1, Hexadecimal 16 4 6, Hexadecimal 20 8 1, Hexadecimal 28 8 1,
+    Hexadecimal 38 2 38, Next 37 1 1, Hexadecimal 16 4 6, Hexadecimal 20 8 1, Hexadecimal 28 8 1,
+    Hexadecimal 38 2 39, Next 37 1 1, Hexadecimal 16 4 6, Hexadecimal 20 8 1, Hexadecimal 28 8 1,
+    Hexadecimal 38 2 40, Next 37 1 1, Hexadecimal 16 4 6, Hexadecimal 20 8 1, Hexadecimal 28 8 1,
+    Hexadecimal 38 2 1, Hexadecimal 36 2 41, Hexadecimal 16 4 6, Forth 0 8 1, Forth 8 8 1,
+    Hexadecimal 18 2 43, Forth 0 8 1, Forth 8 8 1, Hexadecimal 18 2 44, Forth 0 8 1, Forth 8 8 1,
+    Hexadecimal 18 2 45, Forth 0 8 1, Forth 8 8 1, Hexadecimal 18 2 46, Forth 0 8 1, Forth 8 8 1,
+    Hexadecimal 18 2 47, Forth 0 8 1, Forth 8 8 1, Hexadecimal 18 2 48, Forth 0 8 1, Forth 8 8 1,
+    Hexadecimal 18 2 49, Forth 0 8 1, Forth 8 8 1, Hexadecimal 18 2 50, Forth 0 8 1, Forth 8 8 1,
+    Hexadecimal 18 2 51, Forth 0 8 1, Forth 8 8 1, Hexadecimal 18 2 33, Next 17 1 6, Forth 0 8 1,
+    Forth 8 8 1, Hexadecimal 18 2 34, Next 17 1 6, Forth 0 8 1, Forth 8 8 1, Hexadecimal 18 2 35,
+    Next 17 1 6, Forth 0 8 1, Forth 8 8 1, Hexadecimal 18 2 36, Next 17 1 6, Forth 0 8 1, Forth 8 8 1,
+    Hexadecimal 18 2 37, Next 17 1 6, Forth 0 8 1, Forth 8 8 1, Hexadecimal 18 2 38, Next 17 1 6,
+    Forth 0 8 1, Forth 8 8 1, Hexadecimal 18 2 39, Next 17 1 6, Forth 0 8 1, Forth 8 8 1,
+    Hexadecimal 18 2 40, Next 17 1 6, Forth 0 8 1, Forth 8 8 1, Hexadecimal 18 2 1, Hexadecimal 16 2 52,
+    Hexadecimal 2 2 6, Hexadecimal 0 2 1, Hexadecimal 2 2 6, Hexadecimal 4 8 1, Hexadecimal 12 8 6,
+    Back 4 8 6, Hexadecimal 0 1 1, Hexadecimal 1 1 6, Hexadecimal 0 4 2, Back 4 4 10, Back 8 2 10,
+    Back 10 2 10, Forth 12 2 10, Forth 14 6 1, Hexadecimal 20 8 1, Hexadecimal 28 8 1,
+    Hexadecimal 36 8 6, Forth 0 6 69, Forth 0 6 70, Forth 0 32 1, Hexadecimal 32 1 6, OrDefault 4 8 2,
+    OrDefault 12 1 2, Word(Parity) 13 1 0, Word(StopBits) 14 1 0, Hexadecimal 2 2 1, Hexadecimal 4 2 1,
+    Hexadecimal 0 2 73, Decimal 1 1 3, Decimal 2 1 3, Decimal 3 1 3, Decimal 4 1 0, Forth 1 2 4,
+    Forth 3 2 4, Forth 5 2 4, Forth 7 2 4, Forth 9 2 4, Forth 11 2 4, Forth 13 2 4, Forth 15 2 0,
+    Hexadecimal 0 2 1, Hexadecimal 2 2 1, Hexadecimal 4 2 6, Decimal 0 2 6, Forth 4 8 1, Forth 12 8 6,
+    Hexadecimal 0 4 2, Dashed 4 8 6, Hexadecimal 12 2 1, Forth 4 8 2, Word(Digests) 2 1 0,
+    Word(Login) 3 1 0, Word(Protocol) 0 2 0, Forth 0 6 6, Forth 0 6 1, Forth 6 1 6, Decimal 4 1 3,
+    Decimal 5 1 3, Decimal 6 1 3, Decimal 7 1 6, Decimal 4 1 3, Decimal 5 1 3, Decimal 6 1 3,
+    Decimal 7 1 90, Decimal 0 1 3, Decimal 1 1 3, Decimal 2 1 3, Decimal 3 1 2, Decimal 15 1 3,
+    Decimal 16 1 3, Decimal 17 1 3, Decimal 18 1 2, Decimal 19 1 3, Decimal 20 1 3, Decimal 21 1 3,
+    Decimal 22 1 6, Decimal 4 1 3, Decimal 5 1 3, Decimal 6 1 3, Decimal 7 1 91, Decimal 0 1 3,
+    Decimal 1 1 3, Decimal 2 1 3, Decimal 3 1 2, Decimal 15 1 3, Decimal 16 1 3, Decimal 17 1 3,
+    Decimal 18 1 2, Decimal 19 1 3, Decimal 20 1 3, Decimal 21 1 3, Decimal 22 1 6, Decimal 4 1 3,
+    Decimal 5 1 3, Decimal 6 1 3, Decimal 7 1 92, Decimal 0 1 3, Decimal 1 1 3, Decimal 2 1 3,
+    Decimal 3 1 2, Decimal 15 1 3, Decimal 16 1 3, Decimal 17 1 3, Decimal 18 1 2, Decimal 19 1 3,
+    Decimal 20 1 3, Decimal 21 1 3, Decimal 22 1 6, Decimal 4 1 3, Decimal 5 1 3, Decimal 6 1 3,
+    Decimal 7 1 93, Decimal 0 1 3, Decimal 1 1 3, Decimal 2 1 3, Decimal 3 1 2, Decimal 15 1 3,
+    Decimal 16 1 3, Decimal 17 1 3, Decimal 18 1 2, Decimal 19 1 3, Decimal 20 1 3, Decimal 21 1 3,
+    Decimal 22 1 6, Decimal 4 1 3, Decimal 5 1 3, Decimal 6 1 3, Decimal 7 1 1, Hexadecimal 12 2 94,
+    Decimal 0 1 3, Decimal 1 1 3, Decimal 2 1 3, Decimal 3 1 2, Decimal 15 1 3, Decimal 16 1 3,
+    Decimal 17 1 3, Decimal 18 1 2, Decimal 19 1 3, Decimal 20 1 3, Decimal 21 1 3, Decimal 22 1 6,
+    Decimal 4 1 3, Decimal 5 1 3, Decimal 6 1 3, Decimal 7 1 1, Hexadecimal 12 2 95, Decimal 0 1 3,
+    Decimal 1 1 3, Decimal 2 1 3, Decimal 3 1 2, Decimal 15 1 3, Decimal 16 1 3, Decimal 17 1 3,
+    Decimal 18 1 2, Decimal 19 1 3, Decimal 20 1 3, Decimal 21 1 3, Decimal 22 1 6, Decimal 4 1 3,
+    Decimal 5 1 3, Decimal 6 1 3, Decimal 7 1 90, Decimal 0 1 3, Decimal 1 1 3, Decimal 2 1 3,
+    Decimal 3 1 6, Decimal 4 1 3, Decimal 5 1 3, Decimal 6 1 3, Decimal 7 1 91, Decimal 0 1 3,
+    Decimal 1 1 3, Decimal 2 1 3, Decimal 3 1 6, Decimal 4 1 3, Decimal 5 1 3, Decimal 6 1 3,
+    Decimal 7 1 92, Decimal 0 1 3, Decimal 1 1 3, Decimal 2 1 3, Decimal 3 1 6, Decimal 4 1 3,
+    Decimal 5 1 3, Decimal 6 1 3, Decimal 7 1 93, Decimal 0 1 3, Decimal 1 1 3, Decimal 2 1 3,
+    Decimal 3 1 6, Decimal 4 1 3, Decimal 5 1 3, Decimal 6 1 3, Decimal 7 1 1, Hexadecimal 12 2 94,
+    Decimal 0 1 3, Decimal 1 1 3, Decimal 2 1 3, Decimal 3 1 6, Decimal 4 1 3, Decimal 5 1 3,
+    Decimal 6 1 3, Decimal 7 1 1, Hexadecimal 12 2 95, Decimal 0 1 3, Decimal 1 1 3, Decimal 2 1 3,
+    Decimal 3 1 6, Forth 16 2 4, Forth 18 2 4, Forth 20 2 4, Forth 22 2 4, Forth 24 2 4, Forth 26 2 4,
+    Forth 28 2 4, Forth 30 2 6, Forth 16 2 4, Forth 18 2 4, Forth 20 2 4, Forth 22 2 4, Forth 24 2 4,
+    Forth 26 2 4, Forth 28 2 4, Forth 30 2 91, Forth 0 2 4, Forth 2 2 4, Forth 4 2 4, Forth 6 2 4,
+    Forth 8 2 4, Forth 10 2 4, Forth 12 2 4, Forth 14 2 1, Hexadecimal 39 1 2, Forth 40 2 4,
+    Forth 42 2 4, Forth 44 2 4, Forth 46 2 4, Forth 48 2 4, Forth 50 2 4, Forth 52 2 4, Forth 54 2 6,
+    Forth 16 2 4, Forth 18 2 4, Forth 20 2 4, Forth 22 2 4, Forth 24 2 4, Forth 26 2 4, Forth 28 2 4,
+    Forth 30 2 97, Forth 0 2 4, Forth 2 2 4, Forth 4 2 4, Forth 6 2 4, Forth 8 2 4, Forth 10 2 4,
+    Forth 12 2 4, Forth 14 2 1, Hexadecimal 39 1 2, Forth 40 2 4, Forth 42 2 4, Forth 44 2 4,
+    Forth 46 2 4, Forth 48 2 4, Forth 50 2 4, Forth 52 2 4, Forth 54 2 6, Forth 16 2 4, Forth 18 2 4,
+    Forth 20 2 4, Forth 22 2 4, Forth 24 2 4, Forth 26 2 4, Forth 28 2 4, Forth 30 2 98, Forth 0 2 4,
+    Forth 2 2 4, Forth 4 2 4, Forth 6 2 4, Forth 8 2 4, Forth 10 2 4, Forth 12 2 4, Forth 14 2 1,
+    Hexadecimal 39 1 2, Forth 40 2 4, Forth 42 2 4, Forth 44 2 4, Forth 46 2 4, Forth 48 2 4,
+    Forth 50 2 4, Forth 52 2 4, Forth 54 2 6, Forth 16 2 4, Forth 18 2 4, Forth 20 2 4, Forth 22 2 4,
+    Forth 24 2 4, Forth 26 2 4, Forth 28 2 4, Forth 30 2 93, Forth 0 2 4, Forth 2 2 4, Forth 4 2 4,
+    Forth 6 2 4, Forth 8 2 4, Forth 10 2 4, Forth 12 2 4, Forth 14 2 1, Hexadecimal 39 1 2,
+    Forth 40 2 4, Forth 42 2 4, Forth 44 2 4, Forth 46 2 4, Forth 48 2 4, Forth 50 2 4, Forth 52 2 4,
+    Forth 54 2 6, Forth 16 2 4, Forth 18 2 4, Forth 20 2 4, Forth 22 2 4, Forth 24 2 4, Forth 26 2 4,
+    Forth 28 2 4, Forth 30 2 99, Forth 0 2 4, Forth 2 2 4, Forth 4 2 4, Forth 6 2 4, Forth 8 2 4,
+    Forth 10 2 4, Forth 12 2 4, Forth 14 2 1, Hexadecimal 39 1 2, Forth 40 2 4, Forth 42 2 4,
+    Forth 44 2 4, Forth 46 2 4, Forth 48 2 4, Forth 50 2 4, Forth 52 2 4, Forth 54 2 6, Forth 16 2 4,
+    Forth 18 2 4, Forth 20 2 4, Forth 22 2 4, Forth 24 2 4, Forth 26 2 4, Forth 28 2 4, Forth 30 2 100,
+    Forth 0 2 4, Forth 2 2 4, Forth 4 2 4, Forth 6 2 4, Forth 8 2 4, Forth 10 2 4, Forth 12 2 4,
+    Forth 14 2 1, Hexadecimal 39 1 2, Forth 40 2 4, Forth 42 2 4, Forth 44 2 4, Forth 46 2 4,
+    Forth 48 2 4, Forth 50 2 4, Forth 52 2 4, Forth 54 2 6, Forth 16 2 4, Forth 18 2 4, Forth 20 2 4,
+    Forth 22 2 4, Forth 24 2 4, Forth 26 2 4, Forth 28 2 4, Forth 30 2 1, Hexadecimal 36 2 95,
+    Forth 0 2 4, Forth 2 2 4, Forth 4 2 4, Forth 6 2 4, Forth 8 2 4, Forth 10 2 4, Forth 12 2 4,
+    Forth 14 2 1, Hexadecimal 39 1 2, Forth 40 2 4, Forth 42 2 4, Forth 44 2 4, Forth 46 2 4,
+    Forth 48 2 4, Forth 50 2 4, Forth 52 2 4, Forth 54 2 6, Forth 16 2 4, Forth 18 2 4, Forth 20 2 4,
+    Forth 22 2 4, Forth 24 2 4, Forth 26 2 4, Forth 28 2 4, Forth 30 2 1, Hexadecimal 36 2 101,
+    Forth 0 2 4, Forth 2 2 4, Forth 4 2 4, Forth 6 2 4, Forth 8 2 4, Forth 10 2 4, Forth 12 2 4,
+    Forth 14 2 1, Hexadecimal 39 1 2, Forth 40 2 4, Forth 42 2 4, Forth 44 2 4, Forth 46 2 4,
+    Forth 48 2 4, Forth 50 2 4, Forth 52 2 4, Forth 54 2 6, Forth 16 2 4, Forth 18 2 4, Forth 20 2 4,
+    Forth 22 2 4, Forth 24 2 4, Forth 26 2 4, Forth 28 2 4, Forth 30 2 1, Hexadecimal 36 2 102,
+    Forth 0 2 4, Forth 2 2 4, Forth 4 2 4, Forth 6 2 4, Forth 8 2 4, Forth 10 2 4, Forth 12 2 4,
+    Forth 14 2 1, Hexadecimal 39 1 2, Forth 40 2 4, Forth 42 2 4, Forth 44 2 4, Forth 46 2 4,
+    Forth 48 2 4, Forth 50 2 4, Forth 52 2 4, Forth 54 2 6, Forth 16 2 4, Forth 18 2 4, Forth 20 2 4,
+    Forth 22 2 4, Forth 24 2 4, Forth 26 2 4, Forth 28 2 4, Forth 30 2 91, Forth 0 2 4, Forth 2 2 4,
+    Forth 4 2 4, Forth 6 2 4, Forth 8 2 4, Forth 10 2 4, Forth 12 2 4, Forth 14 2 6, Forth 16 2 4,
+    Forth 18 2 4, Forth 20 2 4, Forth 22 2 4, Forth 24 2 4, Forth 26 2 4, Forth 28 2 4, Forth 30 2 97,
+    Forth 0 2 4, Forth 2 2 4, Forth 4 2 4, Forth 6 2 4, Forth 8 2 4, Forth 10 2 4, Forth 12 2 4,
+    Forth 14 2 6, Forth 16 2 4, Forth 18 2 4, Forth 20 2 4, Forth 22 2 4, Forth 24 2 4, Forth 26 2 4,
+    Forth 28 2 4, Forth 30 2 98, Forth 0 2 4, Forth 2 2 4, Forth 4 2 4, Forth 6 2 4, Forth 8 2 4,
+    Forth 10 2 4, Forth 12 2 4, Forth 14 2 6, Forth 16 2 4, Forth 18 2 4, Forth 20 2 4, Forth 22 2 4,
+    Forth 24 2 4, Forth 26 2 4, Forth 28 2 4, Forth 30 2 93, Forth 0 2 4, Forth 2 2 4, Forth 4 2 4,
+    Forth 6 2 4, Forth 8 2 4, Forth 10 2 4, Forth 12 2 4, Forth 14 2 6, Forth 16 2 4, Forth 18 2 4,
+    Forth 20 2 4, Forth 22 2 4, Forth 24 2 4, Forth 26 2 4, Forth 28 2 4, Forth 30 2 99, Forth 0 2 4,
+    Forth 2 2 4, Forth 4 2 4, Forth 6 2 4, Forth 8 2 4, Forth 10 2 4, Forth 12 2 4, Forth 14 2 6,
+    Forth 16 2 4, Forth 18 2 4, Forth 20 2 4, Forth 22 2 4, Forth 24 2 4, Forth 26 2 4, Forth 28 2 4,
+    Forth 30 2 100, Forth 0 2 4, Forth 2 2 4, Forth 4 2 4, Forth 6 2 4, Forth 8 2 4, Forth 10 2 4,
+    Forth 12 2 4, Forth 14 2 6, Forth 16 2 4, Forth 18 2 4, Forth 20 2 4, Forth 22 2 4, Forth 24 2 4,
+    Forth 26 2 4, Forth 28 2 4, Forth 30 2 1, Hexadecimal 36 2 95, Forth 0 2 4, Forth 2 2 4,
+    Forth 4 2 4, Forth 6 2 4, Forth 8 2 4, Forth 10 2 4, Forth 12 2 4, Forth 14 2 6, Forth 16 2 4,
+    Forth 18 2 4, Forth 20 2 4, Forth 22 2 4, Forth 24 2 4, Forth 26 2 4, Forth 28 2 4, Forth 30 2 1,
+    Hexadecimal 36 2 101, Forth 0 2 4, Forth 2 2 4, Forth 4 2 4, Forth 6 2 4, Forth 8 2 4, Forth 10 2 4,
+    Forth 12 2 4, Forth 14 2 6, Forth 16 2 4, Forth 18 2 4, Forth 20 2 4, Forth 22 2 4, Forth 24 2 4,
+    Forth 26 2 4, Forth 28 2 4, Forth 30 2 1, Hexadecimal 36 2 102, Forth 0 2 4, Forth 2 2 4,
+    Forth 4 2 4, Forth 6 2 4, Forth 8 2 4, Forth 10 2 4, Forth 12 2 4, Forth 14 2 6, Hexadecimal 0 2 1,
+    Hexadecimal 2 2 1, Hexadecimal 5 1 1, Hexadecimal 6 1 6, Hexadecimal 0 2 1, Hexadecimal 2 2 1,
+    Hexadecimal 6 1 6, Hexadecimal 0 2 1, Hexadecimal 2 2 1, Hexadecimal 4 1 1, Hexadecimal 5 1 1,
+    Hexadecimal 6 1 6, Decimal 0 4 120, Back 20 4 1, Hexadecimal 4 8 1, Hexadecimal 12 8 6,
+    Decimal 0 4 121, Back 20 4 10, Back 24 2 10, Back 26 2 10, Forth 28 2 10, Forth 30 6 1,
+    Hexadecimal 4 8 1, Hexadecimal 12 8 6, Decimal 0 4 2, Decimal 37 1 122, Hexadecimal 4 8 1,
+    Hexadecimal 12 8 6, Back 0 4 10, Back 4 2 10, Back 6 2 10, Forth 8 2 10, Forth 10 6 6,
+    Hexadecimal 0 8 1, Hexadecimal 8 8 2, Decimal 32 2 6, Hexadecimal 0 8 1, Hexadecimal 8 8 2,
+    Decimal 32 2 2, Back 16 4 10, Back 20 2 10, Back 22 2 10, Forth 24 2 10, Forth 26 6 6,
+    Hexadecimal 0 2 2, Decimal 0 1 2, Decimal 1 1 2, Decimal 2 2 6, Hexadecimal 0 4 2, Forth 4 1 10,
+    Forth 5 1 10, Forth 6 1 10, Forth 7 1 10, Forth 8 1 10, Forth 9 1 10, Forth 10 1 10, Forth 11 1 6,
+    Forth 0 6 1, Hexadecimal 32 1 6, Forth 0 1 4, Forth 1 1 4, Forth 2 1 4, Forth 3 1 4, Forth 4 1 4,
+    Forth 5 1 1, Hexadecimal 32 1 6, Forth 0 1 10, Forth 1 1 10, Forth 2 1 10, Forth 3 1 10,
+    Forth 4 1 10, Forth 5 1 1, Hexadecimal 32 1 6, Forth 0 1 4, Forth 1 1 4, Forth 2 1 4, Forth 3 1 4,
+    Forth 4 1 4, Forth 5 1 6, Forth 0 1 4, Forth 1 1 4, Forth 2 1 4, Forth 3 1 4, Forth 4 1 4,
+    Forth 5 1 1, Hexadecimal 6 1 6, Decimal 0 4 120, Hexadecimal 20 4 1, Hexadecimal 4 8 1,
+    Hexadecimal 12 8 6
+);
+
+/// Where each list of fields begins.
+#[rattlefmt::skip]
+pub const PIECE_STARTS: [u16; 121] = [
+    0, 0, 1, 5, 13, 15, 16, 19, 24, 25, 27, 28, 30, 33, 35, 39, 43, 47, 51, 55, 59, 63, 67, 71, 76, 81,
+    86, 91, 96, 101, 106, 111, 116, 119, 122, 125, 128, 131, 134, 137, 140, 143, 147, 151, 155, 159,
+    163, 167, 171, 175, 179, 180, 182, 184, 185, 187, 196, 197, 198, 200, 204, 207, 211, 219, 222, 223,
+    225, 227, 232, 233, 235, 239, 255, 271, 287, 303, 320, 337, 345, 353, 361, 369, 378, 387, 395, 420,
+    445, 470, 495, 520, 545, 571, 597, 623, 639, 655, 671, 687, 703, 719, 736, 753, 770, 774, 777, 782,
+    786, 794, 798, 803, 806, 814, 815, 818, 827, 829, 836, 843, 849, 856, 860
+];
+
+/// The places and the bytes.
+#[rattlefmt::skip]
+pub const BYTES: [(u8, u8); 644] = [
+    (0, 208), (1, 65), (2, 3), (3, 10), (0, 208), (1, 65), (2, 8), (3, 10), (0, 208), (1, 65), (2, 4),
+    (3, 6), (0, 208), (1, 65), (2, 1), (3, 3), (0, 208), (1, 65), (2, 1), (3, 5), (0, 208), (1, 65),
+    (2, 1), (3, 4), (0, 208), (1, 65), (0, 180), (1, 221), (2, 135), (3, 212), (4, 139), (5, 0),
+    (6, 217), (7, 17), (8, 175), (9, 220), (10, 0), (11, 16), (12, 131), (13, 255), (14, 202), (15, 77),
+    (36, 0), (37, 0), (0, 180), (1, 221), (2, 135), (3, 212), (4, 139), (5, 0), (6, 217), (7, 17),
+    (8, 175), (9, 220), (10, 0), (11, 16), (12, 131), (13, 255), (14, 202), (15, 77), (36, 1), (37, 0),
+    (0, 180), (1, 221), (2, 135), (3, 212), (4, 139), (5, 0), (6, 217), (7, 17), (8, 175), (9, 220),
+    (10, 0), (11, 16), (12, 131), (13, 255), (14, 202), (15, 77), (36, 17), (37, 0), (0, 180), (1, 221),
+    (2, 135), (3, 212), (4, 139), (5, 0), (6, 217), (7, 17), (8, 175), (9, 220), (10, 0), (11, 16),
+    (12, 131), (13, 255), (14, 202), (15, 77), (36, 33), (37, 0), (0, 180), (1, 221), (2, 135),
+    (3, 212), (4, 139), (5, 0), (6, 217), (7, 17), (8, 175), (9, 220), (10, 0), (11, 16), (12, 131),
+    (13, 255), (14, 202), (15, 77), (36, 49), (37, 0), (0, 180), (1, 221), (2, 135), (3, 212), (4, 139),
+    (5, 0), (6, 217), (7, 17), (8, 175), (9, 220), (10, 0), (11, 16), (12, 131), (13, 255), (14, 202),
+    (15, 77), (36, 65), (37, 0), (0, 180), (1, 221), (2, 135), (3, 212), (4, 139), (5, 0), (6, 217),
+    (7, 17), (8, 175), (9, 220), (10, 0), (11, 16), (12, 131), (13, 255), (14, 202), (15, 77), (36, 81),
+    (37, 0), (0, 180), (1, 221), (2, 135), (3, 212), (4, 139), (5, 0), (6, 217), (7, 17), (8, 175),
+    (9, 220), (10, 0), (11, 16), (12, 131), (13, 255), (14, 202), (15, 77), (36, 97), (37, 0), (0, 180),
+    (1, 221), (2, 135), (3, 212), (4, 139), (5, 0), (6, 217), (7, 17), (8, 175), (9, 220), (10, 0),
+    (11, 16), (12, 131), (13, 255), (14, 202), (15, 77), (36, 113), (37, 0), (0, 180), (1, 221),
+    (2, 135), (3, 212), (4, 139), (5, 0), (6, 217), (7, 17), (8, 175), (9, 220), (10, 0), (11, 16),
+    (12, 131), (13, 255), (14, 202), (15, 77), (36, 2), (0, 180), (1, 221), (2, 135), (3, 212),
+    (4, 139), (5, 0), (6, 217), (7, 17), (8, 175), (9, 220), (10, 0), (11, 16), (12, 131), (13, 255),
+    (14, 202), (15, 77), (36, 18), (0, 180), (1, 221), (2, 135), (3, 212), (4, 139), (5, 0), (6, 217),
+    (7, 17), (8, 175), (9, 220), (10, 0), (11, 16), (12, 131), (13, 255), (14, 202), (15, 77), (36, 34),
+    (0, 180), (1, 221), (2, 135), (3, 212), (4, 139), (5, 0), (6, 217), (7, 17), (8, 175), (9, 220),
+    (10, 0), (11, 16), (12, 131), (13, 255), (14, 202), (15, 77), (36, 50), (0, 180), (1, 221),
+    (2, 135), (3, 212), (4, 139), (5, 0), (6, 217), (7, 17), (8, 175), (9, 220), (10, 0), (11, 16),
+    (12, 131), (13, 255), (14, 202), (15, 77), (36, 66), (0, 180), (1, 221), (2, 135), (3, 212),
+    (4, 139), (5, 0), (6, 217), (7, 17), (8, 175), (9, 220), (10, 0), (11, 16), (12, 131), (13, 255),
+    (14, 202), (15, 77), (36, 82), (0, 180), (1, 221), (2, 135), (3, 212), (4, 139), (5, 0), (6, 217),
+    (7, 17), (8, 175), (9, 220), (10, 0), (11, 16), (12, 131), (13, 255), (14, 202), (15, 77), (36, 98),
+    (0, 180), (1, 221), (2, 135), (3, 212), (4, 139), (5, 0), (6, 217), (7, 17), (8, 175), (9, 220),
+    (10, 0), (11, 16), (12, 131), (13, 255), (14, 202), (15, 77), (36, 114), (0, 180), (1, 221),
+    (2, 135), (3, 212), (4, 139), (5, 0), (6, 217), (7, 17), (8, 175), (9, 220), (10, 0), (11, 16),
+    (12, 131), (13, 255), (14, 202), (15, 77), (16, 0), (17, 0), (16, 1), (17, 0), (16, 17), (17, 0),
+    (16, 33), (17, 0), (16, 49), (17, 0), (16, 65), (17, 0), (16, 81), (17, 0), (16, 97), (17, 0),
+    (16, 113), (17, 0), (16, 2), (16, 18), (16, 34), (16, 50), (16, 66), (16, 82), (16, 98), (16, 114),
+    (0, 1), (1, 1), (0, 1), (1, 1), (0, 157), (1, 154), (2, 73), (3, 55), (4, 47), (5, 84), (6, 137),
+    (7, 76), (8, 160), (9, 38), (10, 53), (11, 218), (12, 20), (13, 32), (14, 148), (15, 228), (16, 0),
+    (17, 0), (18, 0), (19, 0), (0, 157), (1, 154), (2, 73), (3, 55), (4, 47), (5, 84), (6, 137),
+    (7, 76), (8, 160), (9, 38), (10, 53), (11, 218), (12, 20), (13, 32), (14, 148), (15, 228), (16, 1),
+    (17, 0), (18, 0), (19, 0), (0, 157), (1, 154), (2, 73), (3, 55), (4, 47), (5, 84), (6, 137),
+    (7, 76), (8, 160), (9, 38), (10, 53), (11, 218), (12, 20), (13, 32), (14, 148), (15, 228), (16, 2),
+    (17, 0), (18, 0), (19, 0), (32, 0), (32, 1), (0, 0), (12, 6), (13, 0), (14, 0), (12, 6), (13, 0),
+    (14, 1), (12, 17), (13, 0), (14, 0), (12, 17), (13, 0), (14, 0), (36, 6), (37, 0), (38, 0), (36, 6),
+    (37, 0), (38, 1), (36, 6), (37, 0), (38, 2), (36, 17), (37, 0), (38, 0), (36, 17), (37, 0), (38, 1),
+    (36, 17), (37, 0), (38, 0), (38, 1), (4, 1), (4, 2), (4, 3), (4, 6), (4, 7), (4, 8), (4, 9),
+    (4, 10), (4, 11), (4, 14), (4, 220), (4, 224), (4, 254), (5, 1), (4, 254), (5, 2), (4, 254), (5, 3),
+    (37, 1), (36, 1), (37, 2), (36, 2), (16, 90), (17, 83), (18, 171), (19, 119), (20, 252), (21, 69),
+    (22, 75), (23, 98), (24, 85), (25, 96), (26, 247), (27, 178), (28, 129), (29, 209), (30, 249),
+    (31, 110), (16, 48), (17, 189), (18, 90), (19, 61), (20, 117), (21, 65), (22, 206), (23, 135),
+    (24, 109), (25, 100), (26, 210), (27, 173), (28, 229), (29, 35), (30, 196), (31, 187), (16, 201),
+    (17, 2), (18, 234), (19, 92), (20, 7), (21, 77), (22, 211), (23, 105), (24, 38), (25, 159),
+    (26, 68), (27, 150), (28, 251), (29, 224), (30, 150), (31, 249), (16, 136), (17, 129), (18, 1),
+    (19, 8), (20, 205), (21, 66), (22, 72), (23, 187), (24, 16), (25, 15), (26, 83), (27, 135),
+    (28, 213), (29, 61), (30, 237), (31, 61), (0, 1), (1, 0), (0, 2), (1, 0), (0, 3), (1, 0), (0, 4),
+    (1, 0), (0, 5), (1, 0), (0, 6), (1, 0), (0, 83), (1, 71), (2, 193), (3, 224), (4, 190), (5, 249),
+    (6, 210), (7, 17), (8, 154), (9, 12), (10, 0), (11, 144), (12, 39), (13, 63), (14, 193), (15, 77),
+    (0, 101), (1, 96), (2, 166), (3, 223), (4, 25), (5, 180), (6, 211), (7, 17), (8, 154), (9, 45),
+    (10, 0), (11, 144), (12, 39), (13, 63), (14, 193), (15, 77), (0, 11), (1, 199), (2, 174), (3, 123),
+    (4, 224), (5, 87), (6, 118), (7, 76), (8, 142), (9, 135), (10, 47), (11, 158), (12, 40), (13, 8),
+    (14, 131), (15, 67), (0, 214), (1, 160), (2, 21), (3, 173), (4, 236), (5, 139), (6, 207), (7, 74),
+    (8, 160), (9, 115), (10, 208), (11, 29), (12, 231), (13, 126), (14, 45), (15, 136), (0, 210),
+    (1, 232), (2, 164), (3, 235), (4, 88), (5, 56), (6, 236), (7, 65), (8, 162), (9, 129), (10, 38),
+    (11, 71), (12, 186), (13, 150), (14, 96), (15, 208), (36, 1), (37, 1)
+];
+
+/// Where each list of bytes begins.
+#[rattlefmt::skip]
+pub const BYTE_STARTS: [u16; 103] = [
+    0, 0, 4, 8, 12, 16, 20, 24, 26, 44, 62, 80, 98, 116, 134, 152, 170, 188, 205, 222, 239, 256, 273,
+    290, 307, 324, 340, 342, 344, 346, 348, 350, 352, 354, 356, 358, 359, 360, 361, 362, 363, 364, 365,
+    366, 368, 369, 370, 390, 410, 430, 431, 432, 433, 436, 438, 439, 442, 444, 445, 448, 451, 453, 454,
+    457, 460, 462, 463, 464, 465, 466, 467, 468, 469, 470, 471, 472, 473, 474, 475, 476, 478, 480, 482,
+    483, 484, 485, 486, 502, 518, 534, 550, 552, 554, 556, 558, 560, 562, 578, 594, 610, 626, 642, 644
+];
+
+/// The rows of all groups.
+#[rattlefmt::skip]
+pub const ROWS: [Row; 164] = rows!(
+    1 1 Read 2 0 0 0 5 4 Nothing 0 0,
+    1 2 Read 1 0 0 0 7 5 Nothing 0 0,
+    1 3 Read 20 0 0 0 8 6 Nothing 0 0,
+    1 4 Read 16 0 0 0 9 7 Bytes 6 0,
+    1 5 Read 4 0 0 0 11 8 Nothing 0 0,
+    1 6 Read 9 0 0 0 12 9 Nothing 0 0,
+    2 1 Read 8 0 1 0 13 10 Nothing 0 0,
+    2 1 Read 8 0 2 0 14 10 Nothing 0 0,
+    2 1 Read 8 0 3 0 15 10 Nothing 0 0,
+    2 1 Read 8 0 4 0 16 10 Nothing 0 0,
+    2 1 Read 8 0 5 0 17 10 Nothing 0 0,
+    2 1 Read 8 0 6 0 18 10 Nothing 0 0,
+    2 1 Read 8 0 7 0 19 11 Nothing 0 0,
+    2 2 Read 12 3 0 0 20 12 Ids 6 0,
+    2 3 Read 4 0 0 0 21 1 Repeated(Numbers) 6 0,
+    2 1 Read 8 0 0 0 22 13 Nothing 0 0,
+    3 10 Read 40 0 8 0 23 14 Nothing 0 0,
+    3 10 Read 40 0 9 0 23 15 Nothing 0 0,
+    3 10 Read 40 0 10 0 23 16 Nothing 0 0,
+    3 10 Read 40 0 11 0 23 17 Nothing 0 0,
+    3 10 Read 40 0 12 0 23 18 Nothing 0 0,
+    3 10 Read 40 0 13 0 23 19 Nothing 0 0,
+    3 10 Read 40 0 14 0 23 20 Nothing 0 0,
+    3 10 Read 40 0 15 0 23 21 Nothing 0 0,
+    3 10 Read 40 0 16 0 23 22 Nothing 0 0,
+    3 10 Read 40 0 17 0 23 23 Nothing 0 0,
+    3 10 Read 40 0 18 0 23 24 Nothing 0 0,
+    3 10 Read 40 0 19 0 23 25 Nothing 0 0,
+    3 10 Read 40 0 20 0 23 26 Nothing 0 0,
+    3 10 Read 40 0 21 0 23 27 Nothing 0 0,
+    3 10 Read 40 0 22 0 23 28 Nothing 0 0,
+    3 10 Read 40 0 23 0 23 29 Nothing 0 0,
+    3 10 Read 40 0 24 0 23 30 Nothing 0 0,
+    3 10 Read 40 0 25 0 23 31 Nothing 0 0,
+    3 22 Read 20 0 26 0 42 32 Nothing 0 0,
+    3 22 Read 20 0 27 0 42 33 Nothing 0 0,
+    3 22 Read 20 0 28 0 42 34 Nothing 0 0,
+    3 22 Read 20 0 29 0 42 35 Nothing 0 0,
+    3 22 Read 20 0 30 0 42 36 Nothing 0 0,
+    3 22 Read 20 0 31 0 42 37 Nothing 0 0,
+    3 22 Read 20 0 32 0 42 38 Nothing 0 0,
+    3 22 Read 20 0 33 0 42 39 Nothing 0 0,
+    3 22 Read 20 0 34 0 42 40 Nothing 0 0,
+    3 22 Read 20 0 35 0 42 41 Nothing 0 0,
+    3 22 Read 20 0 36 0 42 42 Nothing 0 0,
+    3 22 Read 20 0 37 0 42 43 Nothing 0 0,
+    3 22 Read 20 0 38 0 42 44 Nothing 0 0,
+    3 22 Read 20 0 39 0 42 45 Nothing 0 0,
+    3 22 Read 20 0 40 0 42 46 Nothing 0 0,
+    3 22 Read 20 0 41 0 42 47 Nothing 0 0,
+    3 22 Read 20 0 42 0 42 48 Nothing 0 0,
+    3 22 Read 20 0 0 0 42 49 Nothing 0 0,
+    3 1 Display 4 0 0 0 53 50 Nothing 0 0,
+    3 1 Read 4 0 43 0 54 50 Nothing 0 0,
+    3 1 Read 4 0 44 0 55 50 Nothing 0 0,
+    3 1 Read 4 0 45 0 56 50 Nothing 0 0,
+    3 1 Read 4 0 0 0 57 50 Nothing 0 0,
+    3 2 Read 4 0 0 0 58 51 Nothing 0 0,
+    3 3 Read 20 0 0 0 59 52 Nothing 0 0,
+    3 4 Read 12 0 0 0 60 53 Nothing 0 0,
+    3 5 Read 2 0 0 0 61 54 Nothing 0 0,
+    3 6 Read 4 0 0 0 62 8 Nothing 0 0,
+    3 9 Read 44 0 0 0 63 55 Nothing 0 0,
+    3 10 Read 20 0 46 0 64 0 Nothing 0 0,
+    3 10 Read 20 0 47 0 65 0 Nothing 0 0,
+    3 10 Read 20 0 48 0 66 0 Nothing 0 0,
+    3 10 Read 16 0 0 0 67 7 Bytes 6 0,
+    3 11 Read 33 0 49 0 68 56 Nothing 0 0,
+    3 11 Read 33 0 50 0 68 57 Nothing 0 0,
+    3 11 Printed 33 0 0 0 68 58 Nothing 0 0,
+    3 14 Read 15 0 0 0 71 59 Nothing 0 0,
+    3 16 Read 6 0 0 0 72 60 Utf16 74 0,
+    3 31 Read 17 0 51 0 75 61 Repeated(Ipv4) 6 0,
+    3 31 Read 17 0 0 44 75 62 Repeated(Ipv6) 6 0,
+    3 17 Read 1 0 0 0 76 5 Nothing 0 0,
+    3 18 Read 6 0 0 0 77 63 Nothing 0 0,
+    3 20 Read 2 0 0 0 78 64 Nothing 0 0,
+    3 21 Read 20 0 0 0 79 65 Nothing 0 0,
+    3 23 Read 12 0 0 0 80 66 Nothing 0 0,
+    3 19 Read 14 0 0 0 81 0 Name 1 67,
+    3 28 Read 0 32 0 0 82 0 Padded 6 0,
+    3 24 Read 0 0 0 0 83 0 Text 6 0,
+    3 25 Read 2 0 0 0 84 54 Nothing 0 0,
+    3 26 Read 1 0 0 0 85 5 Nothing 0 0,
+    3 27 Read 6 0 0 0 86 68 Nothing 0 0,
+    3 29 Read 1 0 0 0 87 5 Nothing 0 0,
+    3 30 Read 7 0 0 0 88 69 Nothing 0 0,
+    3 12 Display 15 0 0 0 89 70 Nothing 0 0,
+    3 12 Read 23 0 52 0 89 71 Nothing 0 0,
+    3 12 Read 23 0 53 54 89 72 Nothing 0 0,
+    3 12 Read 23 0 55 0 89 73 Nothing 0 0,
+    3 12 Read 23 0 56 54 89 74 Nothing 0 0,
+    3 12 Read 23 0 57 0 89 75 Nothing 0 0,
+    3 12 Read 23 0 0 54 89 76 Nothing 0 0,
+    3 12 Read 15 0 52 0 89 77 Nothing 0 0,
+    3 12 Read 15 0 53 54 89 78 Nothing 0 0,
+    3 12 Read 15 0 55 0 89 79 Nothing 0 0,
+    3 12 Read 15 0 56 54 89 80 Nothing 0 0,
+    3 12 Read 15 0 57 0 89 81 Nothing 0 0,
+    3 12 Read 15 0 0 54 89 82 Nothing 0 0,
+    3 13 Display 39 0 0 0 96 83 Nothing 0 0,
+    3 13 Read 56 0 58 0 96 84 Nothing 0 0,
+    3 13 Read 56 0 59 0 96 85 Nothing 0 0,
+    3 13 Read 56 0 60 61 96 86 Nothing 0 0,
+    3 13 Read 56 0 62 0 96 87 Nothing 0 0,
+    3 13 Read 56 0 63 0 96 88 Nothing 0 0,
+    3 13 Read 56 0 64 61 96 89 Nothing 0 0,
+    3 13 Read 56 0 65 0 96 90 Nothing 0 0,
+    3 13 Read 56 0 66 0 96 91 Nothing 0 0,
+    3 13 Read 56 0 0 61 96 92 Nothing 0 0,
+    3 13 Read 39 0 58 0 96 93 Nothing 0 0,
+    3 13 Read 39 0 59 0 96 94 Nothing 0 0,
+    3 13 Read 39 0 60 61 96 95 Nothing 0 0,
+    3 13 Read 39 0 62 0 96 96 Nothing 0 0,
+    3 13 Read 39 0 63 0 96 97 Nothing 0 0,
+    3 13 Read 39 0 64 61 96 98 Nothing 0 0,
+    3 13 Read 39 0 65 0 96 99 Nothing 0 0,
+    3 13 Read 39 0 66 0 96 100 Nothing 0 0,
+    3 13 Read 39 0 0 61 96 101 Nothing 0 0,
+    3 15 Read 7 0 67 0 103 102 Nothing 0 0,
+    3 15 Read 7 0 68 0 104 102 Nothing 0 0,
+    3 15 Read 7 0 69 0 105 102 Nothing 0 0,
+    3 15 Read 7 0 70 0 106 102 Nothing 0 0,
+    3 15 Read 7 0 71 0 107 102 Nothing 0 0,
+    3 15 Read 7 0 72 0 108 102 Nothing 0 0,
+    3 15 Read 7 0 73 0 109 102 Nothing 0 0,
+    3 15 Read 7 0 74 0 110 102 Nothing 0 0,
+    3 15 Read 7 0 75 0 111 102 Nothing 0 0,
+    3 15 Read 7 0 76 0 112 102 Nothing 0 0,
+    3 15 Read 7 0 77 0 113 102 Nothing 0 0,
+    3 15 Read 7 0 78 0 114 102 Nothing 0 0,
+    3 15 Read 7 0 79 0 115 103 Nothing 0 0,
+    3 15 Read 7 0 80 0 116 103 Nothing 0 0,
+    3 15 Read 7 0 81 0 117 103 Nothing 0 0,
+    3 15 Read 7 0 0 0 118 104 Nothing 0 0,
+    4 1 Read 38 0 82 83 119 105 Nothing 0 0,
+    4 1 Read 38 0 84 85 119 106 Nothing 0 0,
+    4 1 Printed 38 0 0 0 119 107 Nothing 0 0,
+    4 2 Display 20 0 0 0 123 8 Nothing 0 0,
+    4 2 Read 20 0 0 0 123 6 Nothing 0 0,
+    4 3 Read 16 0 0 0 124 7 Bytes 6 0,
+    4 5 Read 16 0 0 0 125 108 Nothing 0 0,
+    4 6 Read 16 0 0 0 126 108 Nothing 0 0,
+    4 7 Read 16 0 0 0 127 108 Nothing 0 0,
+    4 8 Read 20 0 0 0 128 52 Nothing 0 0,
+    4 9 Read 34 0 86 0 129 109 Nothing 0 0,
+    4 9 Read 34 0 87 0 130 109 Nothing 0 0,
+    4 9 Read 34 0 88 0 131 109 Nothing 0 0,
+    4 9 Read 34 0 89 0 132 109 Nothing 0 0,
+    4 9 Read 34 0 0 0 133 110 Nothing 0 0,
+    5 1 Display 4 1 90 0 134 0 Name 6 0,
+    5 1 Display 4 1 91 0 135 0 Name 6 0,
+    5 1 Display 4 1 92 0 136 0 Name 6 0,
+    5 1 Display 4 1 93 0 137 0 Name 6 0,
+    5 1 Display 4 1 94 0 138 0 Name 6 0,
+    5 1 Display 4 1 95 0 139 0 Name 6 0,
+    5 1 Display 4 1 0 0 140 111 Name 6 0,
+    5 1 Read 4 1 90 0 134 0 Name 1 50,
+    5 1 Read 4 1 91 0 135 0 Name 1 50,
+    5 1 Read 4 1 92 0 136 0 Name 1 50,
+    5 1 Read 4 1 93 0 137 0 Name 1 50,
+    5 1 Read 4 1 94 0 138 0 Name 1 50,
+    5 1 Read 4 1 95 0 139 0 Name 1 50,
+    5 1 Read 4 1 0 0 140 111 Name 1 50
+);
+
+/// Where each group begins.
+#[rattlefmt::skip]
+pub const ROW_STARTS: [u16; 13] = [
+    0, 6, 16, 25, 34, 52, 87, 100, 110, 119, 135, 150, 164
+];
+
+/// The words of all lists.
+#[rattlefmt::skip]
+pub const WORDS: [Word; 21] = words!(
+    255 0 141, 255 1 142, 255 2 143, 255 3 144, 255 4 145, 255 5 146, 0 255 147, 255 0 148, 255 1 149,
+    255 2 150, 255 3 151, 0 255 152, 10 10 153, 10 2 154, 10 8 155, 0 0 156, 8 8 157, 16 16 158,
+    0 0 159, 65535 0 160, 0 1 161
+);
+
+/// Where each list of words begins.
+#[rattlefmt::skip]
+pub const WORD_STARTS: [u16; 6] = [
+    0, 7, 12, 16, 19, 21
+];
+
+/// `NUMBERS`, packed.
+pub const NUMBERS_ITEM: Item = item!(4 1 1);
+
+/// `IPV4_ADDRESSES`, packed.
+pub const IPV4_ADDRESSES_ITEM: Item = item!(16 2 2);
+
+/// `IPV6_ADDRESSES`, packed.
+pub const IPV6_ADDRESSES_ITEM: Item = item!(16 2 3);
+
+/// `OWN`, packed.
+#[rattlefmt::skip]
+pub const OWN_ROWS: &[Row] = &rows!(
+    3 1 Read 4 0 0 0 162 112 Nothing 0 0,
+    3 23 Read 12 0 0 0 163 113 Nothing 0 0
+);
+
+/// `PASTED`, packed.
+#[rattlefmt::skip]
+pub const PASTED_ROWS: &[Row] = &rows!(
+    3 10 Read 16 0 0 96 164 0 Nothing 0 0,
+    3 10 Read 16 0 0 97 165 0 Nothing 0 0,
+    3 10 Read 16 0 0 98 166 0 Nothing 0 0,
+    3 10 Read 16 0 0 99 167 0 Nothing 0 0,
+    3 10 Read 16 0 0 100 168 0 Nothing 0 0,
+    3 1 Read 4 0 0 0 169 0 Nothing 0 0,
+    3 1 Read 4 0 0 0 170 0 Nothing 0 0,
+    3 1 Read 4 0 0 45 171 0 Nothing 0 0,
+    3 1 Read 4 0 0 44 172 0 Nothing 0 0,
+    3 1 Read 4 0 0 43 173 0 Nothing 0 0,
+    3 11 Read 33 0 0 0 68 114 Nothing 0 0,
+    3 11 Read 33 0 0 0 68 115 Nothing 0 0,
+    3 11 Read 33 0 0 0 68 116 Nothing 0 0,
+    3 12 Read 23 0 0 0 89 70 Nothing 0 0,
+    3 13 Read 56 0 0 61 96 83 Nothing 0 0,
+    3 23 Read 12 0 0 0 80 8 Nothing 0 0,
+    3 27 Read 6 0 0 0 86 117 Nothing 0 0,
+    3 30 Read 7 0 0 0 88 118 Nothing 0 0,
+    4 1 Read 38 0 0 101 119 119 Nothing 0 0,
+    4 7 Read 16 0 0 0 174 108 Nothing 0 0
+);

@@ -1,0 +1,68 @@
+//! Texts, fields and bytes of the packed table, each a part of one constant. So the table has no pointer, and
+//! firmware that loads a program has nothing in it to relocate.
+#![tactic(auto)]
+
+ghost use Rattle.std.specs.Prelude.{◌≡◌, slice_index};
+ghost use Rattle.uefi_node_table.specs.Parts.{bytes_of, part_of, pieces_of, text_of};
+
+use crate::packed::{BYTE_STARTS, BYTES, PIECE_STARTS, PIECES, TEXT_STARTS, TEXTS};
+use crate::parts::{Bytes, Pieces, Text};
+use crate::rows::Piece;
+
+/// Where a part begins, or 0 after the last.
+fn start_of(starts: &[u16], number: usize) -> usize
+    ensures { result ≡ slice_index starts.now number }
+{
+    if number < starts.len() {
+        return usize::from(starts[number]);
+    }
+    0
+}
+
+/// The part that has a number. It ends where the next begins.
+pub(crate) fn part<'a, T>(items: &'a [T], starts: &[u16], number: u8) -> &'a [T]
+    ensures { result.now ≡ part_of items.now starts.now number }
+{
+    let number = usize::from(number);
+    let from = start_of(starts, number);
+    let to = start_of(starts, number + 1);
+    let rest = &items[from.min(items.len())..];
+    &rest[..to.saturating_sub(from).min(rest.len())]
+}
+
+impl Text {
+    /// The text.
+    #[tactic(auto, unfolding(crate::specs::Parts::text_of))]
+    pub fn as_str(self) -> &'static str
+        ensures { result.now ≡ text_of self }
+    {
+        unsafe { str::from_utf8_unchecked(part(&TEXTS, &TEXT_STARTS, self.number)) }
+    }
+
+    /// The bytes of the text.
+    pub fn as_bytes(self) -> &'static [u8]
+        ensures value { result.now ≡ text_of self }
+    {
+        self.as_str().as_bytes()
+    }
+}
+
+impl Bytes {
+    /// The places and the bytes.
+    #[tactic(auto, unfolding(crate::specs::Parts::bytes_of))]
+    pub fn as_slice(self) -> &'static [(u8, u8)]
+        ensures { result.now ≡ bytes_of self }
+    {
+        part(&BYTES, &BYTE_STARTS, self.number)
+    }
+}
+
+impl Pieces {
+    /// The fields.
+    #[tactic(auto, unfolding(crate::specs::Parts::pieces_of))]
+    pub fn as_slice(self) -> &'static [Piece]
+        ensures { result.now ≡ pieces_of self }
+    {
+        part(&PIECES, &PIECE_STARTS, self.number)
+    }
+}

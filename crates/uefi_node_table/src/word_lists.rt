@@ -1,0 +1,50 @@
+//! The lists of words that stand for numbers in texts of nodes.
+#![tactic(auto)]
+
+ghost use Rattle.std.specs.Prelude.{◌≡◌, map};
+ghost use Rattle.uefi_node_table.specs.Parts.{part_of};
+ghost use Rattle.uefi_node_table.specs.Words.{as_word, suits, word_text, words_of};
+
+use crate::packed::{WORD_STARTS, WORDS};
+use crate::pools::part;
+use crate::words::{Word, Words};
+
+/// The part of the packed words that has a list.
+#[tactic(auto, unfolding(crate::specs::Parts::text_of, crate::specs::Words::words_of))]
+fn part_of_list(words: Words) -> u8
+    ensures { map as_word (part_of WORDS WORD_STARTS result) ≡ words_of words }
+{
+    match words {
+        Words::Parity => 0,
+        Words::StopBits => 1,
+        Words::Digests => 2,
+        Words::Login => 3,
+        Words::Protocol => 4,
+    }
+}
+
+/// The words of a list.
+pub fn words_of(words: Words) -> &'static [Word]
+    ensures { map as_word result.now ≡ words_of words }
+{
+    part(&WORDS, &WORD_STARTS, part_of_list(words))
+}
+
+/// Whether a word stands for a number.
+pub fn suits(word: &Word, number: u64) -> bool
+    ensures { result ≡ suits number (as_word word.now) }
+{
+    word.mask == 0 || number & u64::from(word.mask) == u64::from(word.number)
+}
+
+/// The word for a number, or an empty text where no word suits it.
+pub fn word_for(words: &[Word], number: u64) -> &'static str
+    ensures { result.now ≡ word_text (map as_word words.now) number }
+{
+    for word in words {
+        if suits(word, number) {
+            return word.text.as_str();
+        }
+    }
+    ""
+}
