@@ -29,7 +29,7 @@ use Rattle.uefi_device_path.specs.declared.errors.OptionBuildError.{OptionBuildE
 use Rattle.uefi_device_path.specs.declared.lenient_errors.PushLenientTextError.{PushLenientTextError}
 use Rattle.uefi_device_path.specs.declared.lenient_errors.PushLenientTextError.TheVariants.{NoNode, ScratchTooSmall}
 use Rattle.uefi_device_path.specs.declared.lenient_errors.TextFault.{TextFault}
-use Rattle.nardcorbel.specs.Building.{entry_of_path}
+use Rattle.nardcorbel.specs.DevicePathBuffers.{entry_of_path}
 use Rattle.nardcorbel.specs.Outcomes.{Shows, ShowsNumber, when_read, refusal_at, unless}
 use Rattle.nardcorbel.specs.Outcomes.Outcome.{Content, Number, Text}
 use Rattle.nardcorbel.specs.Reading.{read_path, read_text}

@@ -5,7 +5,7 @@ pub mod Strings
 pub mod Reading
 pub mod Buffers
 pub mod DevicePaths
-pub mod Building
+pub mod DevicePathBuffers
 pub mod BootVariables
 pub mod NodeNumbers
 pub mod Paths

@@ -7,7 +7,7 @@
 
 pub mod boot_variables;
 pub mod buffers;
-pub mod building;
+pub mod device_path_buffers;
 pub mod device_paths;
 pub mod fat_names;
 pub mod load_options;

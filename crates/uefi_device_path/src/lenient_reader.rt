@@ -5,7 +5,7 @@
 ghost use Rattle.uefi_device_path.specs.StyledReading.{GivesText, path_read};
 ghost use Rattle.uefi_node_reader.specs.declared.styles.TextStyle.TheVariants.{Lenient, Libefivar};
 
-use crate::build::DevicePathBuf;
+use crate::device_path_buf::DevicePathBuf;
 use crate::lenient_errors::LenientTextError;
 use crate::styled_reader::read_styled_path;
 use std::alloc::Allocator;

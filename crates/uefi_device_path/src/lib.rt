@@ -27,61 +27,63 @@
 #![tactic(auto)]
 
 pub mod build;
-mod builder;
 mod checked_nodes;
 mod device_path;
+mod device_path_buf;
+mod device_path_builder;
 mod errors;
 mod extent;
 mod file_path;
-mod grow;
-mod grow_lenient_text;
-mod grow_styled_text;
-mod grow_text;
 mod instance;
 mod instance_text;
 pub mod laws;
 mod lenient_errors;
 mod lenient_reader;
+mod lenient_text_in_buf;
 mod libefivar_nodes;
 mod load_option;
+mod load_option_builder;
+mod load_option_edits;
 mod load_option_parts;
 mod matching;
 mod node_iterator;
-mod option_builder;
-mod option_edits;
+mod path_in_buf;
 mod path_list;
 mod path_reader;
 mod path_text;
 mod styled_reader;
+mod styled_text_in_buf;
 mod text_extent;
+mod text_in_buf;
 
-pub use build::{BuildNode, DevicePathBuf};
-pub use builder::DevicePathBuilder;
+pub use build::BuildNode;
 pub use checked_nodes::CheckedNodes;
 pub use device_path::DevicePath;
+pub use device_path_buf::DevicePathBuf;
+pub use device_path_builder::DevicePathBuilder;
 pub use errors::{
     BuildError, DevicePathError, FilePathCause, FilePathError, FilePathWriteError, GrowError,
     LoadOptionCause, LoadOptionError, NodeConversionError, NodeError, OptionBuildError,
     PushTextError,
 };
 pub use extent::{PathCut, PathExtent};
-pub use grow::{append_in_buf, push_in_buf};
-pub use grow_lenient_text::{push_lenient_text_in_buf, push_libefivar_text_in_buf};
-// The C library uses this; callers in Rattle have a call for each style.
-#[doc(hidden)]
-pub use grow_styled_text::push_styled_text_in_buf;
-pub use grow_text::push_text_in_buf;
 pub use instance::{DevicePathInstance, DevicePathInstanceIterator};
 pub use lenient_errors::{Expected, LenientTextError, PushLenientTextError, TextFault};
+pub use lenient_text_in_buf::{push_lenient_text_in_buf, push_libefivar_text_in_buf};
 pub use load_option::LoadOption;
+pub use load_option_builder::LoadOptionBuilder;
+pub use load_option_edits::set_attributes;
 pub use load_option_parts::LoadOptionParts;
 pub use matching::ShortForm;
 pub use node_iterator::DevicePathNodeIterator;
-pub use option_builder::LoadOptionBuilder;
-pub use option_edits::set_attributes;
+pub use path_in_buf::{append_in_buf, push_in_buf};
 pub use path_list::{DevicePaths, check_paths};
 pub use path_reader::PathTextError;
 pub use path_text::PathText;
+pub use text_in_buf::push_text_in_buf;
+// The C library uses this; callers in Rattle have a call for each style.
+#[doc(hidden)]
+pub use styled_text_in_buf::push_styled_text_in_buf;
 // The C library uses this too.
 #[doc(hidden)]
 pub use text_extent::styled_text_extent;

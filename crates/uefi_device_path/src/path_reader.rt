@@ -8,7 +8,7 @@ ghost use Rattle.uefi_device_path.specs.PathTexts.{nodes_text};
 ghost use Rattle.uefi_device_path.specs.ErrorTexts.{path_text_error_text};
 ghost use Rattle.uefi_device_path.specs.declared.path_reader.PathTextError.TheVariants.{NoNode, OutOfMemory};
 
-use crate::build::DevicePathBuf;
+use crate::device_path_buf::DevicePathBuf;
 use crate::laws::styled_texts;
 use crate::lenient_errors::LenientTextError;
 use crate::styled_reader::read_styled_path;

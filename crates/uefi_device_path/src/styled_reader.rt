@@ -11,10 +11,10 @@ ghost use Rattle.uefi_device_nodes.specs.RawNodes.{raw_node};
 ghost use Rattle.uefi_node_reader.specs.NamedFiles.{IsTold};
 ghost use Rattle.uefi_node_reader.specs.Styles.{HasScratch};
 ghost use Rattle.uefi_device_path.specs.declared.lenient_errors.LenientTextError.TheVariants.{OutOfMemory};
-ghost use Rattle.uefi_node_reader.specs.TextNodeViews.{text_node};
+ghost use Rattle.uefi_node_reader.specs.ParsedNodeViews.{parsed_node};
 
-use crate::build::{DevicePathBuf, empty_path};
-use crate::grow::put_if_room;
+use crate::device_path_buf::{DevicePathBuf, empty_path};
+use crate::path_in_buf::put_if_room;
 use crate::lenient_errors::{LenientTextError, TextFault};
 use std::alloc::Allocator;
 use uefi_device_nodes::build_node::{BuildNode, RawNode};
@@ -24,7 +24,7 @@ use uefi_node_reader::nodes::nodes_are_read;
 use uefi_node_reader::styles::{
     TextStyle, faults_lie_within, read_styled_node, styled_nodes_are_read,
 };
-use uefi_node_reader::text_node::TextNode;
+use uefi_node_reader::parsed_node::ParsedNode;
 
 /// Returns the node that ends an instance.
 fn instance_end() -> RawNode<'static>
@@ -40,12 +40,12 @@ fn instance_end() -> RawNode<'static>
 /// A node whose text was read, to be added to a path.
 #[derive(Clone, Copy)]
 pub(crate) struct ReadNode<'a> {
-    pub(crate) node: TextNode<'a>,
+    pub(crate) node: ParsedNode<'a>,
 }
 
 /// The node.
 impl BuildNode for ReadNode<'_> {
-    ghost node = { λ n. text_node n.node };
+    ghost node = { λ n. parsed_node n.node };
 
     fn full_type(&self) -> (DeviceType, DeviceSubType) {
         let (device_type, sub_type) = self.node.types();
@@ -98,7 +98,7 @@ pub(crate) fn first_styled_node<'s, 't: 's>(
     place: &'t [u8],
 ) -> Result<(ReadNode<'s>, &'t [u8]), NodeFault>
     requires { HasScratch style place.now scratch.old }
-    ensures { result_map_both (λ x. (text_node x.0.node, x.1.now)) (λ e. e) result
+    ensures { result_map_both (λ x. (parsed_node x.0.node, x.1.now)) (λ e. e) result
         ≡ place_read style text.now place.now }
 {
     let (node, rest) = read_styled_node(style, follows_comma(text, place), scratch, place)?;

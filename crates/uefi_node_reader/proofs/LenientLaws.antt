@@ -25,8 +25,8 @@ use Rattle.uefi_node_reader.specs.declared.faults.Expected.TheVariants as expect
 use Rattle.uefi_node_reader.specs.declared.faults.Expected.TheVariants.{AsPrinted}
 use Rattle.uefi_node_reader.specs.declared.faults.NodeFault.{NodeFault}
 use Rattle.uefi_node_reader.specs.declared.faults.Stop.{Stop}
-use Rattle.uefi_node_reader.specs.Telling.{tells, tells_data}
-use Rattle.uefi_node_reader.specs.TextNodes.{fitting}
+use Rattle.uefi_node_reader.specs.CompleteTexts.{tells, tells_data}
+use Rattle.uefi_node_reader.specs.ParsedNodes.{fitting}
 use Rattle.uefi_node_reader.proofs.Digits.{some_pair}
 use Rattle.uefi_node_reader.proofs.Groups.{table_sound}
 use Rattle.uefi_node_reader.specs.WordReading.{after}

@@ -11,7 +11,7 @@ pub mod ListLaws
 pub mod CountedBytes
 pub mod FixedParts
 pub mod Heads
-pub mod TextNodes
+pub mod ParsedNodes
 pub mod ListReads
 pub mod ClearTexts
 pub mod TextTails

@@ -10,7 +10,7 @@ use Rattle.uefi_device_nodes.specs.NodeTexts.{irregular_text, is_irregular, node
 use Rattle.uefi_node_reader.specs.Numerals.{has_digit, number_read}
 use Rattle.uefi_node_reader.specs.FieldReading.{comma_read, read_if}
 use Rattle.uefi_node_reader.specs.TableReading.{added}
-use Rattle.uefi_node_reader.specs.TextNodes.{fitting}
+use Rattle.uefi_node_reader.specs.ParsedNodes.{fitting}
 use Rattle.uefi_node_reader.specs.WordReading.{after}
 use Rattle.uefi_node_reader.proofs.Heads.{form_shown}
 use Rattle.uefi_node_reader.specs.PlainNodes.{IsPlainNode, is_formed, is_plain, plain_read, plain_rest}

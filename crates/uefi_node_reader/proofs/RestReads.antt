@@ -5,7 +5,7 @@ use Rattle.std.specs.List.{list_all}
 use Rattle.std.proofs.Math.Seq.{drop-append_seam, take-append_seam}
 use Rattle.uefi_node_table.specs.Rows.{Form, is_within}
 use Rattle.uefi_node_reader.specs.TableReading.{added, followed, pieces_put, rest_read, tail_read}
-use Rattle.uefi_node_reader.specs.TextNodes.{fitting}
+use Rattle.uefi_node_reader.specs.ParsedNodes.{fitting}
 use Rattle.uefi_node_reader.specs.WordReading.{after}
 use Rattle.uefi_node_reader.proofs.Digits.{some_pair}
 use Rattle.uefi_node_reader.proofs.PieceLaws.{put_size}

@@ -22,7 +22,7 @@ use Rattle.uefi_device_nodes.specs.Nodes.{Node, node_with}
 use Rattle.uefi_node_reader.specs.Counted.{pushed_bytes}
 use Rattle.uefi_node_reader.specs.FieldReading.{field_kept}
 use Rattle.uefi_node_reader.specs.TableReading.{AreItems, IsTabled, IsTailTold, blank, is_filled, is_read, is_sound, overlay, prints, put_at}
-use Rattle.uefi_node_reader.specs.Telling.{are_items, tells, tells_data, tells_fixed, tells_tail}
+use Rattle.uefi_node_reader.specs.CompleteTexts.{are_items, tells, tells_data, tells_fixed, tells_tail}
 use Rattle.uefi_node_reader.proofs.CountedBytes.{pushed_is}
 use Rattle.uefi_node_reader.proofs.Groups.{table_filled, table_sound}
 use Rattle.uefi_node_reader.proofs.Heads.{form_same}

@@ -19,7 +19,7 @@ use Rattle.uefi_node_reader.specs.OtherForms.{pasted_forms}
 use Rattle.uefi_node_reader.specs.PlainNodes.{plain_rest}
 use Rattle.uefi_node_reader.specs.Stops.{◌>?◌, exact_end, further, past, rest_end, stop_at, stop_of}
 use Rattle.uefi_node_reader.specs.TableReading.{blank, first_of, is_empty, rest_read}
-use Rattle.uefi_node_reader.specs.Telling.{tells}
+use Rattle.uefi_node_reader.specs.CompleteTexts.{tells}
 use Rattle.uefi_node_reader.specs.WordReading.{after}
 use Rattle.uefi_node_reader.specs.declared.faults.Expected.{Expected}
 use Rattle.uefi_node_reader.specs.declared.faults.Expected.TheVariants as expected

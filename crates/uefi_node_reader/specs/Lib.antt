@@ -7,7 +7,7 @@ pub mod NamedFiles
 pub mod Laws
 pub mod Stops
 pub mod LenientFields
-pub mod Telling
+pub mod CompleteTexts
 pub mod OtherForms
 pub mod Ambiguous
 pub mod LenientNodes
@@ -17,5 +17,5 @@ pub mod Libefivar
 pub mod Styles
 pub mod FaultTexts
 pub mod Counted
-pub mod TextNodes
-pub mod TextNodeViews
+pub mod ParsedNodes
+pub mod ParsedNodeViews

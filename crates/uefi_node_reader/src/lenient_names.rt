@@ -6,14 +6,14 @@ ghost use Rattle.std.specs.Prelude.{◌≡◌, ◌<◌, ◌≤◌, IfSome, lengt
 ghost use Rattle.std.specs.Result.{result_map_both};
 ghost use Rattle.uefi_node_reader.specs.LenientNodes.{bare_read, begins_call, closes_node, cut_file, file_in, name_end, is_bare, rooted, whole};
 ghost use Rattle.uefi_node_reader.specs.NamedFiles.{name_read};
-ghost use Rattle.uefi_node_reader.specs.TextNodeViews.{text_node};
+ghost use Rattle.uefi_node_reader.specs.ParsedNodeViews.{parsed_node};
 
 use crate::clear_texts::first_of;
 use crate::counted_bytes::{push, push_all};
 use crate::faults::{Expected, NodeFault};
 use crate::lenient_table::cut_call;
 use crate::named_files::{is_after_node, name, name_len, past_spaces};
-use crate::text_node::TextNode;
+use crate::parsed_node::ParsedNode;
 
 /// Puts a name into a buffer, with a backslash at its start. Returns how many bytes these are.
 fn put_rooted(scratch: &mut [u8], name: &[u8]) -> usize
@@ -32,9 +32,9 @@ fn put_rooted(scratch: &mut [u8], name: &[u8]) -> usize
 }
 
 /// Reads the node with a whole name.
-fn whole_name<'a>(scratch: &'a mut [u8], text: &[u8]) -> Option<TextNode<'a>>
+fn whole_name<'a>(scratch: &'a mut [u8], text: &[u8]) -> Option<ParsedNode<'a>>
     requires { length text.now < length scratch.old }
-    ensures { option_map text_node result ≡ whole (name_read (rooted text.now)) }
+    ensures { option_map parsed_node result ≡ whole (name_read (rooted text.now)) }
 {
     let len = put_rooted(scratch, text);
     match name(&scratch[..len]) {
@@ -82,9 +82,9 @@ pub(crate) fn file<'s, 't>(
     scratch: &'s mut [u8],
     text: &[u8],
     name: &'t [u8],
-) -> Result<(TextNode<'s>, &'t [u8]), NodeFault>
+) -> Result<(ParsedNode<'s>, &'t [u8]), NodeFault>
     requires { length name.now < length scratch.old }
-    ensures { result_map_both (λ x. (text_node x.0, x.1.now)) (λ e. e) result
+    ensures { result_map_both (λ x. (parsed_node x.0, x.1.now)) (λ e. e) result
         ≡ file_in text.now name.now (cut_file name.now) }
 {
     let Some((front, rest)) = cut_file(name) else {
@@ -124,9 +124,9 @@ pub(crate) fn bare<'s, 't>(
     is_rooted: bool,
     scratch: &'s mut [u8],
     text: &'t [u8],
-) -> Option<(TextNode<'s>, &'t [u8])>
+) -> Option<(ParsedNode<'s>, &'t [u8])>
     requires { length text.now < length scratch.old }
-    ensures { option_map (λ x. (text_node x.0, x.1.now)) result ≡ bare_read is_rooted text.now }
+    ensures { option_map (λ x. (parsed_node x.0, x.1.now)) result ≡ bare_read is_rooted text.now }
 {
     let (front, rest) = text.split_at(name_len(text));
     let name = past_spaces(front);

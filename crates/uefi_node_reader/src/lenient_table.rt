@@ -11,7 +11,7 @@ ghost use Rattle.uefi_node_reader.specs.LenientFields.{after_literal};
 ghost use Rattle.uefi_node_reader.specs.LenientNodes.{begins_call_name, call_in, call_told, cut_call, form_told, form_tried, forms_tried, is_blank, is_textless, named_told, open_fault, path_told, place_at, stop_fault, tidied, tidied_byte, told_in};
 ghost use Rattle.uefi_node_reader.specs.OtherForms.{pasted_forms};
 ghost use Rattle.uefi_node_reader.specs.TableReading.{form_read, is_filled, is_read, is_sound};
-ghost use Rattle.uefi_node_reader.specs.TextNodeViews.{text_node_data, text_node};
+ghost use Rattle.uefi_node_reader.specs.ParsedNodeViews.{text_node_data, parsed_node};
 
 use crate::ambiguous::ambiguous_stop;
 use crate::counted_bytes::push;
@@ -21,8 +21,8 @@ use crate::other_forms::pasted_forms;
 use crate::plain_nodes::{told_types, types_end};
 use crate::stops::{further, rest_end, stop_at, stop_of};
 use crate::table_reader::{finish_row, fixed_part, read_row};
-use crate::telling::tells;
-use crate::text_node::TextNode;
+use crate::complete_texts::tells;
+use crate::parsed_node::ParsedNode;
 use uefi_node_table::rows::{Mode, Row, Tail};
 use uefi_node_table::table::{GROUPS, group};
 
@@ -88,10 +88,10 @@ pub(crate) fn is_textless(tail: Tail) -> bool
 }
 
 /// The node that was read in a form, if nothing stands after it, and its own text tells it.
-fn told<'a>(row: &Row, read: Option<(TextNode<'a>, &'a [u8])>) -> Option<TextNode<'a>>
+fn told<'a>(row: &Row, read: Option<(ParsedNode<'a>, &'a [u8])>) -> Option<ParsedNode<'a>>
     requires types { IfSome read (λ x.
         (x.0.device_type ≡ row.now.kind) × (x.0.sub_type ≡ row.now.sub_kind)) }
-    ensures { option_map text_node result
+    ensures { option_map parsed_node result
         ≡ told_in (as_form row.now) (option_map (λ x. (text_node_data x.0, x.1.now)) read.entry) }
 {
     let (node, rest) = read?;
@@ -105,20 +105,20 @@ fn told<'a>(row: &Row, read: Option<(TextNode<'a>, &'a [u8])>) -> Option<TextNod
 }
 
 /// Reads a node of a form from all of its text, exactly in the form, if its own text tells it.
-pub(crate) fn exact_told<'a>(row: &Row, text: &'a [u8]) -> Option<TextNode<'a>>
+pub(crate) fn exact_told<'a>(row: &Row, text: &'a [u8]) -> Option<ParsedNode<'a>>
     requires sound { IsTrue (is_sound (as_form row.now)) }
     requires filled { IsTrue (is_filled (as_form row.now)) }
-    ensures { option_map text_node result ≡ told_in (as_form row.now) (form_read (as_form row.now) text.now) }
+    ensures { option_map parsed_node result ≡ told_in (as_form row.now) (form_read (as_form row.now) text.now) }
 {
     told(row, read_row(row, text))
 }
 
 /// Reads a node of a form from its tidied text, if its own text tells it, or says where that stops.
-fn told_row<'a>(row: &Row, text: &'a [u8]) -> Result<TextNode<'a>, Stop>
+fn told_row<'a>(row: &Row, text: &'a [u8]) -> Result<ParsedNode<'a>, Stop>
     requires sound { IsTrue (is_sound (as_form row.now)) }
     requires filled { IsTrue (is_filled (as_form row.now)) }
     requires read { IsTrue (is_read row.now.mode) }
-    ensures { result_map_both text_node (λ e. e) result ≡ form_told (as_form row.now) text.now }
+    ensures { result_map_both parsed_node (λ e. e) result ≡ form_told (as_form row.now) text.now }
 {
     let rest = after_literal(row.start.as_bytes(), text)?;
     let mut fixed = fixed_part(row);
@@ -150,10 +150,10 @@ fn begins_call_name(name: &[u8], text: &[u8]) -> bool
 }
 
 /// Reads a node of a form whose name its tidied text begins with.
-fn named_row<'a>(row: &Row, text: &'a [u8]) -> Result<TextNode<'a>, Option<Stop>>
+fn named_row<'a>(row: &Row, text: &'a [u8]) -> Result<ParsedNode<'a>, Option<Stop>>
     requires sound { IsTrue (is_sound (as_form row.now)) }
     requires filled { IsTrue (is_filled (as_form row.now)) }
-    ensures { result_map_both text_node (λ e. e) result
+    ensures { result_map_both parsed_node (λ e. e) result
         ≡ named_told row.now.mode (as_form row.now) text.now }
 {
     match row.mode {
@@ -172,10 +172,10 @@ fn named_row<'a>(row: &Row, text: &'a [u8]) -> Result<TextNode<'a>, Option<Stop>
 }
 
 /// The same of any form.
-fn try_row<'a>(row: &Row, text: &'a [u8]) -> Result<TextNode<'a>, Option<Stop>>
+fn try_row<'a>(row: &Row, text: &'a [u8]) -> Result<ParsedNode<'a>, Option<Stop>>
     requires sound { IsTrue (is_sound (as_form row.now)) }
     requires filled { IsTrue (is_filled (as_form row.now)) }
-    ensures { result_map_both text_node (λ e. e) result ≡ form_tried (as_form row.now) text.now }
+    ensures { result_map_both parsed_node (λ e. e) result ≡ form_tried (as_form row.now) text.now }
 {
     if begins_call_name(row.start.as_bytes(), text) {
         return named_row(row, text);
@@ -189,10 +189,10 @@ fn try_group<'a>(
     rows: &[Row],
     furthest: Option<Stop>,
     text: &'a [u8],
-) -> Result<TextNode<'a>, Option<Stop>>
+) -> Result<ParsedNode<'a>, Option<Stop>>
     requires sound { IsTrue (list_all is_sound (map as_form rows.now)) }
     requires filled { IsTrue (list_all is_filled (map as_form rows.now)) }
-    ensures { result_map_both text_node (λ e. e) result
+    ensures { result_map_both parsed_node (λ e. e) result
         ≡ forms_tried (map as_form rows.now) furthest text.now }
 {
     let mut so_far = furthest;
@@ -206,8 +206,8 @@ fn try_group<'a>(
 }
 
 /// The same of all forms of the table.
-fn try_table(text: &[u8]) -> Result<TextNode<'_>, Option<Stop>>
-    ensures { result_map_both text_node (λ e. e) result ≡ forms_tried forms None text.now }
+fn try_table(text: &[u8]) -> Result<ParsedNode<'_>, Option<Stop>>
+    ensures { result_map_both parsed_node (λ e. e) result ≡ forms_tried forms None text.now }
 {
     let mut furthest = None;
     for index in 0..GROUPS {
@@ -220,15 +220,15 @@ fn try_table(text: &[u8]) -> Result<TextNode<'_>, Option<Stop>>
 }
 
 /// The same of the forms that people paste.
-fn try_pasted(furthest: Option<Stop>, text: &[u8]) -> Result<TextNode<'_>, Option<Stop>>
-    ensures { result_map_both text_node (λ e. e) result ≡ forms_tried pasted_forms furthest text.now }
+fn try_pasted(furthest: Option<Stop>, text: &[u8]) -> Result<ParsedNode<'_>, Option<Stop>>
+    ensures { result_map_both parsed_node (λ e. e) result ≡ forms_tried pasted_forms furthest text.now }
 {
     try_group(pasted_forms(), furthest, text)
 }
 
 /// The same of a node of no kind.
-fn try_path(text: &[u8]) -> Result<TextNode<'_>, Option<Stop>>
-    ensures { result_map_both text_node (λ e. e) result
+fn try_path(text: &[u8]) -> Result<ParsedNode<'_>, Option<Stop>>
+    ensures { result_map_both parsed_node (λ e. e) result
         ≡ path_told (after_literal (codes "Path(") text.now) }
 {
     let Ok(rest) = after_literal(b"Path(", text) else {
@@ -242,8 +242,8 @@ fn try_path(text: &[u8]) -> Result<TextNode<'_>, Option<Stop>>
 
 /// The same of any of these. A call that programs print for different nodes stops where it has to tell them
 /// apart.
-fn try_call(text: &[u8]) -> Result<TextNode<'_>, Option<Stop>>
-    ensures { result_map_both text_node (λ e. e) result ≡ call_told text.now }
+fn try_call(text: &[u8]) -> Result<ParsedNode<'_>, Option<Stop>>
+    ensures { result_map_both parsed_node (λ e. e) result ≡ call_told text.now }
 {
     if let Some(stop) = ambiguous_stop(text) {
         return Err(Some(stop));
@@ -296,8 +296,8 @@ fn stop_fault(text: &[u8], len: usize, stop: Option<Stop>) -> NodeFault
 }
 
 /// The same of a call without a `)`, of which nothing else is wrong if it is read, or stops after that.
-fn open_fault(text: &[u8], len: usize, read: Result<TextNode<'_>, Option<Stop>>) -> NodeFault
-    ensures { result ≡ open_fault text.now len (result_map_both text_node (λ e. e) read.entry) }
+fn open_fault(text: &[u8], len: usize, read: Result<ParsedNode<'_>, Option<Stop>>) -> NodeFault
+    ensures { result ≡ open_fault text.now len (result_map_both parsed_node (λ e. e) read.entry) }
 {
     match read {
         Ok(_) | Err(Some(Stop { left: 0, .. })) => NodeFault {
@@ -313,9 +313,9 @@ fn open_fault(text: &[u8], len: usize, read: Result<TextNode<'_>, Option<Stop>>)
 pub(crate) fn by_call<'s, 't>(
     scratch: &'s mut [u8],
     text: &'t [u8],
-) -> Result<(TextNode<'s>, &'t [u8]), NodeFault>
+) -> Result<(ParsedNode<'s>, &'t [u8]), NodeFault>
     requires { length text.now < length scratch.old }
-    ensures { result_map_both (λ x. (text_node x.0, x.1.now)) (λ e. e) result
+    ensures { result_map_both (λ x. (parsed_node x.0, x.1.now)) (λ e. e) result
         ≡ call_in text.now (cut_call text.now) }
 {
     let Some((front, rest)) = cut_call(text) else {

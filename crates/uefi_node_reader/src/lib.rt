@@ -6,8 +6,9 @@
 
 mod ambiguous;
 mod clear_texts;
-mod coding;
+mod complete_texts;
 mod counted_bytes;
+mod data_form;
 #[doc(hidden)]
 pub mod faults;
 mod fields;
@@ -22,11 +23,10 @@ mod node_tails;
 pub mod nodes;
 mod numerals;
 mod other_forms;
+#[doc(hidden)]
+pub mod parsed_node;
 mod plain_nodes;
 mod stops;
 #[doc(hidden)]
 pub mod styles;
 mod table_reader;
-mod telling;
-#[doc(hidden)]
-pub mod text_node;

@@ -12,7 +12,7 @@ ghost use Rattle.std.specs.Option.{option_map};
 ghost use Rattle.uefi_node_table.specs.Rows.{as_form};
 ghost use Rattle.uefi_node_reader.specs.Libefivar.{base_after, forms_exact, own_call, own_fault, own_read, own_stop, stop_after};
 ghost use Rattle.uefi_node_reader.specs.TableReading.{is_filled, is_sound};
-ghost use Rattle.uefi_node_reader.specs.TextNodeViews.{text_node};
+ghost use Rattle.uefi_node_reader.specs.ParsedNodeViews.{parsed_node};
 
 use crate::ambiguous::begins_with;
 use crate::faults::{Expected, NodeFault, Stop};
@@ -21,14 +21,14 @@ use crate::lenient_names::begins_call;
 use crate::lenient_table::{cut_call, exact_told, place_at, tidy};
 use crate::other_forms::own_forms;
 use crate::stops::stop_at;
-use crate::text_node::TextNode;
+use crate::parsed_node::ParsedNode;
 use uefi_node_table::rows::Row;
 
 /// Reads the node of the first of these forms that a tidied text has exactly.
-fn exact_group<'a>(rows: &[Row], text: &'a [u8]) -> Option<TextNode<'a>>
+fn exact_group<'a>(rows: &[Row], text: &'a [u8]) -> Option<ParsedNode<'a>>
     requires sound { IsTrue (list_all is_sound (map as_form rows.now)) }
     requires filled { IsTrue (list_all is_filled (map as_form rows.now)) }
-    ensures { option_map text_node result ≡ forms_exact (map as_form rows.now) text.now }
+    ensures { option_map parsed_node result ≡ forms_exact (map as_form rows.now) text.now }
 {
     for row in rows {
         if let Some(node) = exact_told(row, text) {
@@ -40,9 +40,9 @@ fn exact_group<'a>(rows: &[Row], text: &'a [u8]) -> Option<TextNode<'a>>
 
 /// Reads the node whose call a text begins with in one of its own forms, from a tidied copy of the
 /// call. Returns what stands after it, too.
-fn own_call<'s, 't>(scratch: &'s mut [u8], text: &'t [u8]) -> Option<(TextNode<'s>, &'t [u8])>
+fn own_call<'s, 't>(scratch: &'s mut [u8], text: &'t [u8]) -> Option<(ParsedNode<'s>, &'t [u8])>
     requires { length text.now < length scratch.old }
-    ensures { option_map (λ x. (text_node x.0, x.1.now)) result ≡ own_call text.now }
+    ensures { option_map (λ x. (parsed_node x.0, x.1.now)) result ≡ own_call text.now }
 {
     let (front, rest) = cut_call(text)?;
     let len = tidy(scratch, front);
@@ -51,9 +51,9 @@ fn own_call<'s, 't>(scratch: &'s mut [u8], text: &'t [u8]) -> Option<(TextNode<'
 }
 
 /// The same of a text that begins with a call.
-pub(crate) fn own<'s, 't>(scratch: &'s mut [u8], text: &'t [u8]) -> Option<(TextNode<'s>, &'t [u8])>
+pub(crate) fn own<'s, 't>(scratch: &'s mut [u8], text: &'t [u8]) -> Option<(ParsedNode<'s>, &'t [u8])>
     requires { length text.now < length scratch.old }
-    ensures { option_map (λ x. (text_node x.0, x.1.now)) result ≡ own_read text.now }
+    ensures { option_map (λ x. (parsed_node x.0, x.1.now)) result ≡ own_read text.now }
 {
     if begins_call(text) {
         return own_call(scratch, text);

@@ -6,9 +6,9 @@ ghost use Rattle.std.specs.List.{list_all, position_or_len};
 ghost use Rattle.std.specs.Option.{option_map};
 ghost use Rattle.std.specs.Str.{chars};
 ghost use Rattle.uefi_node_reader.specs.NamedFiles.{begins_name, ends_name, is_after_node, is_name_char, name_read, past_spaces};
-ghost use Rattle.uefi_node_reader.specs.TextNodeViews.{text_node};
+ghost use Rattle.uefi_node_reader.specs.ParsedNodeViews.{parsed_node};
 
-use crate::text_node::TextNode;
+use crate::parsed_node::ParsedNode;
 use uefi_field_texts::shown_texts::is_escaped;
 
 /// Whether a byte ends a name.
@@ -71,8 +71,8 @@ fn has_name_chars(text: &str) -> bool
 }
 
 /// Reads the node with the name that a text begins with. Returns what stands after it, too.
-pub(crate) fn name(text: &[u8]) -> Option<(TextNode<'_>, &[u8])>
-    ensures { option_map (λ x. (text_node x.0, x.1.now)) result ≡ name_read text.now }
+pub(crate) fn name(text: &[u8]) -> Option<(ParsedNode<'_>, &[u8])>
+    ensures { option_map (λ x. (parsed_node x.0, x.1.now)) result ≡ name_read text.now }
 {
     let (front, rest) = text.split_at(name_len(text));
     let Ok(name) = str::from_utf8(front) else {
@@ -81,6 +81,6 @@ pub(crate) fn name(text: &[u8]) -> Option<(TextNode<'_>, &[u8])>
     if !begins_name(name) || !has_name_chars(name) {
         return None;
     }
-    let node = TextNode::with_name(name)?;
+    let node = ParsedNode::with_name(name)?;
     Some((node, rest))
 }

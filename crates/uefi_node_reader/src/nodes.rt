@@ -10,7 +10,7 @@ ghost use Rattle.uefi_node_reader.specs.Laws.{NodeAgain, NodeFits, NodeStarts, N
 ghost use Rattle.uefi_node_reader.specs.LenientFields.{after_literal};
 ghost use Rattle.uefi_node_reader.specs.LenientNodes.{end_fault, ended, ended_at, file_or_call, lenient_read, written_read};
 ghost use Rattle.uefi_node_reader.specs.NamedFiles.{is_after_node, node_read};
-ghost use Rattle.uefi_node_reader.specs.TextNodeViews.{text_node};
+ghost use Rattle.uefi_node_reader.specs.ParsedNodeViews.{parsed_node};
 
 use crate::clear_texts::first_of;
 use crate::faults::{Expected, NodeFault};
@@ -20,12 +20,12 @@ use crate::lenient_table::by_call;
 use crate::named_files::{is_after_node, name, past_spaces};
 use crate::plain_nodes::plain;
 use crate::table_reader::by_table;
-use crate::text_node::TextNode;
+use crate::parsed_node::ParsedNode;
 
 /// Reads the node whose text bytes begin with, and returns what stands after it, too; `None` exactly where no
 /// node that is told has such a text before a slash, a comma or the end. Takes no memory.
-pub fn read_node(text: &[u8]) -> Option<(TextNode<'_>, &[u8])>
-    ensures { option_map (λ x. (text_node x.0, x.1.now)) result ≡ node_read text.now }
+pub fn read_node(text: &[u8]) -> Option<(ParsedNode<'_>, &[u8])>
+    ensures { option_map (λ x. (parsed_node x.0, x.1.now)) result ≡ node_read text.now }
 {
     if first_of(text) == b'\\' {
         // No other text of a node begins so.
@@ -42,10 +42,10 @@ pub fn read_node(text: &[u8]) -> Option<(TextNode<'_>, &[u8])>
 
 /// What was read, where it ends as a node may end.
 pub(crate) fn ended<'s, 't>(
-    read: Option<(TextNode<'s>, &'t [u8])>,
-) -> Option<(TextNode<'s>, &'t [u8])>
-    ensures { option_map (λ x. (text_node x.0, x.1.now)) result
-        ≡ ended (option_map (λ x. (text_node x.0, x.1.now)) read.entry) }
+    read: Option<(ParsedNode<'s>, &'t [u8])>,
+) -> Option<(ParsedNode<'s>, &'t [u8])>
+    ensures { option_map (λ x. (parsed_node x.0, x.1.now)) result
+        ≡ ended (option_map (λ x. (parsed_node x.0, x.1.now)) read.entry) }
 {
     let (node, rest) = read?;
     if is_after_node(rest) {
@@ -68,10 +68,10 @@ fn end_fault(text: &[u8], rest: &[u8]) -> NodeFault
 /// text.
 pub(crate) fn ended_at<'s, 't>(
     text: &[u8],
-    read: (TextNode<'s>, &'t [u8]),
-) -> Result<(TextNode<'s>, &'t [u8]), NodeFault>
-    ensures { result_map_both (λ x. (text_node x.0, x.1.now)) (λ e. e) result
-        ≡ ended_at text.now (text_node read.entry.0, read.entry.1.now) }
+    read: (ParsedNode<'s>, &'t [u8]),
+) -> Result<(ParsedNode<'s>, &'t [u8]), NodeFault>
+    ensures { result_map_both (λ x. (parsed_node x.0, x.1.now)) (λ e. e) result
+        ≡ ended_at text.now (parsed_node read.entry.0, read.entry.1.now) }
 {
     let (node, rest) = read;
     let after = past_spaces(rest);
@@ -85,9 +85,9 @@ pub(crate) fn ended_at<'s, 't>(
 fn called<'s, 't>(
     scratch: &'s mut [u8],
     text: &'t [u8],
-) -> Result<(TextNode<'s>, &'t [u8]), NodeFault>
+) -> Result<(ParsedNode<'s>, &'t [u8]), NodeFault>
     requires { length text.now < length scratch.old }
-    ensures { result_map_both (λ x. (text_node x.0, x.1.now)) (λ e. e) result
+    ensures { result_map_both (λ x. (parsed_node x.0, x.1.now)) (λ e. e) result
         ≡ file_or_call (after_literal (codes "File(") text.now) text.now }
 {
     match after_literal(b"File(", text) {
@@ -101,9 +101,9 @@ fn written<'s, 't>(
     is_rooted: bool,
     scratch: &'s mut [u8],
     text: &'t [u8],
-) -> Result<(TextNode<'s>, &'t [u8]), NodeFault>
+) -> Result<(ParsedNode<'s>, &'t [u8]), NodeFault>
     requires { length text.now < length scratch.old }
-    ensures { result_map_both (λ x. (text_node x.0, x.1.now)) (λ e. e) result
+    ensures { result_map_both (λ x. (parsed_node x.0, x.1.now)) (λ e. e) result
         ≡ written_read is_rooted text.now }
 {
     if begins_call(text) {
@@ -144,9 +144,9 @@ pub fn read_lenient_node<'s, 't: 's>(
     is_rooted: bool,
     scratch: &'s mut [u8],
     text: &'t [u8],
-) -> Result<(TextNode<'s>, &'t [u8]), NodeFault>
+) -> Result<(ParsedNode<'s>, &'t [u8]), NodeFault>
     requires { length text.now < length scratch.old }
-    ensures { result_map_both (λ x. (text_node x.0, x.1.now)) (λ e. e) result
+    ensures { result_map_both (λ x. (parsed_node x.0, x.1.now)) (λ e. e) result
         ≡ lenient_read is_rooted text.now }
 {
     let Some((node, rest)) = read_node(text) else {

@@ -11,7 +11,7 @@ ghost use Rattle.uefi_node_reader.specs.LenientNodes.{types_end, types_told};
 ghost use Rattle.uefi_node_reader.specs.Numerals.{number_read};
 ghost use Rattle.uefi_node_reader.specs.PlainNodes.{is_plain, plain_read, plain_rest, types_read};
 ghost use Rattle.uefi_node_reader.specs.Stops.{past, stop_at};
-ghost use Rattle.uefi_node_reader.specs.TextNodeViews.{text_node};
+ghost use Rattle.uefi_node_reader.specs.ParsedNodeViews.{parsed_node};
 ghost use Rattle.uefi_node_reader.specs.declared.faults.Expected.TheVariants.{Number};
 
 use crate::faults::{Expected, Stop};
@@ -19,7 +19,7 @@ use crate::fields::after;
 use crate::lenient_fields::any_number;
 use crate::numerals::number;
 use crate::stops::{exact_end, rest_end, stop_at};
-use crate::text_node::TextNode;
+use crate::parsed_node::ParsedNode;
 use uefi_node_table::printing::has_form;
 use uefi_node_table::rows::Tail;
 
@@ -32,8 +32,8 @@ fn is_file(device_type: u8, sub_type: u8, len: usize) -> bool
 }
 
 /// Whether a node has no form of its own, and may stand in a path without ending an instance.
-fn is_plain(node: &TextNode<'_>) -> bool
-    ensures { result ≡ is_plain (text_node node.now) }
+fn is_plain(node: &ParsedNode<'_>) -> bool
+    ensures { result ≡ is_plain (parsed_node node.now) }
 {
     let (device_type, sub_type) = node.types();
     if is_file(device_type, sub_type, node.data_len()) {
@@ -64,10 +64,10 @@ fn types(text: &[u8]) -> Option<(u8, u8, &[u8])>
 }
 
 /// Reads the node of a type and a sub-type from its data on.
-fn plain_from<'a>(device_type: u8, sub_type: u8, text: &'a [u8]) -> Option<(TextNode<'a>, &'a [u8])>
-    ensures { option_map (λ x. (text_node x.0, x.1.now)) result ≡ plain_rest device_type sub_type text.now }
+fn plain_from<'a>(device_type: u8, sub_type: u8, text: &'a [u8]) -> Option<(ParsedNode<'a>, &'a [u8])>
+    ensures { option_map (λ x. (parsed_node x.0, x.1.now)) result ≡ plain_rest device_type sub_type text.now }
 {
-    let (node, rest) = TextNode::with_tail(
+    let (node, rest) = ParsedNode::with_tail(
         device_type,
         sub_type,
         [0; 64],
@@ -84,16 +84,16 @@ fn plain_from<'a>(device_type: u8, sub_type: u8, text: &'a [u8]) -> Option<(Text
 }
 
 /// Reads a node of no kind from its type on. Returns what stands after it, too.
-fn plain_types(text: &[u8]) -> Option<(TextNode<'_>, &[u8])>
-    ensures { option_map (λ x. (text_node x.0, x.1.now)) result ≡ types_read text.now }
+fn plain_types(text: &[u8]) -> Option<(ParsedNode<'_>, &[u8])>
+    ensures { option_map (λ x. (parsed_node x.0, x.1.now)) result ≡ types_read text.now }
 {
     let (device_type, sub_type, rest) = types(text)?;
     plain_from(device_type, sub_type, rest)
 }
 
 /// Reads a node of no kind. Returns what stands after it, too.
-pub(crate) fn plain(text: &[u8]) -> Option<(TextNode<'_>, &[u8])>
-    ensures { option_map (λ x. (text_node x.0, x.1.now)) result ≡ plain_read text.now }
+pub(crate) fn plain(text: &[u8]) -> Option<(ParsedNode<'_>, &[u8])>
+    ensures { option_map (λ x. (parsed_node x.0, x.1.now)) result ≡ plain_read text.now }
 {
     plain_types(after(b"Path(", text)?)
 }
@@ -117,8 +117,8 @@ fn any_types(text: &[u8]) -> Option<(u8, u8, &[u8])>
 }
 
 /// Reads a node of no kind from its type on, as people write it. Returns what stands after it, too.
-pub(crate) fn told_types(text: &[u8]) -> Option<(TextNode<'_>, &[u8])>
-    ensures { option_map (λ x. (text_node x.0, x.1.now)) result ≡ types_told text.now }
+pub(crate) fn told_types(text: &[u8]) -> Option<(ParsedNode<'_>, &[u8])>
+    ensures { option_map (λ x. (parsed_node x.0, x.1.now)) result ≡ types_told text.now }
 {
     let (device_type, sub_type, rest) = any_types(text)?;
     plain_from(device_type, sub_type, rest)

@@ -5,12 +5,12 @@ ghost use Rattle.std.specs.Prelude.{◌≡◌, ◌<◌, length};
 ghost use Rattle.std.specs.Result.{result_map_both};
 ghost use Rattle.uefi_node_reader.specs.Libefivar.{libefivar_read};
 ghost use Rattle.uefi_node_reader.specs.Styles.{HasScratch, PrintedExactly, StyledAgain, StyledEnds, StyledFaultWithin, StyledStarts, StyledTakes, is_copied, styled_read};
-ghost use Rattle.uefi_node_reader.specs.TextNodeViews.{text_node};
+ghost use Rattle.uefi_node_reader.specs.ParsedNodeViews.{parsed_node};
 
 use crate::faults::{Expected, NodeFault};
 use crate::libefivar::{own, own_fault};
 use crate::nodes::{ended, ended_at, read_lenient_node, read_node};
-use crate::text_node::TextNode;
+use crate::parsed_node::ParsedNode;
 
 /// Whose texts are read.
 #[derive(Clone, Copy, Debug, PartialEq, Eq)]
@@ -41,9 +41,9 @@ fn read_libefivar_node<'s, 't: 's>(
     is_rooted: bool,
     scratch: &'s mut [u8],
     text: &'t [u8],
-) -> Result<(TextNode<'s>, &'t [u8]), NodeFault>
+) -> Result<(ParsedNode<'s>, &'t [u8]), NodeFault>
     requires { length text.now < length scratch.old }
-    ensures { result_map_both (λ x. (text_node x.0, x.1.now)) (λ e. e) result
+    ensures { result_map_both (λ x. (parsed_node x.0, x.1.now)) (λ e. e) result
         ≡ libefivar_read is_rooted text.now }
 {
     if own(scratch, text).is_some() {
@@ -70,9 +70,9 @@ pub fn read_styled_node<'s, 't: 's>(
     is_rooted: bool,
     scratch: &'s mut [u8],
     text: &'t [u8],
-) -> Result<(TextNode<'s>, &'t [u8]), NodeFault>
+) -> Result<(ParsedNode<'s>, &'t [u8]), NodeFault>
     requires { HasScratch style text.now scratch.old }
-    ensures { result_map_both (λ x. (text_node x.0, x.1.now)) (λ e. e) result
+    ensures { result_map_both (λ x. (parsed_node x.0, x.1.now)) (λ e. e) result
         ≡ styled_read style is_rooted text.now }
 {
     match style {

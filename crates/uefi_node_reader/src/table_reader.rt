@@ -8,13 +8,13 @@ ghost use Rattle.uefi_node_table.specs.Rows.{as_form, as_piece, is_within};
 ghost use Rattle.uefi_node_table.specs.Table.{forms};
 ghost use Rattle.uefi_device_nodes.specs.Nodes.{node_with};
 ghost use Rattle.uefi_node_reader.specs.TableReading.{are_within, blank, form_place, form_read, forms_read, is_filled, is_sound, kept, prints, put_all, rest_read, table_read};
-ghost use Rattle.uefi_node_reader.specs.TextNodes.{fitting};
+ghost use Rattle.uefi_node_reader.specs.ParsedNodes.{fitting};
 ghost use Rattle.uefi_node_reader.specs.WordReading.{after};
-ghost use Rattle.uefi_node_reader.specs.TextNodeViews.{text_node_data, text_node};
+ghost use Rattle.uefi_node_reader.specs.ParsedNodeViews.{text_node_data, parsed_node};
 
 use crate::fields::after;
 use crate::node_tails::read_pieces;
-use crate::text_node::TextNode;
+use crate::parsed_node::ParsedNode;
 use uefi_node_table::printing::matches;
 use uefi_node_table::rows::{Mode, Row};
 use uefi_node_table::table::{GROUPS, group};
@@ -46,7 +46,7 @@ pub(crate) fn finish_row<'a>(
     row: &Row,
     fixed: [u8; 64],
     text: &'a [u8],
-) -> Option<(TextNode<'a>, &'a [u8])>
+) -> Option<(ParsedNode<'a>, &'a [u8])>
     requires small { row.now.least ≤ 64 }
     requires within { IsTrue (list_all (is_within row.now.least) (as_form row.now).rest) }
     ensures types { IfSome result (λ x.
@@ -54,7 +54,7 @@ pub(crate) fn finish_row<'a>(
     ensures data { option_map (λ x. (text_node_data x.0, x.1.now)) result
         ≡ fitting (rest_read (as_form row.now) (take row.now.least fixed, text.now)) }
 {
-    let (node, rest) = TextNode::with_tail(
+    let (node, rest) = ParsedNode::with_tail(
         row.kind,
         row.sub_kind,
         fixed,
@@ -68,7 +68,7 @@ pub(crate) fn finish_row<'a>(
 }
 
 /// Reads a node of a form. Returns what stands after it, too.
-pub(crate) fn read_row<'a>(row: &Row, text: &'a [u8]) -> Option<(TextNode<'a>, &'a [u8])>
+pub(crate) fn read_row<'a>(row: &Row, text: &'a [u8]) -> Option<(ParsedNode<'a>, &'a [u8])>
     requires sound { IsTrue (is_sound (as_form row.now)) }
     requires filled { IsTrue (is_filled (as_form row.now)) }
     ensures types { IfSome result (λ x.
@@ -128,10 +128,10 @@ fn begin_alike(start: &[u8], text: &[u8]) -> bool
 }
 
 /// Reads a node of the form at a place of the table, if it is printed in that form.
-fn read_kept<'a>(row: &Row, place: usize, text: &'a [u8]) -> Option<(TextNode<'a>, &'a [u8])>
+fn read_kept<'a>(row: &Row, place: usize, text: &'a [u8]) -> Option<(ParsedNode<'a>, &'a [u8])>
     requires sound { IsTrue (is_sound (as_form row.now)) }
     requires filled { IsTrue (is_filled (as_form row.now)) }
-    ensures { option_map (λ x. (text_node x.0, x.1.now)) result
+    ensures { option_map (λ x. (parsed_node x.0, x.1.now)) result
         ≡ kept forms place (as_form row.now) (form_read (as_form row.now) text.now) }
 {
     if !begin_alike(row.start.as_bytes(), text) {
@@ -145,11 +145,11 @@ fn read_kept<'a>(row: &Row, place: usize, text: &'a [u8]) -> Option<(TextNode<'a
 }
 
 /// Reads the node that a text begins with, in one of these forms, before which this many stand in the table.
-fn read_group<'a>(rows: &[Row], before: usize, text: &'a [u8]) -> Option<(TextNode<'a>, &'a [u8])>
+fn read_group<'a>(rows: &[Row], before: usize, text: &'a [u8]) -> Option<(ParsedNode<'a>, &'a [u8])>
     requires sound { IsTrue (list_all is_sound (map as_form rows.now)) }
     requires filled { IsTrue (list_all is_filled (map as_form rows.now)) }
     requires few { before + length rows.now < 2 ^ 64 }
-    ensures { option_map (λ x. (text_node x.0, x.1.now)) result
+    ensures { option_map (λ x. (parsed_node x.0, x.1.now)) result
         ≡ forms_read forms before (map as_form rows.now) text.now }
 {
     for (place, row) in rows.iter().enumerate() {
@@ -161,8 +161,8 @@ fn read_group<'a>(rows: &[Row], before: usize, text: &'a [u8]) -> Option<(TextNo
 }
 
 /// Reads the node that a text begins with, in a form of the table. Returns what stands after it, too.
-pub(crate) fn by_table(text: &[u8]) -> Option<(TextNode<'_>, &[u8])>
-    ensures { option_map (λ x. (text_node x.0, x.1.now)) result ≡ table_read forms text.now }
+pub(crate) fn by_table(text: &[u8]) -> Option<(ParsedNode<'_>, &[u8])>
+    ensures { option_map (λ x. (parsed_node x.0, x.1.now)) result ≡ table_read forms text.now }
 {
     let mut before = 0;
     for index in 0..GROUPS {

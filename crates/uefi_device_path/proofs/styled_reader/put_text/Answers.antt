@@ -7,7 +7,7 @@ use Rattle.std.proofs.lemmas.Grind.{common_steps}
 use Rattle.std.proofs.lemmas.Result.{IfErr-at_err}
 use Rattle.uefi_device_nodes.specs.RawNodes.{raw_node}
 use Rattle.uefi_device_nodes.specs.Nodes.{Node}
-use Rattle.uefi_node_reader.specs.TextNodeViews.{text_node}
+use Rattle.uefi_node_reader.specs.ParsedNodeViews.{parsed_node}
 use Rattle.uefi_node_reader.specs.declared.faults.NodeFault.{NodeFault}
 use Rattle.uefi_device_path.specs.Building.{build_refusal}
 use Rattle.uefi_device_path.specs.StyledReading.{Holds, follows_comma, grown_length, nodes_up_to}
@@ -67,7 +67,7 @@ returns-in-Err-clause-len c =
 
 pub put_if_room-end-requires-in-None-clause-unrefused : goal.put_if_room-end-requires-in-None-clause-unrefused
 put_if_room-end-requires-in-None-clause-unrefused c =
-    let node : Node = text_node c.in-Ok.read.0.node in
+    let node : Node = parsed_node c.in-Ok.read.0.node in
     let place = c.node_start-place.result.now in
     accepted c.nodes_are_read.ensures.fits node
     (c.styled_nodes_are_read.ensures.takes c.args.style (follows_comma c.args.text.now place) place node c.in-Ok.read.1.now (sym c.in-Ok.ensures))
@@ -79,7 +79,7 @@ pub nodes-preserved : goal.nodes-preserved
 nodes-preserved c =
     let on = c.nodes.invariant in
     let put = c.put_if_room-end-in-None.ensures in
-    let node : Node = text_node c.in-Ok.read.0.node in
+    let node : Node = parsed_node c.in-Ok.read.0.node in
     let after = c.in-Ok.read.1.now in
     let over = (going_node c.args.style c.args.text.now on.nodes c.nodes.at_start c.nodes.rest.now c.node_start-place.result.now
     on.on c.in-None.ensures c.node_start-place.ensures c.styled_nodes_are_read.ensures.ends node after (sym c.in-Ok.ensures)).0 in
@@ -91,7 +91,7 @@ pub nodes-smaller : goal.nodes-smaller
 nodes-smaller c =
     (going_node c.args.style c.args.text.now c.nodes.invariant.nodes c.nodes.at_start c.nodes.rest.now c.node_start-place.result.now
     c.nodes.invariant.on c.in-None.ensures c.node_start-place.ensures c.styled_nodes_are_read.ensures.ends
-    (text_node c.in-Ok.read.0.node) c.in-Ok.read.1.now (sym c.in-Ok.ensures)).1
+    (parsed_node c.in-Ok.read.0.node) c.in-Ok.read.1.now (sym c.in-Ok.ensures)).1
 
 pub returns-clause-len : goal.returns-clause-len
 returns-clause-len c =

@@ -4,8 +4,8 @@ use Rattle.std.proofs.lemmas.Bool.{ne_eqb}
 use Rattle.uefi_node_table.specs.Rows.{Form, as_form}
 use Rattle.uefi_device_nodes.specs.Nodes.{Node, node_with}
 use Rattle.uefi_node_reader.specs.TableReading.{is_empty}
-use Rattle.uefi_node_reader.specs.Telling.{tells}
-use Rattle.uefi_node_reader.specs.TextNodeViews.{text_node_data, text_node}
+use Rattle.uefi_node_reader.specs.CompleteTexts.{tells}
+use Rattle.uefi_node_reader.specs.ParsedNodeViews.{text_node_data, parsed_node}
 use Rattle.uefi_node_reader.proofs.lenient_table.told.Goals as goal
 
 -- the test for an empty text
@@ -14,7 +14,7 @@ empty [] found e = e
 empty (c ∷ cs) found e = e ∙ ne_eqb (length (c ∷ cs)) 0 (λ h. absurd (omega arith))
 
 pub returns-then-not-tells : goal.returns-then-not-tells
-unfolding text_node
+unfolding parsed_node
 returns-then-not-tells c =
     let form : Form = as_form c.args.row.now in
     let read = c.in_ok-node.node in
@@ -25,7 +25,7 @@ returns-then-not-tells c =
     rw c.in_ok-node.was (λ i. cond ((sym c.if-not-is_empty.false ∙ empty rest c.is_empty.result c.is_empty.ensures) i && not_told i) (Some node) None)
 
 pub returns : goal.returns
-unfolding text_node
+unfolding parsed_node
 returns c =
     let form : Form = as_form c.args.row.now in
     let read = c.in_ok-node.node in

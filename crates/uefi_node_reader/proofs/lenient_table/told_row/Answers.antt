@@ -6,8 +6,8 @@ use Rattle.uefi_node_reader.specs.LenientFields.{after_literal, pieces_set}
 use Rattle.uefi_node_reader.specs.LenientNodes.{told_in}
 use Rattle.uefi_node_reader.specs.Stops.{rest_end, stop_of}
 use Rattle.uefi_node_reader.specs.TableReading.{rest_read}
-use Rattle.uefi_node_reader.specs.TextNodes.{fitting}
-use Rattle.uefi_node_reader.specs.TextNodeViews.{text_node}
+use Rattle.uefi_node_reader.specs.ParsedNodes.{fitting}
+use Rattle.uefi_node_reader.specs.ParsedNodeViews.{parsed_node}
 use Rattle.uefi_node_reader.proofs.LenientLaws.{told_by, told_in-fitting, untold_by}
 use Rattle.uefi_node_reader.proofs.lenient_table.told_row.Goals as goal
 
@@ -24,7 +24,7 @@ returns-in-Some c =
     told_by form c.args.text.now c.in_ok-rest.rest.now read
     (start ∙ ap (λ (s : List ℕ). after_literal s c.args.text.now) c.as_bytes.ensures.value)
     (fields ∙ ap (λ (b : List ℕ). pieces_set form.kind form.sub_kind form.pieces b c.in_ok-rest.rest.now)
-    c.fixed_part-fixed.ensures) (text_node c.in-Some.node)
+    c.fixed_part-fixed.ensures) (parsed_node c.in-Some.node)
     (told ∙ ap (told_in form) (c.finish_row.ensures.data ∙ ap (λ (l : List ℕ). fitting (rest_read form (l, read.1))) whole) ∙ told_in-fitting form (rest_read form read))
 
 pub returns-in-None : goal.returns-in-None

@@ -5,7 +5,7 @@ use Rattle.uefi_node_table.specs.Rows.{Form, as_form}
 use Rattle.uefi_node_table.specs.Table.{forms}
 use Rattle.uefi_node_reader.specs.LenientNodes.{forms_tried}
 use Rattle.uefi_node_reader.specs.TableReading.{is_filled, is_sound}
-use Rattle.uefi_node_reader.specs.TextNodeViews.{text_node}
+use Rattle.uefi_node_reader.specs.ParsedNodeViews.{parsed_node}
 use Rattle.uefi_node_reader.proofs.Groups.{group_filled, group_sound}
 use Rattle.uefi_node_reader.proofs.LenientReads.{tried_step}
 use Rattle.uefi_node_reader.proofs.lenient_table.try_table.Goals as goal
@@ -24,7 +24,7 @@ pub returns-in-Ok : goal.returns-in-Ok
 returns-in-Ok c =
     tried_step c.loop-index.index c.loop-index-test.true (map as_form c.group.result.now) c.group.ensures.forms
     c.args.text.now c.loop-index.furthest (forms_tried forms None c.args.text.now) c.loop-index.invariant
-    (Ok (text_node c.in-Ok.node)) c.in-Ok.ensures
+    (Ok (parsed_node c.in-Ok.node)) c.in-Ok.ensures
 
 pub loop-index-preserved : goal.loop-index-preserved
 loop-index-preserved c =

@@ -1,7 +1,7 @@
 use Rattle.std.proofs.Common.{◌≡◌, Bool, true, false, eqb, not, ◌&&◌, ◌||◌, List, ℕ, refl, sym, ap, ◌∙◌, arith}
 use Rattle.uefi_device_nodes.specs.Nodes.{Node}
 use Rattle.uefi_node_table.specs.Table.{has_form}
-use Rattle.uefi_node_reader.specs.TextNodeViews.{text_node}
+use Rattle.uefi_node_reader.specs.ParsedNodeViews.{parsed_node}
 use Rattle.uefi_node_reader.proofs.PlainNodes.{plain_shown}
 use Rattle.uefi_node_reader.proofs.plain_nodes.is_plain.Goals as goal
 
@@ -15,7 +15,7 @@ yes false = refl
 
 pub returns-then-has_form : goal.returns-then-has_form
 returns-then-has_form c =
-    let node : Node = text_node c.args.node.now in
+    let node : Node = parsed_node c.args.node.now in
     let kind : ℕ = c.types-device_type.result.0 in
     let sub_kind : ℕ = c.types-device_type.result.1 in
     no (not (eqb kind 0x7f)) ∙ (λ i. not (eqb kind 0x7f) && (not (sym c.if-is_file.false i || sym c.if-has_form.true i) && true))
@@ -26,7 +26,7 @@ returns-then-has_form c =
 
 pub returns : goal.returns
 returns c =
-    let node : Node = text_node c.args.node.now in
+    let node : Node = parsed_node c.args.node.now in
     let kind : ℕ = c.types-device_type.result.0 in
     let sub_kind : ℕ = c.types-device_type.result.1 in
     yes (not (eqb kind 0x7f)) ∙ (λ i. not (eqb kind 0x7f) && (not (sym c.if-is_file.false i || sym c.if-has_form.false i) && true))

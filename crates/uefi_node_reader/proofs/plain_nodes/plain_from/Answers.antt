@@ -3,7 +3,7 @@ use Rattle.std.specs.Prelude.{Option, Some, option_and_then}
 use Rattle.uefi_device_nodes.specs.Nodes.{Node, node_with}
 use Rattle.uefi_node_reader.specs.FieldReading.{comma_read, read_if}
 use Rattle.uefi_node_reader.specs.PlainNodes.{is_plain}
-use Rattle.uefi_node_reader.specs.TextNodeViews.{text_node_data, text_node}
+use Rattle.uefi_node_reader.specs.ParsedNodeViews.{text_node_data, parsed_node}
 use Rattle.uefi_node_reader.proofs.PlainNodes.{none_fits, some_fits}
 use Rattle.uefi_node_reader.proofs.plain_nodes.plain_from.Goals as goal
 
@@ -20,12 +20,12 @@ returns-in_err-rest c =
     (node_with c.args.device_type c.args.sub_type (text_node_data c.in_ok-node.node)) left) o) (rw c.in_err-rest.was at c.after.ensures) ∙ read)
 
 pub returns-then-not-is_plain : goal.returns-then-not-is_plain
-unfolding text_node
+unfolding parsed_node
 returns-then-not-is_plain c =
     let types = (rw c.in_ok-node.was at c.with_tail.ensures.types) in
     let bytes : List ℕ = text_node_data c.in_ok-node.node in
     let node : Node = node_with c.args.device_type c.args.sub_type bytes in
-    let same : text_node c.in_ok-node.node ≡ node = (λ i. node_with (types.0 i) (types.1 i) bytes) in
+    let same : parsed_node c.in_ok-node.node ≡ node = (λ i. node_with (types.0 i) (types.1 i) bytes) in
     let read = some_fits c.args.device_type c.args.sub_type (comma_read c.args.text.now) bytes c.in_ok-node.rest.now
     (rw c.in_ok-node.was at c.with_tail.ensures.data) in
     ap (λ (t : Bool). read_if t node c.in_ok-rest.rest.now) (sym c.if-not-is_plain.true ∙ c.is_plain.ensures ∙ ap is_plain same)
@@ -33,12 +33,12 @@ returns-then-not-is_plain c =
     ∙ read
 
 pub returns : goal.returns
-unfolding text_node
+unfolding parsed_node
 returns c =
     let types = (rw c.in_ok-node.was at c.with_tail.ensures.types) in
     let bytes : List ℕ = text_node_data c.in_ok-node.node in
     let node : Node = node_with c.args.device_type c.args.sub_type bytes in
-    let same : text_node c.in_ok-node.node ≡ node = (λ i. node_with (types.0 i) (types.1 i) bytes) in
+    let same : parsed_node c.in_ok-node.node ≡ node = (λ i. node_with (types.0 i) (types.1 i) bytes) in
     let read = some_fits c.args.device_type c.args.sub_type (comma_read c.args.text.now) bytes c.in_ok-node.rest.now
     (rw c.in_ok-node.was at c.with_tail.ensures.data) in
     ap (λ (n : Node). Some (n, c.in_ok-rest.rest.now)) same

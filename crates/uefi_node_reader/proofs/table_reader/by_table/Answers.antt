@@ -3,7 +3,7 @@ use Rattle.std.proofs.lemmas.List.{length-map}
 use Rattle.std.specs.List.{list_all}
 use Rattle.uefi_node_table.specs.Rows.{Form, as_form}
 use Rattle.uefi_node_reader.specs.TableReading.{is_filled, is_sound}
-use Rattle.uefi_node_reader.specs.TextNodeViews.{text_node}
+use Rattle.uefi_node_reader.specs.ParsedNodeViews.{parsed_node}
 use Rattle.uefi_node_reader.specs.TableReading.{forms_read, table_read}
 use Rattle.uefi_node_table.specs.Table.{forms, forms_from}
 use Rattle.uefi_node_reader.proofs.Groups.{group_filled, group_sound, read_step, unread_step}
@@ -19,7 +19,7 @@ read_group-requires-clause-filled c =
 
 pub returns-in-Some : goal.returns-in-Some
 returns-in-Some c = read_step c.loop-index.index c.loop-index-test.true (map as_form c.group-rows.result.now) c.group-rows.ensures.forms c.loop-index.before c.args.text.now
-    (text_node c.in-Some.read.0, c.in-Some.read.1.now)
+    (parsed_node c.in-Some.read.0, c.in-Some.read.1.now)
     (table_read forms c.args.text.now) (rw c.in-Some.is at c.read_group.ensures) c.loop-index.invariant.0
 
 pub loop-index-preserved : goal.loop-index-preserved

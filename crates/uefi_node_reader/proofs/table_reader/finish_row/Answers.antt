@@ -4,7 +4,7 @@ use Rattle.std.specs.List.{list_all}
 use Rattle.std.proofs.lemmas.List.{length-take-le}
 use Rattle.uefi_node_table.specs.Rows.{Form, as_form, is_within}
 use Rattle.uefi_node_reader.specs.TableReading.{followed, pieces_put}
-use Rattle.uefi_node_reader.specs.TextNodeViews.{text_node_data}
+use Rattle.uefi_node_reader.specs.ParsedNodeViews.{text_node_data}
 use Rattle.uefi_node_reader.specs.WordReading.{after}
 use Rattle.uefi_node_reader.proofs.RestReads.{rest_none, rest_some}
 use Rattle.uefi_node_reader.proofs.table_reader.finish_row.Goals as goal

@@ -8,9 +8,9 @@ use Rattle.uefi_device_nodes.specs.Nodes.{Node, node_with}
 use Rattle.uefi_node_reader.specs.FieldReading.{◌>>=◌, read_if}
 use Rattle.uefi_node_reader.specs.TableReading.{blank, form_place, form_read, is_read, kept, pieces_put, prints, rest_read}
 use Rattle.uefi_node_reader.specs.WordReading.{after}
-use Rattle.uefi_node_reader.specs.TextNodeViews.{text_node_data, text_node}
+use Rattle.uefi_node_reader.specs.ParsedNodeViews.{text_node_data, parsed_node}
 use Rattle.uefi_node_reader.proofs.Heads.{place_shown}
-use Rattle.uefi_node_reader.proofs.TextNodes.{kept-fitting}
+use Rattle.uefi_node_reader.proofs.ParsedNodes.{kept-fitting}
 use Rattle.uefi_node_reader.proofs.table_reader.read_kept.Goals as goal
 
 -- no node is read of a text that does not begin with the start of the form
@@ -39,7 +39,7 @@ returns-in_err-node c =
     ∙ kept-fitting forms c.args.place form (form_read form c.args.text.now))
 
 pub returns-then-form_place-place : goal.returns-then-form_place-place
-unfolding text_node
+unfolding parsed_node
 returns-then-form_place-place c =
     let form : Form = as_form c.args.row.now in
     let bytes : List ℕ = text_node_data c.in_ok-node.node in
@@ -53,7 +53,7 @@ returns-then-form_place-place c =
     ∙ kept-fitting forms c.args.place form (form_read form c.args.text.now)
 
 pub returns : goal.returns
-unfolding text_node
+unfolding parsed_node
 returns c =
     let form : Form = as_form c.args.row.now in
     let read = c.in_ok-node.node in

@@ -1,0 +1,206 @@
+//! Device paths that grow in their buffer.
+#![tactic(auto)]
+
+ghost use Rattle.std.specs.Prelude.{◌≡◌, ◌+◌, ◌-◌, ◌^◌, ◌≤◌, min, ◌∷◌, ◌++◌, [], List, drop, length, take, Err, IfErr, IfOk, IsOk, None, OnErr, OnOk};
+ghost use Rattle.std.specs.Result.{result_err};
+ghost use Rattle.uefi_text.specs.UnalignedCStr16.{with_prefix};
+ghost use Rattle.uefi_device_nodes.specs.Nodes.{Node, end_entire, node_bytes, node_length};
+ghost use Rattle.uefi_device_path.specs.Building.{append_refusal, build_refusal, grow_refusal, push_refusal};
+ghost use Rattle.uefi_device_path.specs.Faults.{RefusedFor};
+ghost use Rattle.uefi_device_path.specs.Paths.{BeginWithPath, IsPath, nodes_in, path_bytes, without_end};
+ghost use Rattle.uefi_device_path.specs.Views.{nodes_of};
+ghost use Rattle.uefi_device_path.specs.declared.errors.DevicePathError.{DevicePathError};
+
+use crate::device_path_buf::{check_node, node_header};
+use crate::device_path::DevicePath;
+use crate::errors::{BuildError, DevicePathError, GrowError};
+use uefi_device_nodes::build_node::{BuildNode, copy_bytes};
+
+/// Writes a node, and the node that ends a path after it.
+fn put_node<N: BuildNode>(places: &mut [u8], header: [u8; 4], node: &N)
+    requires { length places.now ≡ length (N.node node.now).content + 8 }
+    ensures { places.new ≡ header ++ ((N.node node.now).content ++ node_bytes end_entire) }
+{
+    let (start, rest) = places.split_at_mut(4);
+    start.copy_from_slice(&header);
+    let (middle, end) = rest.split_at_mut(node.data_len());
+    node.write_data(middle);
+    end.copy_from_slice(&[0x7f, 0xff, 4, 0]);
+}
+
+/// Adds a node that may be before the end of a path, and for which there is room, to the path in
+/// the first `len` bytes of a buffer. Returns the number of bytes that the path then has.
+pub(crate) fn put_at<N: BuildNode>(buffer: &mut [u8], len: usize, node: &N) -> usize
+    requires within { len ≤ length buffer.now }
+    requires is_path { IsPath (take len buffer.now) }
+    requires unrefused { build_refusal (N.node node.now) ≡ None }
+    requires room { len + node_length (N.node node.now) ≤ length buffer.now }
+    ensures end { result ≡ len + node_length (N.node node.now) }
+    ensures grown { IsPath (take result buffer.new) }
+    ensures nodes { nodes_in (without_end (take result buffer.new))
+        ≡ nodes_in (without_end (take len buffer.old)) ++ N.node node.now ∷ [] }
+    ensures rest { drop result buffer.new ≡ drop result buffer.old }
+{
+    let header = node_header(node);
+    let end = len + node.data_len() + 4;
+    put_node(&mut buffer[len - 4..end], header, node);
+    end
+}
+
+/// Adds a node as [`put_at`] does if there is room for it; otherwise leaves the buffer unchanged.
+/// Returns the number of bytes that the path then has or needs, as far as a `usize` counts.
+pub(crate) fn put_if_room<N: BuildNode>(buffer: &mut [u8], len: usize, node: &N) -> usize
+    requires is_path { len ≤ length buffer.now → IsPath (take len buffer.now) }
+    requires unrefused { build_refusal (N.node node.now) ≡ None }
+    ensures end { result ≡ min (len + node_length (N.node node.now)) (2 ^ 64 - 1) }
+    ensures exact { result ≤ length buffer.old → result ≡ len + node_length (N.node node.now) }
+    ensures grown { result ≤ length buffer.old → IsPath (take result buffer.new) }
+    ensures nodes { result ≤ length buffer.old → nodes_in (without_end (take result buffer.new))
+        ≡ nodes_in (without_end (take len buffer.old)) ++ N.node node.now ∷ [] }
+    ensures rest { result ≤ length buffer.old → drop result buffer.new ≡ drop result buffer.old }
+{
+    let end = len.saturating_add(node.data_len()).saturating_add(4);
+    if buffer.len() < end {
+        return end;
+    }
+    put_at(buffer, len, node)
+}
+
+/// Adds a node before the end of the path that the first `len` bytes of a buffer are, and returns how many
+/// bytes the path then has.
+pub(crate) fn push_at<N: BuildNode>(
+    buffer: &mut [u8],
+    len: usize,
+    node: &N,
+) -> Result<usize, BuildError>
+    requires within { len ≤ length buffer.now }
+    requires is_path { IsPath (take len buffer.now) }
+    ensures within { IfOk result (λ end. end ≤ length buffer.old) }
+    ensures grown { IfOk result (λ end. IsPath (take end buffer.new)) }
+    ensures nodes { IfOk result (λ end. nodes_in (without_end (take end buffer.new))
+        ≡ nodes_in (without_end (take len buffer.old)) ++ N.node node.now ∷ []) }
+    ensures rest { IfOk result (λ end. drop end buffer.new ≡ drop end buffer.old) }
+    ensures err { OnErr result (buffer.new ≡ buffer.old) }
+    ensures refusal { result_err result
+        ≡ push_refusal (nodes_in (without_end (take len buffer.old))) (N.node node.now) (length buffer.old) }
+{
+    if let Err(error) = check_node(node) {
+        return Err(error);
+    }
+    let end = len + node.data_len() + 4;
+    if buffer.len() < end {
+        return Err(BuildError::BufferTooSmall(end));
+    }
+    Ok(put_at(buffer, len, node))
+}
+
+/// Adds the nodes of another path before the end of the path that the first `len` bytes of a buffer are, and
+/// returns how many bytes the path then has.
+pub(crate) fn append_at(
+    buffer: &mut [u8],
+    len: usize,
+    path: DevicePath<'_>,
+) -> Result<usize, BuildError>
+    requires within { len ≤ length buffer.now }
+    requires is_path { IsPath (take len buffer.now) }
+    ensures within { IfOk result (λ end. end ≤ length buffer.old) }
+    ensures grown { IfOk result (λ end. IsPath (take end buffer.new)) }
+    ensures nodes { IfOk result (λ end. nodes_in (without_end (take end buffer.new))
+        ≡ nodes_in (without_end (take len buffer.old)) ++ nodes_of path.entry) }
+    ensures rest { IfOk result (λ end. drop end buffer.new ≡ drop end buffer.old) }
+    ensures err { OnErr result (buffer.new ≡ buffer.old) }
+    ensures refusal { result_err result
+        ≡ append_refusal (nodes_in (without_end (take len buffer.old))) (nodes_of path.entry)
+        (length buffer.old) }
+{
+    let added = path.as_bytes();
+    let end = len.saturating_add(added.len() - 4);
+    if buffer.len() < end {
+        return Err(BuildError::BufferTooSmall(end));
+    }
+    copy_bytes(&mut buffer[len - 4..end], added);
+    Ok(end)
+}
+
+/// Returns the number of bytes of the path at the start of a buffer.
+pub(crate) fn path_len(buffer: &[u8]) -> Result<usize, DevicePathError>
+    ensures within { IfOk result (λ len. len ≤ length buffer.now) }
+    ensures is_path { IfOk result (λ len. IsPath (take len buffer.now)) }
+    ensures begins { IfOk result (λ len.
+        BeginWithPath buffer.now (nodes_in (without_end (take len buffer.now)))) }
+    ensures accepts { (nodes : List Node) → BeginWithPath buffer.now nodes
+        → IfOk result (λ len. nodes ≡ nodes_in (without_end (take len buffer.now))) × IsOk result }
+    ensures err { IfErr result (λ error. RefusedFor buffer.now error) }
+    ensures refusal { (error : DevicePathError) → RefusedFor buffer.now error → result ≡ Err error }
+{
+    match DevicePath::from_bytes(buffer) {
+        Ok(path) => Ok(path.as_bytes().len()),
+        Err(error) => Err(error),
+    }
+}
+
+/// Adds a node before the end of the device path at the start of a buffer, and returns the number
+/// of bytes that the path then has. The rest of the buffer is unchanged.
+///
+/// Fails with `Path` if the buffer does not begin with a device path, and otherwise as
+/// [`DevicePathBuilder::push_node`](crate::DevicePathBuilder::push_node) does; the buffer is then
+/// unchanged. Does not allocate.
+///
+/// ```rust
+/// let mut buffer = [0x7f, 0xff, 4, 0, 0, 0, 0, 0, 0, 0];
+/// let node = build::hardware::Pci { function: 2, device: 0x1f };
+/// assert_eq!(rt; push_in_buf(&mut buffer, &node), Ok(10));
+/// assert_eq!(rt; buffer, [1, 1, 6, 0, 2, 0x1f, 0x7f, 0xff, 4, 0]);
+/// let refused = push_in_buf(&mut buffer, &node);
+/// assert_eq!(rt; refused, Err(GrowError::Build(BuildError::BufferTooSmall(16))));
+/// ```
+pub fn push_in_buf<N: BuildNode>(buffer: &mut [u8], node: &N) -> Result<usize, GrowError>
+    ensures no_path { (error : DevicePathError) → RefusedFor buffer.old error
+        → result ≡ Err (GrowError.Path error) }
+    ensures refusal { (nodes : List Node) → BeginWithPath buffer.old nodes
+        → result_err result ≡ grow_refusal (push_refusal nodes (N.node node.now) (length buffer.old)) }
+    ensures len { (nodes : List Node) → BeginWithPath buffer.old nodes
+        → IfOk result (λ len. len ≡ length (path_bytes (nodes ++ N.node node.now ∷ []))) }
+    ensures buffer { (nodes : List Node) → BeginWithPath buffer.old nodes
+        → OnOk result (buffer.new ≡ with_prefix (path_bytes (nodes ++ N.node node.now ∷ [])) buffer.old) }
+    ensures err { OnErr result (buffer.new ≡ buffer.old) }
+{
+    let len = match path_len(buffer) {
+        Ok(len) => len,
+        Err(error) => return Err(GrowError::Path(error)),
+    };
+    match push_at(buffer, len, node) {
+        Ok(len) => Ok(len),
+        Err(error) => Err(GrowError::Build(error)),
+    }
+}
+
+/// Adds the nodes of another path before the end of the device path at the start of a buffer, and
+/// returns the number of bytes that the path then has, as [`push_in_buf`] does.
+///
+/// ```rust
+/// let card = DevicePathBuf::from_text(rt.alloc(), "SD(0x1)")?;
+/// let mut buffer = [0x7f, 0xff, 4, 0, 0, 0, 0, 0, 0];
+/// assert_eq!(rt; append_in_buf(&mut buffer, card.as_device_path()), Ok(9));
+/// assert_eq!(rt; buffer, [3, 0x1a, 5, 0, 1, 0x7f, 0xff, 4, 0]);
+/// ```
+pub fn append_in_buf(buffer: &mut [u8], path: DevicePath<'_>) -> Result<usize, GrowError>
+    ensures no_path { (error : DevicePathError) → RefusedFor buffer.old error
+        → result ≡ Err (GrowError.Path error) }
+    ensures refusal { (nodes : List Node) → BeginWithPath buffer.old nodes
+        → result_err result ≡ grow_refusal (append_refusal nodes (nodes_of path.entry) (length buffer.old)) }
+    ensures len { (nodes : List Node) → BeginWithPath buffer.old nodes
+        → IfOk result (λ len. len ≡ length (path_bytes (nodes ++ nodes_of path.entry))) }
+    ensures buffer { (nodes : List Node) → BeginWithPath buffer.old nodes
+        → OnOk result (buffer.new ≡ with_prefix (path_bytes (nodes ++ nodes_of path.entry)) buffer.old) }
+    ensures err { OnErr result (buffer.new ≡ buffer.old) }
+{
+    let len = match path_len(buffer) {
+        Ok(len) => len,
+        Err(error) => return Err(GrowError::Path(error)),
+    };
+    match append_at(buffer, len, path) {
+        Ok(len) => Ok(len),
+        Err(error) => Err(GrowError::Build(error)),
+    }
+}

@@ -1,0 +1,77 @@
+//! Device paths that grow in their buffer by the nodes of a text in a style.
+#![tactic(auto)]
+
+ghost use Rattle.std.specs.Prelude.{◌≡◌, ◌+◌, true, ◌<◌, ◌≤◌, ◌++◌, List, drop, length, take, Err, IfErr, IfOk, OnErr, OnOk};
+ghost use Rattle.std.specs.Result.{result_err};
+ghost use Rattle.uefi_device_nodes.specs.RawNodes.{raw_node};
+ghost use Rattle.uefi_device_nodes.specs.Nodes.{Node};
+ghost use Rattle.uefi_device_path.specs.PathReading.{end_instance};
+ghost use Rattle.uefi_device_path.specs.Faults.{RefusedFor};
+ghost use Rattle.uefi_device_path.specs.StyledReading.{IsPushLenientError, IsReadAs, IsStyledText, ReadingStopsAt, lenient_refusal};
+ghost use Rattle.uefi_device_path.specs.Paths.{BeginWithPath, IsPath, nodes_in, path_bytes, without_end};
+ghost use Rattle.uefi_node_reader.specs.Styles.{HasScratch, is_copied};
+ghost use Rattle.uefi_text.specs.UnalignedCStr16.{with_prefix};
+ghost use Rattle.uefi_device_path.specs.declared.errors.DevicePathError.{DevicePathError};
+ghost use Rattle.uefi_device_path.specs.declared.lenient_errors.TextFault.{TextFault};
+
+use crate::path_in_buf::path_len;
+use crate::laws::styled_texts;
+use crate::lenient_errors::PushLenientTextError;
+use crate::styled_reader::put_text;
+use uefi_node_reader::styles::{TextStyle, is_copied};
+
+/// Adds the nodes of a text, read in a style, before the end of the device path at the start of a
+/// buffer, and returns the number of bytes that the path then has. The rest of the buffer is
+/// unchanged.
+///
+/// Hidden: the C library calls it with each style, and it may change. Other callers use
+/// [`crate::push_text_in_buf`], [`crate::push_lenient_text_in_buf`] and
+/// [`crate::push_libefivar_text_in_buf`].
+#[doc(hidden)]
+pub fn push_styled_text_in_buf(
+    style: TextStyle,
+    buffer: &mut [u8],
+    text: &str,
+    scratch: &mut [u8],
+) -> Result<usize, PushLenientTextError>
+    ensures no_path { (error : DevicePathError) → RefusedFor buffer.old error
+        → result ≡ Err (PushLenientTextError.Path error) }
+    ensures no_scratch { (nodes : List Node) → BeginWithPath buffer.old nodes
+        → is_copied style ≡ true → length scratch.old ≤ length text.now
+        → result ≡ Err (PushLenientTextError.ScratchTooSmall (length text.now + 1)) }
+    ensures no_node { (nodes : List Node) → BeginWithPath buffer.old nodes
+        → HasScratch style text.now scratch.old
+        → (fault : TextFault) → ReadingStopsAt style text.now fault
+        → result ≡ Err (PushLenientTextError.NoNode fault) }
+    ensures refusal { (nodes read : List Node) → BeginWithPath buffer.old nodes
+        → HasScratch style text.now scratch.old → IsReadAs style text.now read
+        → result_err result ≡ lenient_refusal nodes read (length buffer.old) }
+    ensures len { (nodes read : List Node) → BeginWithPath buffer.old nodes → IsReadAs style text.now read
+        → IfOk result (λ len. len ≡ length (path_bytes (nodes ++ read))) }
+    ensures buffer { (nodes read : List Node) → BeginWithPath buffer.old nodes → IsReadAs style text.now read
+        → OnOk result (buffer.new ≡ with_prefix (path_bytes (nodes ++ read)) buffer.old) }
+    ensures read { OnOk result (IsStyledText style text.now) }
+    ensures cause { IfErr result (λ error. IsPushLenientError style buffer.old text.now error) }
+    ensures err { OnErr result (buffer.new ≡ buffer.old) }
+{
+    styled_texts();
+    let len = match path_len(buffer) {
+        Ok(len) => len,
+        Err(error) => return Err(PushLenientTextError::Path(error)),
+    };
+    let bytes = text.as_bytes();
+    if is_copied(style) && scratch.len() <= bytes.len() {
+        return Err(PushLenientTextError::ScratchTooSmall(bytes.len() + 1));
+    }
+    let needed = match put_text(style, &mut [], len, bytes, scratch) {
+        Ok(needed) => needed,
+        Err(fault) => return Err(PushLenientTextError::NoNode(fault)),
+    };
+    if buffer.len() < needed {
+        return Err(PushLenientTextError::BufferTooSmall(needed));
+    }
+    match put_text(style, buffer, len, bytes, scratch) {
+        Ok(len) => Ok(len),
+        Err(fault) => Err(PushLenientTextError::NoNode(fault)),
+    }
+}

@@ -1,0 +1,31 @@
+-- A node whose text was read: its first bytes, and the text that tells the others.
+use Rattle.std.specs.Prelude.{ℕ, Bool, nat_le, is_some, if◌then◌else◌, List, [], ◌++◌, length, take, Option, Some, None}
+use Rattle.std.specs.Str.{chars, is_utf8}
+use Rattle.uefi_node_reader.specs.NamedFiles.{name_data}
+use Rattle.uefi_node_reader.specs.TableReading.{tail_read}
+use Rattle.uefi_node_reader.specs.declared.data_form.DataForm.{DataForm}
+use Rattle.uefi_node_reader.specs.declared.data_form.DataForm.TheVariants.{InTail, InName}
+
+-- data that were read, or none
+abbrev pub read_data : Option (List ℕ × List ℕ) → List ℕ
+read_data None = []
+read_data (Some read) = read.0
+
+-- the data that a text begins with
+abbrev pub decoded : DataForm → List ℕ → List ℕ → List ℕ
+decoded (InTail tail) close text = read_data (tail_read tail close text)
+decoded InName close text = name_data (chars text)
+
+-- the test for a text that begins with data
+abbrev pub is_coded : DataForm → List ℕ → List ℕ → Bool
+is_coded (InTail tail) close text = is_some (tail_read tail close text)
+is_coded InName close text = is_utf8 text
+
+-- data that are no more than a node may have, and what stands after them
+abbrev pub fitting : Option (List ℕ × List ℕ) → Option (List ℕ × List ℕ)
+fitting None = None
+fitting (Some read) = if nat_le (length read.0) 0xfffb then Some read else None
+
+-- all data: the first of these bytes, and those that a text begins with
+abbrev pub all_data : List ℕ → ℕ → DataForm → List ℕ → List ℕ → List ℕ
+all_data head fixed data_form close text = take fixed head ++ decoded data_form close text

@@ -1,0 +1,171 @@
+//! Nodes whose texts were read. Their data are decoded where they go: reading takes no memory.
+#![tactic(auto, unfolding(crate::specs::ParsedNodeViews::parsed_node))]
+
+ghost use Rattle.std.specs.List.{list_all};
+ghost use Rattle.std.specs.Option.{option_and_then, option_map};
+ghost use Rattle.std.specs.Prelude.{◌≡◌, ◌≤◌, IfSome, IsTrue, true, drop, if◌then◌else◌, length, map, nat_le, take, None, Some};
+ghost use Rattle.std.specs.Str.{chars};
+ghost use Rattle.uefi_device_nodes.specs.Nodes.{node_with};
+ghost use Rattle.uefi_node_reader.specs.NamedFiles.{name_data};
+ghost use Rattle.uefi_node_table.specs.Rows.{as_piece, is_within};
+ghost use Rattle.uefi_node_reader.specs.TableReading.{added, followed, pieces_put, tail_read};
+ghost use Rattle.uefi_node_reader.specs.ParsedNodes.{all_data, fitting, is_coded};
+
+use crate::data_form::DataForm;
+use crate::counted_bytes::push_all;
+use crate::name_data::push_name;
+use crate::node_tails::{push_tail, read_pieces};
+use uefi_node_table::rows::{Piece, Tail};
+
+/// A node whose text was read. A contract sees it as `parsed_node` of it. Its numbers are small, so that it is
+/// moved without a call of `memcpy`, which firmware lacks.
+#[derive(Clone, Copy)]
+pub struct ParsedNode<'a> {
+    device_type: u8,
+    sub_type: u8,
+    head: [u8; 64],
+    fixed: u8,
+    data_form: DataForm,
+    close: &'static str,
+    text: &'a [u8],
+    len: u16,
+    pub ghost small: { fixed ≤ 64 },
+    pub ghost coded: { is_coded data_form close.now text.now ≡ true },
+    pub ghost counted: { len ≡ length (all_data head fixed data_form close.now text.now) },
+    pub ghost shown: { take len head ≡ take 64 (all_data head fixed data_form close.now text.now) },
+    pub ghost fits: { len ≤ 0xfffb },
+}
+
+impl<'a> ParsedNode<'a> {
+    ghost use Rattle.uefi_node_reader.specs.ParsedNodeViews.{text_node_data, parsed_node};
+
+    /// The node with these fixed bytes, and the data that a text begins with before `close`, as a tail has
+    /// them; and what stands after these.
+    pub(crate) fn with_tail(
+        device_type: u8,
+        sub_type: u8,
+        fixed_bytes: [u8; 64],
+        fixed: usize,
+        tail: Tail,
+        close: &'static str,
+        text: &'a [u8],
+    ) -> Option<(Self, &'a [u8])>
+        requires { fixed ≤ 64 }
+        ensures types { IfSome result (λ x. (x.0.device_type ≡ device_type) × (x.0.sub_type ≡ sub_type)) }
+        ensures fixed { IfSome result (λ x. x.0.fixed ≡ fixed) }
+        ensures data { option_map (λ x. (text_node_data x.0, x.1.now)) result
+            ≡ fitting (option_and_then (added (take fixed fixed_bytes)) (tail_read tail close.now text.now)) }
+    {
+        let mut head = fixed_bytes;
+        let (len, rest) = push_tail(tail, close.as_bytes(), &mut head, fixed, text)?;
+        if 0xfffb < len {
+            return None;
+        }
+        let node = ParsedNode {
+            device_type,
+            sub_type,
+            head,
+            fixed: fixed as u8,
+            data_form: DataForm::InTail(tail),
+            close,
+            text,
+            len: len as u16,
+        };
+        Some((node, rest))
+    }
+
+    /// The node with further fields of its fixed part, which a text begins with; and what stands after them.
+    pub(crate) fn with_fields<'b>(
+        self,
+        pieces: &[Piece],
+        text: &'b [u8],
+    ) -> Option<(Self, &'b [u8])>
+        requires { IsTrue (list_all (is_within self.fixed) (map as_piece pieces.now)) }
+        ensures types { IfSome result (λ x.
+            (x.0.device_type ≡ self.entry.device_type) × (x.0.sub_type ≡ self.entry.sub_type)) }
+        ensures data { option_map (λ x. (text_node_data x.0, x.1.now)) result
+            ≡ option_and_then (followed (drop self.entry.fixed (text_node_data self.entry)))
+            (pieces_put (map as_piece pieces.now)
+            (take self.entry.fixed (text_node_data self.entry)) text.now) }
+    {
+        let mut head = self.head;
+        let rest = read_pieces(pieces, &mut head[..usize::from(self.fixed)], text)?;
+        let node = ParsedNode {
+            device_type: self.device_type,
+            sub_type: self.sub_type,
+            head,
+            fixed: self.fixed,
+            data_form: self.data_form,
+            close: self.close,
+            text: self.text,
+            len: self.len,
+        };
+        Some((node, rest))
+    }
+
+    /// The node that a name tells, whole.
+    pub(crate) fn with_name(name: &'a str) -> Option<Self>
+        ensures { option_map parsed_node result ≡ (if nat_le (length (name_data (chars name.now))) 0xfffb
+            then Some (node_with 4 4 (name_data (chars name.now))) else None) }
+    {
+        let mut head = [0; 64];
+        let len = push_name(&mut head, 0, name);
+        if 0xfffb < len {
+            return None;
+        }
+        Some(ParsedNode {
+            device_type: 4,
+            sub_type: 4,
+            head,
+            fixed: 0,
+            data_form: DataForm::InName,
+            close: "",
+            text: name.as_bytes(),
+            len: len as u16,
+        })
+    }
+
+    /// The type and the sub-type.
+    pub fn types(&self) -> (u8, u8)
+        ensures device_type { result.0 ≡ (parsed_node self.now).device_type }
+        ensures sub_type { result.1 ≡ (parsed_node self.now).sub_type }
+    {
+        (self.device_type, self.sub_type)
+    }
+
+    /// How many bytes of data the node has.
+    pub fn data_len(&self) -> usize
+        ensures count { result ≡ length (parsed_node self.now).content }
+        ensures fits { result ≤ 0xfffb }
+    {
+        usize::from(self.len)
+    }
+
+    /// The first bytes of the data, at most 64.
+    pub(crate) fn head(&self) -> &[u8]
+        ensures { result.now ≡ take 64 (parsed_node self.now).content }
+    {
+        if self.len < 64 {
+            return &self.head[..usize::from(self.len)];
+        }
+        &self.head
+    }
+
+    /// Writes the data to bytes, which are as many.
+    pub fn write_data(&self, bytes: &mut [u8])
+        requires { length bytes.old ≡ length (parsed_node self.now).content }
+        ensures { bytes.new ≡ (parsed_node self.now).content }
+    {
+        let len = push_all(bytes, 0, &self.head[..usize::from(self.fixed)]);
+        match self.data_form {
+            DataForm::InTail(tail) => {
+                let _ = push_tail(tail, self.close.as_bytes(), bytes, len, self.text);
+            }
+            DataForm::InName => {
+                if let Ok(name) = str::from_utf8(self.text) {
+                    push_name(bytes, len, name);
+                }
+            }
+        }
+    }
+}
