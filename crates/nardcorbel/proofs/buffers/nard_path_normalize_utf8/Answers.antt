@@ -106,3 +106,16 @@ returns-clause-enough c = λ big utf8 is_text valid.
     let same : length (with_separators text) ≡ length text = length-map text (replaced slash separator) in
     (returns-clause-path c has).reason ∙ ap (λ r. reason_shown (unless r (λ error. refusal_at (path_reason error) (length text)) (Text (normal_text pieces))) (first_half c.args.buffer.now)) none
     ∙ has_room (normal_text pieces) (first_half c.args.buffer.now) (omega (arith, some, room.0, short, same))
+
+pub returns-then-reason-ne-OK-clause-length : goal.returns-then-reason-ne-OK-clause-length
+returns-then-reason-ne-OK-clause-length c = λ normal has is.
+    absurd (c.if-reason-ne-OK.true (c.nard_string_from_utf8-reason.ensures.shows.reason
+    ∙ ap (reason_shown (string_of_utf8 c.args.bytes.now)) c.split_at_mut-first.ensures.back ∙ has))
+
+pub returns-clause-length : goal.returns-clause-length
+returns-clause-length c = λ normal has is.
+    let cut = c.split_at_mut-first.ensures in
+    let fits = has_string c.args.bytes.now c.split_at_mut-first.result.1.now (subst (HasStringIn c.args.bytes.now) (sym cut.back) has) in
+    let wrote = c.nard_string_from_utf8-reason.ensures.shows.buffer ∙ wrote_string c.args.bytes.now c.split_at_mut-first.result.1.now fits in
+    c.nard_path_normalize.ensures.length (chars c.args.bytes.now) normal
+    (reads_written (chars c.args.bytes.now) c.split_at_mut-first.result.1.now _ fits.text fits.room wrote) is
