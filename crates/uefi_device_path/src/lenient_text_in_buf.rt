@@ -13,8 +13,8 @@ ghost use Rattle.uefi_device_path.specs.declared.errors.DevicePathError.{DeviceP
 ghost use Rattle.uefi_device_path.specs.declared.lenient_errors.TextFault.{TextFault};
 ghost use Rattle.uefi_node_reader.specs.declared.styles.TextStyle.TheVariants.{Lenient, Libefivar};
 
-use crate::styled_text_in_buf::push_styled_text_in_buf;
 use crate::lenient_errors::PushLenientTextError;
+use crate::styled_text_in_buf::push_styled_text_in_buf;
 use uefi_node_reader::styles::TextStyle;
 
 /// Adds the nodes of a text, as people write it, before the end of the device path at the start of

@@ -11,8 +11,8 @@ ghost use Rattle.uefi_device_path.specs.Paths.{BeginWithPath, IsPath, nodes_in, 
 ghost use Rattle.uefi_device_path.specs.Views.{nodes_of};
 ghost use Rattle.uefi_device_path.specs.declared.errors.DevicePathError.{DevicePathError};
 
-use crate::device_path_buf::{check_node, node_header};
 use crate::device_path::DevicePath;
+use crate::device_path_buf::{check_node, node_header};
 use crate::errors::{BuildError, DevicePathError, GrowError};
 use uefi_device_nodes::build_node::{BuildNode, copy_bytes};
 

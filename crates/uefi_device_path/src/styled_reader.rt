@@ -14,17 +14,17 @@ ghost use Rattle.uefi_device_path.specs.declared.lenient_errors.LenientTextError
 ghost use Rattle.uefi_node_reader.specs.ParsedNodeViews.{parsed_node};
 
 use crate::device_path_buf::{DevicePathBuf, empty_path};
-use crate::path_in_buf::put_if_room;
 use crate::lenient_errors::{LenientTextError, TextFault};
+use crate::path_in_buf::put_if_room;
 use std::alloc::Allocator;
 use uefi_device_nodes::build_node::{BuildNode, RawNode};
 use uefi_device_nodes::{DeviceSubType, DeviceType};
 use uefi_node_reader::faults::NodeFault;
 use uefi_node_reader::nodes::nodes_are_read;
+use uefi_node_reader::parsed_node::ParsedNode;
 use uefi_node_reader::styles::{
     TextStyle, faults_lie_within, read_styled_node, styled_nodes_are_read,
 };
-use uefi_node_reader::parsed_node::ParsedNode;
 
 /// Returns the node that ends an instance.
 fn instance_end() -> RawNode<'static>

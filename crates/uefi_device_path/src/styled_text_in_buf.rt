@@ -14,9 +14,9 @@ ghost use Rattle.uefi_text.specs.UnalignedCStr16.{with_prefix};
 ghost use Rattle.uefi_device_path.specs.declared.errors.DevicePathError.{DevicePathError};
 ghost use Rattle.uefi_device_path.specs.declared.lenient_errors.TextFault.{TextFault};
 
-use crate::path_in_buf::path_len;
 use crate::laws::styled_texts;
 use crate::lenient_errors::PushLenientTextError;
+use crate::path_in_buf::path_len;
 use crate::styled_reader::put_text;
 use uefi_node_reader::styles::{TextStyle, is_copied};
 

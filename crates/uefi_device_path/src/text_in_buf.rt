@@ -14,9 +14,9 @@ ghost use Rattle.uefi_text.specs.UnalignedCStr16.{with_prefix};
 ghost use Rattle.uefi_device_path.specs.declared.errors.DevicePathError.{DevicePathError};
 
 use crate::errors::PushTextError;
-use crate::styled_text_in_buf::push_styled_text_in_buf;
 use crate::laws::{accepted_paths, styled_texts};
 use crate::lenient_errors::PushLenientTextError;
+use crate::styled_text_in_buf::push_styled_text_in_buf;
 use uefi_node_reader::nodes::{node_text_once, nodes_are_read};
 use uefi_node_reader::styles::TextStyle;
 

@@ -274,7 +274,8 @@ module _ (back other : List ℕ) where
   numeric_kept shape width n front left e h =
       let p = low_past width (number_of shape width (front ++ back)) (left ++ back) (ap past (sym (any_of shape width n (front ++ back))) ∙ e) in
       ap past (any_of shape width n (front ++ other))
-      ∙ past_low width (number_of shape width (front ++ other)) p.0 (left ++ other) (taken_kept (number_of shape width) front left back other p.0 (number_of_taken shape width (front ++ back) p.0 (left ++ back) p.1) h)
+      ∙ past_low width (number_of shape width (front ++ other)) p.0 (left ++ other)
+      (taken_kept (number_of shape width) front left back other p.0 (number_of_taken shape width (front ++ back) p.0 (left ++ back) p.1) h)
 
   pub closed_kept : (shape : Shape) (width : ℕ) → fits_shape shape width ≡ true → 1 ≤ width → is_kept shape ≡ true → (front left : List ℕ)
       → past (any_field shape width (front ++ back)) ≡ Some (left ++ back) → past (any_field shape width (front ++ other)) ≡ Some (left ++ other)

@@ -78,7 +78,8 @@ module _ (back thing more : List ℕ) (what : Expected) (is : IsThing what thing
   byte_stays : (front middle : List ℕ) → (length middle ≡ 0 → IsApart other) → byte (front ++ back) ≡ Ok (middle ++ back) → byte (front ++ other) ≡ Ok (middle ++ other)
   byte_stays front middle apart e =
       let p = past_some (any_number 256 (front ++ back)) (middle ++ back) (ok_some (read_byte (front ++ back)) (stop_at (front ++ back) (Number 255)) (middle ++ back) e) in
-      ap (λ (o : Option (ℕ × List ℕ)). ok_or (past o) (stop_at (front ++ other) (Number 255))) (taken_kept (any_number 256) front middle back other p.0 (number_taken 256 (front ++ back) p.0 (middle ++ back) p.1) apart)
+      ap (λ (o : Option (ℕ × List ℕ)). ok_or (past o) (stop_at (front ++ other) (Number 255)))
+      (taken_kept (any_number 256) front middle back other p.0 (number_taken 256 (front ++ back) p.0 (middle ++ back) p.1) apart)
 
   -- what begins with a comma or a bracket
   apart_of : (c : ℕ) → has_digit 16 (c ∷ more) ≡ false → eqb c 120 ≡ false → thing ≡ c ∷ [] → IsApart other

@@ -13,8 +13,8 @@ ghost use Rattle.uefi_node_reader.specs.WordReading.{word_number};
 
 use crate::counted_bytes::push_all;
 use crate::fields::put_low;
-use crate::table_reader::fixed_part;
 use crate::parsed_node::ParsedNode;
+use crate::table_reader::fixed_part;
 use uefi_field_texts::ids::eisa_bits;
 use uefi_node_table::printing::{form_of, number_of};
 use uefi_node_table::rows::{Items, Mode, Piece, Row, Shape, Tail};

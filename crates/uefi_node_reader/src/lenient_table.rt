@@ -14,15 +14,15 @@ ghost use Rattle.uefi_node_reader.specs.TableReading.{form_read, is_filled, is_r
 ghost use Rattle.uefi_node_reader.specs.ParsedNodeViews.{text_node_data, parsed_node};
 
 use crate::ambiguous::ambiguous_stop;
+use crate::complete_texts::tells;
 use crate::counted_bytes::push;
 use crate::faults::{Expected, NodeFault, Stop};
 use crate::lenient_fields::{after_letter, after_literal, set_pieces};
 use crate::other_forms::pasted_forms;
+use crate::parsed_node::ParsedNode;
 use crate::plain_nodes::{told_types, types_end};
 use crate::stops::{further, rest_end, stop_at, stop_of};
 use crate::table_reader::{finish_row, fixed_part, read_row};
-use crate::complete_texts::tells;
-use crate::parsed_node::ParsedNode;
 use uefi_node_table::rows::{Mode, Row, Tail};
 use uefi_node_table::table::{GROUPS, group};
 
@@ -108,7 +108,8 @@ fn told<'a>(row: &Row, read: Option<(ParsedNode<'a>, &'a [u8])>) -> Option<Parse
 pub(crate) fn exact_told<'a>(row: &Row, text: &'a [u8]) -> Option<ParsedNode<'a>>
     requires sound { IsTrue (is_sound (as_form row.now)) }
     requires filled { IsTrue (is_filled (as_form row.now)) }
-    ensures { option_map parsed_node result ≡ told_in (as_form row.now) (form_read (as_form row.now) text.now) }
+    ensures { option_map parsed_node result
+        ≡ told_in (as_form row.now) (form_read (as_form row.now) text.now) }
 {
     told(row, read_row(row, text))
 }

@@ -20,8 +20,8 @@ use crate::fields::after;
 use crate::lenient_names::begins_call;
 use crate::lenient_table::{cut_call, exact_told, place_at, tidy};
 use crate::other_forms::own_forms;
-use crate::stops::stop_at;
 use crate::parsed_node::ParsedNode;
+use crate::stops::stop_at;
 use uefi_node_table::rows::Row;
 
 /// Reads the node of the first of these forms that a tidied text has exactly.
@@ -51,7 +51,10 @@ fn own_call<'s, 't>(scratch: &'s mut [u8], text: &'t [u8]) -> Option<(ParsedNode
 }
 
 /// The same of a text that begins with a call.
-pub(crate) fn own<'s, 't>(scratch: &'s mut [u8], text: &'t [u8]) -> Option<(ParsedNode<'s>, &'t [u8])>
+pub(crate) fn own<'s, 't>(
+    scratch: &'s mut [u8],
+    text: &'t [u8],
+) -> Option<(ParsedNode<'s>, &'t [u8])>
     requires { length text.now < length scratch.old }
     ensures { option_map (λ x. (parsed_node x.0, x.1.now)) result ≡ own_read text.now }
 {

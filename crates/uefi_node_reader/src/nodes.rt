@@ -18,9 +18,9 @@ use crate::lenient_fields::after_literal;
 use crate::lenient_names::{bare, begins_call, file};
 use crate::lenient_table::by_call;
 use crate::named_files::{is_after_node, name, past_spaces};
+use crate::parsed_node::ParsedNode;
 use crate::plain_nodes::plain;
 use crate::table_reader::by_table;
-use crate::parsed_node::ParsedNode;
 
 /// Reads the node whose text bytes begin with, and returns what stands after it, too; `None` exactly where no
 /// node that is told has such a text before a slash, a comma or the end. Takes no memory.
@@ -184,9 +184,10 @@ pub fn texts_alike()
     ensures zeros_after_base { ZerosAlikeAfterBase }
 {}
 
-/// If a call is refused, and what is expected there is put in, in place of any text from there on, the call is
-/// read, or wrong only after that. This is of a byte, a number, digits, a parity and stop bits, unless the wrong
-/// byte is a `)`, before which numbers may be left out, or the call with it lacks a `0x`.
+/// If a call is refused and the expected thing replaces the text from there on, the call is read, or is
+/// wrong only after that thing. The expected thing is a byte, a number, digits, a parity or stop bits. Two
+/// cases are excluded: the wrong byte is a `)`, before which numbers may be left out; or the new call lacks
+/// a `0x`.
 pub fn expected_helps()
     ensures { ExpectedHelps }
 {}

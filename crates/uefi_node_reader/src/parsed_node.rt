@@ -11,14 +11,14 @@ ghost use Rattle.uefi_node_table.specs.Rows.{as_piece, is_within};
 ghost use Rattle.uefi_node_reader.specs.TableReading.{added, followed, pieces_put, tail_read};
 ghost use Rattle.uefi_node_reader.specs.ParsedNodes.{all_data, fitting, is_coded};
 
-use crate::data_form::DataForm;
 use crate::counted_bytes::push_all;
+use crate::data_form::DataForm;
 use crate::name_data::push_name;
 use crate::node_tails::{push_tail, read_pieces};
 use uefi_node_table::rows::{Piece, Tail};
 
-/// A node whose text was read. A contract sees it as `parsed_node` of it. Its numbers are small, so that it is
-/// moved without a call of `memcpy`, which firmware lacks.
+/// A node whose text was read. A contract sees it as `parsed_node` of it. Its numbers are small, so that a
+/// move needs no call of `memcpy`, which firmware lacks.
 #[derive(Clone, Copy)]
 pub struct ParsedNode<'a> {
     device_type: u8,

@@ -18,8 +18,8 @@ use crate::faults::{Expected, Stop};
 use crate::fields::after;
 use crate::lenient_fields::any_number;
 use crate::numerals::number;
-use crate::stops::{exact_end, rest_end, stop_at};
 use crate::parsed_node::ParsedNode;
+use crate::stops::{exact_end, rest_end, stop_at};
 use uefi_node_table::printing::has_form;
 use uefi_node_table::rows::Tail;
 
@@ -64,7 +64,11 @@ fn types(text: &[u8]) -> Option<(u8, u8, &[u8])>
 }
 
 /// Reads the node of a type and a sub-type from its data on.
-fn plain_from<'a>(device_type: u8, sub_type: u8, text: &'a [u8]) -> Option<(ParsedNode<'a>, &'a [u8])>
+fn plain_from<'a>(
+    device_type: u8,
+    sub_type: u8,
+    text: &'a [u8],
+) -> Option<(ParsedNode<'a>, &'a [u8])>
     ensures { option_map (λ x. (parsed_node x.0, x.1.now)) result ≡ plain_rest device_type sub_type text.now }
 {
     let (node, rest) = ParsedNode::with_tail(

@@ -56,11 +56,10 @@ mod unit_blocks;
 pub mod unit_sink;
 
 // For the C library, which reports the length of a text before it writes it.
-#[doc(hidden)]
-pub use encode::text_len;
-
 pub use char_sink::CharSink;
 pub use chars::{Char8, Char16, CharConversionError, NUL_8, NUL_16};
+#[doc(hidden)]
+pub use encode::text_len;
 pub use eq_str_until_nul::{EqStrUntilNul, str_eq_until_nul};
 pub use owned_strs::{CString16, FromStrError, have_no_nul};
 pub use strs::{
