@@ -77,7 +77,7 @@ const PASTED: &[WrittenRow] = &[
 ];
 
 /// The forms of [`OWN`].
-#[tactic(auto, unfolding(crate::specs::OtherForms::own_forms, uefi_node_table::specs::Parts::bytes_of, uefi_node_table::specs::Parts::pieces_of, uefi_node_table::specs::Parts::text_of))]
+#[tactic(auto, unfolding(crate::specs::OtherForms::own_forms, uefi_node_table::specs::Parts::packed_bytes, uefi_node_table::specs::Parts::packed_pieces, uefi_node_table::specs::Parts::packed_text))]
 pub(crate) fn own_forms() -> &'static [Row]
     ensures { map as_form result.now ≡ own_forms }
 {
@@ -85,7 +85,7 @@ pub(crate) fn own_forms() -> &'static [Row]
 }
 
 /// The forms of [`PASTED`].
-#[tactic(auto, unfolding(crate::specs::OtherForms::pasted_forms, uefi_node_table::specs::Parts::bytes_of, uefi_node_table::specs::Parts::pieces_of, uefi_node_table::specs::Parts::text_of))]
+#[tactic(auto, unfolding(crate::specs::OtherForms::pasted_forms, uefi_node_table::specs::Parts::packed_bytes, uefi_node_table::specs::Parts::packed_pieces, uefi_node_table::specs::Parts::packed_text))]
 pub(crate) fn pasted_forms() -> &'static [Row]
     ensures { map as_form result.now ≡ pasted_forms }
 {

@@ -14,13 +14,13 @@ part_of items starts number =
     (drop (slice_index starts number) items)
 
 -- the text
-unfoldable pub text_of : Text → List ℕ
-text_of t = part_of TEXTS TEXT_STARTS t.number
+unfoldable pub packed_text : Text → List ℕ
+packed_text t = part_of TEXTS TEXT_STARTS t.number
 
 -- the bytes: where each lies, and what it is
-unfoldable pub bytes_of : Bytes → List (ℕ × ℕ)
-bytes_of b = part_of BYTES BYTE_STARTS b.number
+unfoldable pub packed_bytes : Bytes → List (ℕ × ℕ)
+packed_bytes b = part_of BYTES BYTE_STARTS b.number
 
 -- the fields
-unfoldable pub pieces_of : Pieces → List (PieceOf ℕ Text)
-pieces_of p = part_of PIECES PIECE_STARTS p.number
+unfoldable pub packed_pieces : Pieces → List (PieceOf ℕ Text)
+packed_pieces p = part_of PIECES PIECE_STARTS p.number

@@ -4,7 +4,7 @@ use Rattle.std.specs.List.{flat_map, list_all}
 use Rattle.std.specs.Simd.{first_chunks}
 use Rattle.uefi_field_texts.specs.FieldTexts.{comma_bytes, id_strings_text, shown_bytes, until_nul, utf16_text}
 use Rattle.uefi_node_table.specs.Fields.{field_text, fits_shape}
-use Rattle.uefi_node_table.specs.Parts.{bytes_of, pieces_of, text_of}
+use Rattle.uefi_node_table.specs.Parts.{packed_bytes, packed_pieces, packed_text}
 use Rattle.uefi_node_table.specs.declared.parts.Bytes.{Bytes as PackedBytes}
 use Rattle.uefi_node_table.specs.declared.parts.Pieces.{Pieces}
 use Rattle.uefi_node_table.specs.declared.parts.Text.{Text as PackedText}
@@ -44,7 +44,7 @@ pub record Form : Type 0 where
 
 -- the field that a packed one is
 abbrev pub as_piece : PieceOf ℕ PackedText → Piece
-as_piece p = record { shape = p.shape; place = p.place; width = p.width; ending = text_of p.ending }
+as_piece p = record { shape = p.shape; place = p.place; width = p.width; ending = packed_text p.ending }
 
 -- the form that a packed one is
 abbrev pub as_form : RowOf ℕ PackedText PackedBytes Pieces → Form
@@ -54,13 +54,13 @@ as_form r = record {
   mode = r.mode;
   least = r.least;
   more = r.more;
-  when = bytes_of r.when;
-  also = bytes_of r.also;
-  start = text_of r.start;
-  pieces = map as_piece (pieces_of r.pieces);
+  when = packed_bytes r.when;
+  also = packed_bytes r.also;
+  start = packed_text r.start;
+  pieces = map as_piece (packed_pieces r.pieces);
   tail = r.tail;
-  close = text_of r.close;
-  rest = map as_piece (pieces_of r.rest);
+  close = packed_text r.close;
+  rest = map as_piece (packed_pieces r.rest);
 }
 
 -- the field that a written one is
@@ -105,7 +105,11 @@ pub record Item : Type 0 where
 
 -- the item that a packed one is
 abbrev pub as_item : ItemOf PackedText Pieces → Item
-as_item i = record { size = i.size; start = text_of i.start; pieces = map as_piece (pieces_of i.pieces) }
+as_item i = record {
+  size = i.size;
+  start = packed_text i.start;
+  pieces = map as_piece (packed_pieces i.pieces);
+}
 
 -- the item that a written one is
 abbrev pub const_item :

@@ -1,6 +1,6 @@
 -- Words that stand for numbers.
 use Rattle.std.specs.Prelude.{ℕ, Bool, ◌==◌, ◌||◌, bit_and, if◌then◌else◌, List, [], ◌∷◌, map}
-use Rattle.uefi_node_table.specs.Parts.{text_of}
+use Rattle.uefi_node_table.specs.Parts.{packed_text}
 use Rattle.uefi_node_table.specs.declared.parts.Text.{Text}
 use Rattle.uefi_node_table.specs.declared.words.TheConstants.{PARITY, STOP_BITS, DIGESTS, LOGIN, PROTOCOL}
 use Rattle.uefi_node_table.specs.declared.words.Words.{Words}
@@ -15,7 +15,7 @@ pub record Word : Type 0 where
 
 -- the word that a packed one is
 abbrev pub as_word : WordOf ℕ Text → Word
-as_word w = record { mask = w.mask; number = w.number; text = text_of w.text }
+as_word w = record { mask = w.mask; number = w.number; text = packed_text w.text }
 
 -- the word that a written one is
 abbrev pub const_word : WordOf ℕ (record { now : List ℕ }) → Word

@@ -3,7 +3,7 @@
 #![tactic(auto)]
 
 ghost use Rattle.std.specs.Prelude.{◌≡◌, slice_index};
-ghost use Rattle.uefi_node_table.specs.Parts.{bytes_of, part_of, pieces_of, text_of};
+ghost use Rattle.uefi_node_table.specs.Parts.{packed_bytes, part_of, packed_pieces, packed_text};
 
 use crate::packed::{BYTE_STARTS, BYTES, PIECE_STARTS, PIECES, TEXT_STARTS, TEXTS};
 use crate::parts::{Bytes, Pieces, Text};
@@ -32,16 +32,17 @@ pub(crate) fn part<'a, T>(items: &'a [T], starts: &[u16], number: u8) -> &'a [T]
 
 impl Text {
     /// The text.
-    #[tactic(auto, unfolding(crate::specs::Parts::text_of))]
+    #[tactic(auto, unfolding(crate::specs::Parts::packed_text))]
     pub fn as_str(self) -> &'static str
-        ensures { result.now ≡ text_of self }
+        ensures { result.now ≡ packed_text self }
     {
+        // SAFETY: the part is UTF-8, which is proved here as the condition of the call.
         unsafe { str::from_utf8_unchecked(part(&TEXTS, &TEXT_STARTS, self.number)) }
     }
 
     /// The bytes of the text.
     pub fn as_bytes(self) -> &'static [u8]
-        ensures value { result.now ≡ text_of self }
+        ensures value { result.now ≡ packed_text self }
     {
         self.as_str().as_bytes()
     }
@@ -49,9 +50,9 @@ impl Text {
 
 impl Bytes {
     /// The places and the bytes.
-    #[tactic(auto, unfolding(crate::specs::Parts::bytes_of))]
+    #[tactic(auto, unfolding(crate::specs::Parts::packed_bytes))]
     pub fn as_slice(self) -> &'static [(u8, u8)]
-        ensures { result.now ≡ bytes_of self }
+        ensures { result.now ≡ packed_bytes self }
     {
         part(&BYTES, &BYTE_STARTS, self.number)
     }
@@ -59,9 +60,9 @@ impl Bytes {
 
 impl Pieces {
     /// The fields.
-    #[tactic(auto, unfolding(crate::specs::Parts::pieces_of))]
+    #[tactic(auto, unfolding(crate::specs::Parts::packed_pieces))]
     pub fn as_slice(self) -> &'static [Piece]
-        ensures { result.now ≡ pieces_of self }
+        ensures { result.now ≡ packed_pieces self }
     {
         part(&PIECES, &PIECE_STARTS, self.number)
     }

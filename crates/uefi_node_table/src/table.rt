@@ -592,7 +592,7 @@ const BOOT: &[WrittenRow] = &[
 ];
 
 /// What each item of a list has.
-#[tactic(auto, unfolding(crate::specs::Parts::pieces_of, crate::specs::Parts::text_of, crate::specs::Rows::item_of))]
+#[tactic(auto, unfolding(crate::specs::Parts::packed_pieces, crate::specs::Parts::packed_text, crate::specs::Rows::item_of))]
 pub fn item_of(items: Items) -> Item
     ensures item { as_item result ≡ item_of items }
     ensures some { 0 < result.size }
@@ -610,7 +610,7 @@ pub fn item_of(items: Items) -> Item
 pub const GROUPS: usize = 12;
 
 /// The part of the packed rows that has a group.
-#[tactic(auto, unfolding(crate::specs::Parts::bytes_of, crate::specs::Parts::pieces_of, crate::specs::Parts::text_of, crate::specs::Table::group_forms))]
+#[tactic(auto, unfolding(crate::specs::Parts::packed_bytes, crate::specs::Parts::packed_pieces, crate::specs::Parts::packed_text, crate::specs::Table::group_forms))]
 fn part_of_group(index: usize) -> u8
     ensures forms { map as_form (part_of ROWS ROW_STARTS result) ≡ group_forms index }
     ensures few { length (part_of ROWS ROW_STARTS result) ≤ 1000 }

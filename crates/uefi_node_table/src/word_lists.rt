@@ -10,7 +10,7 @@ use crate::pools::part;
 use crate::words::{Word, Words};
 
 /// The part of the packed words that has a list.
-#[tactic(auto, unfolding(crate::specs::Parts::text_of, crate::specs::Words::words_of))]
+#[tactic(auto, unfolding(crate::specs::Parts::packed_text, crate::specs::Words::words_of))]
 fn part_of_list(words: Words) -> u8
     ensures { map as_word (part_of WORDS WORD_STARTS result) ≡ words_of words }
 {
