@@ -1,5 +1,5 @@
 //! What a menu starts by itself, which number a variable's name has, and an order with one entry in front.
-ghost use Rattle.std.specs.Prelude.{◌≡◌, ◌↔◌, ◌%◌, ◌<◌, slice_get, length, IfOk, IfSome, IsErr};
+ghost use Rattle.std.specs.Prelude.{◌≡◌, ◌↔◌, ◌%◌, ◌^◌, ◌<◌, ℕ, Some, slice_get, length, IfOk, IsErr};
 ghost use Rattle.std.specs.Option.{option_map};
 ghost use Rattle.uefi_boot_variables.specs.Orders.{once_each, with_front};
 ghost use Rattle.uefi_boot_variables.specs.Present.{present_options, shown};
@@ -28,14 +28,16 @@ pub fn first_option<'a>(
 
 /// The number of a boot entry, by the name of its variable.
 pub fn boot_number(name: &str) -> Option<u16>
-    ensures { IfSome result (λ number.
-        name.now ≡ name_text (record { kind = Boot; number = number })) }
+    ensures { (number : ℕ) → number < 2 ^ 16 → ((result ≡ Some number)
+        ↔ (name.now ≡ name_text (record { kind = Boot; number = number }))) }
 {
-    match LoadOptionName::from_text(name)? {
-        LoadOptionName {
-            kind: LoadOptionKind::Boot,
-            number,
-        } => Some(number),
+    match LoadOptionName::from_text(name) {
+        Some(
+            LoadOptionName {
+                kind: LoadOptionKind::Boot,
+                number,
+            },
+        ) => Some(number),
         _ => None,
     }
 }
