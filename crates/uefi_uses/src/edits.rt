@@ -1,10 +1,11 @@
 //! Boot entries that a menu changes, and what it looks at in them.
-ghost use Rattle.std.specs.Prelude.{◌≡◌, ◌↔◌, ◌%◌, IfSome, IsTrue, None, OnErr, OnOk, length, slice_range};
+ghost use Rattle.std.specs.Prelude.{◌≡◌, ◌↔◌, ◌%◌, ◌∷◌, IfSome, IsTrue, None, Ok, OnErr, OnOk, length, slice_range};
 ghost use Rattle.uefi_device_path.specs.NodeViews.{data_of};
 ghost use Rattle.uefi_device_path.specs.Guids.{IsGuidText};
 ghost use Rattle.uefi_device_path.specs.LoadOptions.{Entry, IsEntry, entry_bytes};
 ghost use Rattle.uefi_device_path.specs.OptionEdits.{with_attributes, with_description};
-ghost use Rattle.uefi_device_path.specs.Views.{checked_bytes, entry_of, rest_of};
+ghost use Rattle.uefi_device_path.specs.Nodes.{Node};
+ghost use Rattle.uefi_device_path.specs.Views.{checked_bytes, checked_left, entry_of, rest_of};
 ghost use Rattle.uefi_text.specs.Views.{text_of};
 
 use uefi_device_path::media::HardDrive;
@@ -36,9 +37,13 @@ pub fn may_have_arguments(option: &LoadOption<'_>) -> bool
     option.optional_units().is_some()
 }
 
-/// Passes the next node of a path. False at the end of the path, and where it is malformed.
+/// Passes the next node of a path. Returns false at the end of the path, or if the next node is malformed.
 pub fn pass_node(nodes: &mut CheckedNodes<'_>) -> bool
     ensures bytes { checked_bytes nodes.new ≡ checked_bytes nodes.old }
+    ensures passed { IsTrue result
+        → (node : Node) × (checked_left nodes.old ≡ Ok node ∷ checked_left nodes.new) }
+    ensures stopped { (node : Node) → checked_left nodes.old ≡ Ok node ∷ checked_left nodes.new
+        → IsTrue result }
     ensures inside { IsTrue result → rest_of nodes.new ≡ None }
 {
     matches!(nodes.next(), Some(Ok(_)))
