@@ -90,7 +90,8 @@ static nard_result cut_instance(const uint8_t *bytes, size_t count, size_t *offs
         reason = nard_device_path_next_node(bytes, count, offset, &node);
         if (reason != NARD_OK || node.device_type == 0x7f)
             return reason;
-        reason = nard_device_path_push(buffer, room, node.device_type, node.sub_type, bytes + node.start, node.length, length);
+        reason = nard_device_path_push_at(buffer, room, *length, node.device_type, node.sub_type, bytes + node.start, node.length,
+                                          length);
     }
     return reason;
 }

@@ -110,6 +110,7 @@ CALL(node_text, IN(0), (number & 1) != 0, (number & 2) != 0, OUT, place)
 CALL(load_option_read, IN(0), buffer.at, place)
 CALL(node_number, IN(0), number >> 8, number & 0xff, buffer.at)
 CALL(device_path_push, OUT, (nard_byte)(number >> 8), (nard_byte)number, IN(0), place)
+CALL(device_path_push_at, OUT, number >> 16, (nard_byte)(number >> 8), (nard_byte)number, IN(0), place)
 CALL(load_option_write, number, IN(0), IN(1), IN(2), OUT, place)
 CALL(device_path_strip_prefix, IN(0), IN(1), place)
 CALL(boot_name_write, (nard_byte)(number >> 16), (nard_unit)number, OUT, place)
@@ -385,6 +386,22 @@ static const struct row rows[] = {
     FAULT(device_path_push, REFUSED, NODE_TOO_LONG, UNCHANGED, .before = BYTES(END), .in = {{long_data, 65532, 1}},
         .number = 0x101),
     FAULT(device_path_push, REFUSED, UNKNOWN_END, 1, .before = BYTES(UNKNOWN), .in = {BYTES("")}, .number = 0x7fff),
+    ROW(device_path_push_at, WHOLE, .before = BYTES(PCI END "x"), .in = {BYTES("\0\x1f")}, .number = 0xa0101,
+        .out = BYTES(PCI PCI END)),
+    ROW(device_path_push_at, WHOLE, .before = BYTES(PCI END PCI END), .in = {BYTES("")}, .number = 0x147f01,
+        .out = BYTES(PCI END PCI "\x7f\1\4\0" END)),
+    ROW(device_path_push_at, WHOLE, .before = BYTES("\1" END), .in = {BYTES("\0\x1f")}, .number = 0x50101, .out = BYTES("\1" PCI END)),
+    ROW(device_path_push_at, WHOLE, .before = BYTES(END), .in = {{long_data, 65531, 1}}, .number = 0x40101,
+        .out = {full_node, 65539, 1}),
+    FAULT(device_path_push_at, REFUSED, NO_END_NODE, 0, .before = BYTES(END), .in = {BYTES("\0\x1f")}, .number = 0x101),
+    FAULT(device_path_push_at, REFUSED, NO_END_NODE, 3, .before = BYTES(END), .in = {BYTES("")}, .number = 0x37fff),
+    FAULT(device_path_push_at, REFUSED, NO_END_NODE, 6, .before = BYTES(PCI END), .in = {BYTES("\0\x1f")}, .number = 0x60101),
+    FAULT(device_path_push_at, REFUSED, NO_END_NODE, 11, .before = BYTES(PCI END "x"), .in = {BYTES("")}, .number = 0xb0101),
+    FAULT(device_path_push_at, REFUSED, NO_END_NODE, 65535, .before = BYTES(END), .in = {BYTES("")}, .number = 0xffff0101),
+    FAULT(device_path_push_at, REFUSED, NODE_OF_END, UNCHANGED, .before = BYTES(PCI END), .in = {BYTES("")}, .number = 0xa7fff),
+    FAULT(device_path_push_at, REFUSED, NODE_OF_END, UNCHANGED, .before = BYTES(END), .in = {BYTES("a")}, .number = 0x47f01),
+    FAULT(device_path_push_at, REFUSED, NODE_TOO_LONG, UNCHANGED, .before = BYTES(END), .in = {{long_data, 65532, 1}},
+        .number = 0x40101),
     ROW(device_path_append, WHOLE, .before = BYTES(PCI END), .in = {BYTES(FILE_A END PCI)}, .out = BYTES(PCI FILE_A END)),
     ROW(device_path_append, WHOLE, .before = BYTES(PCI END), .in = {BYTES(END)}, .out = BYTES(PCI END)),
     FAULT(device_path_append, REFUSED, UNKNOWN_END, 1, .before = BYTES(UNKNOWN), .in = {BYTES(BEYOND)}),
@@ -527,6 +544,10 @@ static void try_room(const struct row *row, const size_t *counts, size_t room)
         nard_size fault = 0;
         nard_result reason = width == 1 ? nard_device_path_check(row->before.at, room, &fault)
                                         : nard_string_until_nul(row->before.at, room, &fault);
+        if (row->call == call_device_path_push_at) {
+            fault = row->number >> 16;
+            reason = room < fault ? NARD_NO_END_NODE : NARD_OK;
+        }
         if (reason != NARD_OK) {
             wanted_reason = reason;
             wanted_place = fault;

@@ -686,6 +686,24 @@ nard_result NARD_CALL nard_device_path_push(nard_byte *buffer, nard_size room, n
                                             const nard_byte *content, nard_size byte_count, nard_size *length);
 
 /*
+ * Adds a node to the device path in the first path_length bytes of a buffer, before its end. path_length is the *length of the
+ * call before. Unlike nard_device_path_push, the call reads none of the path but its end node: to build a path of many nodes takes
+ * time in proportion to its length. What is before the end node is not checked; if it is a path, the result is that of
+ * nard_device_path_push.
+ *
+ * Returns NARD_OK, or the first of these that holds
+ *   NARD_NO_END_NODE        room < path_length, or the first path_length bytes do not end with an end node; *length is path_length
+ *   NARD_NODE_OF_END        the node is of type End, and either not of sub-type 1 or with data; *length is unchanged
+ *   NARD_NODE_TOO_LONG      there are more than 65,531 bytes of data; *length is unchanged
+ *   NARD_BUFFER_TOO_SMALL   room < *length, the size that the path would have
+ * If the call returns NARD_OK, *length is the new size of the path, and the bytes after it are unchanged. Otherwise the buffer is
+ * unchanged.
+ */
+nard_result NARD_CALL nard_device_path_push_at(nard_byte *buffer, nard_size room, nard_size path_length, nard_byte device_type,
+                                               nard_byte sub_type, const nard_byte *content, nard_size byte_count,
+                                               nard_size *length);
+
+/*
  * Adds the nodes of the device path that bytes begin with to the path that a buffer begins with, before its end.
  *
  * Returns NARD_OK, or the first of these that holds
@@ -725,6 +743,9 @@ nard_result NARD_CALL nard_device_path_push_text(nard_byte *buffer, nard_size ro
  *   - Blanks and line ends are ignored in calls and around nodes.
  *   - A file name may be in File(..). It may lack its first backslash if it has another backslash, has no `)`, `:` or
  *     quotation mark, and does not follow a comma. A comma ends an instance.
+ *   - Other programs' forms are read, such as MAC(52:54:00:ab:cd:ef), IPv6(fe80::1) and BBS(HD,Drive).
+ *   - Quotation marks around the whole text, either " or ', are ignored, and so is one / before the first node. Offsets still
+ *     count from the start of the text.
  *
  * A text that nard_device_path_push_text reads is read as the same nodes.
  *
@@ -1305,6 +1326,14 @@ static inline NARD_MUST_USE nard_result NARD_CALL nard_call_device_path_push(nar
     return nard_device_path_push(nard_given_byte_room(buffer), room, device_type, sub_type, nard_given_bytes(content), byte_count, length);
 }
 #define nard_device_path_push nard_call_device_path_push
+
+static inline NARD_MUST_USE nard_result NARD_CALL nard_call_device_path_push_at(nard_byte *buffer, nard_size room,
+        nard_size path_length, nard_byte device_type, nard_byte sub_type, const nard_byte *content, nard_size byte_count,
+        nard_size *length)
+{
+    return nard_device_path_push_at(nard_given_byte_room(buffer), room, path_length, device_type, sub_type, nard_given_bytes(content), byte_count, length);
+}
+#define nard_device_path_push_at nard_call_device_path_push_at
 
 static inline NARD_MUST_USE nard_result NARD_CALL nard_call_device_path_append(nard_byte *buffer, nard_size room,
         const nard_byte *bytes, nard_size byte_count, nard_size *length)

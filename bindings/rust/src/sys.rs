@@ -233,6 +233,9 @@ call!(nard_device_path_begin(buffer: &mut [u8], length: &mut usize) -> u32
 call!(nard_device_path_push(buffer: &mut [u8], device_type: u8, sub_type: u8, content: &[u8], length: &mut usize) -> u32
     as (buffer.as_mut_ptr(), buffer.len(), device_type, sub_type, content.as_ptr(), content.len(), length)
     of (*mut u8, usize, u8, u8, *const u8, usize, *mut usize));
+call!(nard_device_path_push_at(buffer: &mut [u8], path_length: usize, device_type: u8, sub_type: u8, content: &[u8], length: &mut usize) -> u32
+    as (buffer.as_mut_ptr(), buffer.len(), path_length, device_type, sub_type, content.as_ptr(), content.len(), length)
+    of (*mut u8, usize, usize, u8, u8, *const u8, usize, *mut usize));
 call!(nard_device_path_append(buffer: &mut [u8], bytes: &[u8], length: &mut usize) -> u32
     as (buffer.as_mut_ptr(), buffer.len(), bytes.as_ptr(), bytes.len(), length)
     of (*mut u8, usize, *const u8, usize, *mut usize));

@@ -11,7 +11,7 @@ use Rattle.uefi_text.specs.Units.{nul_terminated}
 use Rattle.uefi_text.specs.declared.unit_sink.BufferTooSmall.{BufferTooSmall}
 use Rattle.uefi_device_path.proofs.CheckedRuns.{reads_path, reads_refusal}
 use Rattle.uefi_device_path.proofs.Entries.{same_entry}
-use Rattle.uefi_device_path.specs.Building.{grow_refusal, room_refusal}
+use Rattle.uefi_device_path.specs.Building.{grow_refusal, len_unless, prefix_unless, room_refusal}
 use Rattle.uefi_device_path.specs.CheckedNodes.{path_of_bytes}
 use Rattle.uefi_device_path.specs.Faults.{RefusedFor}
 use Rattle.uefi_device_path.specs.LoadOptions.{Entry, entry_bytes}
@@ -22,6 +22,7 @@ use Rattle.uefi_device_path.specs.StyledReading.{IsReadAs, ReadingStopsAt, lenie
 use Rattle.uefi_device_path.specs.Styles.{HasScratch, is_copied}
 use Rattle.uefi_device_path.specs.TextStyle.{TextStyle}
 use Rattle.uefi_device_path.specs.declared.errors.BuildError.{BuildError}
+use Rattle.uefi_device_path.specs.declared.errors.BuildError.TheVariants as build
 use Rattle.uefi_device_path.specs.declared.errors.DevicePathError.{DevicePathError}
 use Rattle.uefi_device_path.specs.declared.errors.GrowError.{GrowError}
 use Rattle.uefi_device_path.specs.declared.errors.GrowError.TheVariants.{Build, Path}
@@ -100,6 +101,38 @@ grown old new fault content given before returned number byte small refused refu
         let same = refused error (reads_refusal old error byte e) in
         let there = subst (λ r. Reports grow_refused r before returned number) same shown in
         record { reason = there.reason; place = there.place; buffer = subst (λ r. OnErr r (new ≡ old)) same none }
+
+-- why bytes are not written where their place has no end node, or the buffer no room, or none
+abbrev pub at_refusal : Bool → DevicePathError → Option BuildError → List ℕ → List ℕ → Option GrowError
+at_refusal ends missing fault content old =
+    if ends then grow_refusal (room_refusal (length content) (length old) fault) else Some (Path missing)
+
+-- bytes that were written where the first ones ended, or were not
+pub grown_at : (ends : Bool) (missing : DevicePathError) (fault : Option BuildError) (old new content : List ℕ) (given : Result ℕ GrowError) (before returned number : ℕ)
+    → number < 2 ^ 64 → given ≡ len_unless (at_refusal ends missing fault content old) (length content)
+    → new ≡ prefix_unless (at_refusal ends missing fault content old) content old → Reports grow_refused given before returned number
+    → Shows (unless (at_refusal ends missing fault content old) grow_refused (Content content)) before old returned number new
+grown_at false missing fault old new content given before returned number small is wrote shown =
+    let there = subst (λ r. Reports grow_refused r before returned number) is shown in
+    record { reason = there.reason; place = there.place; buffer = wrote }
+grown_at true missing (Some error) old new content given before returned number small is wrote shown =
+    let there = subst (λ r. Reports grow_refused r before returned number) is shown in
+    record { reason = there.reason; place = there.place; buffer = wrote }
+grown_at true missing None old new content given before returned number small is wrote shown =
+    by (nat_lt (length old) (length content)) refl is wrote
+  where
+    refused : Bool → Option GrowError
+    refused short = grow_refusal (if short then Some (build.BufferTooSmall (length content)) else None)
+
+    by : (short : Bool) → nat_lt (length old) (length content) ≡ short → given ≡ len_unless (refused short) (length content)
+        → new ≡ prefix_unless (refused short) content old
+        → Shows (unless (refused short) grow_refused (Content content)) before old returned number new
+    by true e is wrote =
+        let there = subst (λ r. Reports grow_refused r before returned number) is shown in
+        record { reason = there.reason; place = there.place; buffer = wrote }
+    by false e is wrote =
+        let there = subst (λ r. Reports grow_refused r before returned number) is shown in
+        record { reason = grind (arith, common_steps, there.reason); place = grind (arith, common_steps, there.place); buffer = wrote }
 
 -- the nodes that a text is read as were added, or why they were not
 added_by : (style : TextStyle) (old new : List ℕ) (nodes : List Node) (read : Result (List Node) TextFault) (given : Result ℕ PushLenientTextError) (before returned number : ℕ)

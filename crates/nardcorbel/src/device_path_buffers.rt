@@ -2,7 +2,7 @@
 //! paths.
 ghost use Rattle.std.specs.Prelude.{◌≡◌, ◌↔◌, ◌+◌, ◌%◌, ◌^◌, ◌≤◌, ◌++◌, ◌∷◌, [], All, IsTrue, List, length};
 ghost use Rattle.uefi_text.specs.Packed.{IsByte};
-ghost use Rattle.uefi_device_path.specs.Building.{build_refusal};
+ghost use Rattle.uefi_device_path.specs.Building.{build_refusal, push_at_refusal, pushed_at};
 ghost use Rattle.uefi_device_path.specs.Matching.{IsExpansion};
 ghost use Rattle.uefi_device_path.specs.Nodes.{Node, node_with};
 ghost use Rattle.uefi_device_path.specs.Paths.{BeginWithPath, path_bytes};
@@ -11,14 +11,14 @@ ghost use Rattle.nardcorbel.specs.DevicePathBuffers.{added_text, entry_of_path, 
 ghost use Rattle.nardcorbel.specs.Outcomes.{Shows, when_read, unless};
 ghost use Rattle.nardcorbel.specs.Outcomes.Outcome.{Content};
 ghost use Rattle.nardcorbel.specs.Reading.{read_path, read_string};
-ghost use Rattle.nardcorbel.specs.Refusals.{build_refused, text_refused};
+ghost use Rattle.nardcorbel.specs.Refusals.{build_refused, grow_refused, text_refused};
 
 use crate::outcomes::{Refusal, Refused, read_path, read_string, read_utf8, refuse, report};
 use crate::reasons::{BUFFER_TOO_SMALL, NO_NODE, SCRATCH_TOO_SMALL};
 use uefi_device_path::build::RawNode;
 use uefi_device_path::{
     DevicePath, DeviceSubType, DeviceType, LoadOptionBuilder, PushLenientTextError, TextStyle,
-    append_in_buf, push_in_buf, push_styled_text_in_buf,
+    append_in_buf, push_at_in_buf, push_in_buf, push_styled_text_in_buf,
 };
 
 /// Writes the device path without nodes to the start of a buffer: only its end node.
@@ -71,6 +71,36 @@ pub extern "C" fn nard_device_path_push(
     };
     are_bytes(buffer);
     report(push_in_buf(buffer, &node), place)
+}
+
+/// Adds a node before the end of the device path in the first `path_length` bytes of a buffer, as
+/// [`push_at_in_buf`] does. `path_length` is the `place` of the call before.
+///
+/// Unlike [`nard_device_path_push`], the call reads none of the path but its end node. The call
+/// fails for the first of these reasons: the buffer has fewer than `path_length` bytes, or these do
+/// not end with an end node (`NO_END_NODE`, with `path_length` as `place`); the reasons of
+/// [`nard_device_path_push`] from `NODE_OF_END` on, with the same `place`. Otherwise `place` becomes
+/// the size that the path then has. If the call fails, the buffer is unchanged. Bytes after the path
+/// are never changed. Does not allocate (UEFI Specification 2.10, section 10.3.1).
+#[unsafe(no_mangle)]
+pub extern "C" fn nard_device_path_push_at(
+    buffer: &mut [u8],
+    path_length: usize,
+    device_type: u8,
+    sub_type: u8,
+    content: &[u8],
+    place: &mut usize,
+) -> u32
+    ensures { let node = node_with device_type sub_type content.now in
+        Shows (unless (push_at_refusal buffer.old path_length node) grow_refused
+        (Content (pushed_at buffer.old path_length node))) place.old buffer.old result place.new buffer.new }
+{
+    let node = RawNode {
+        device_type: DeviceType(device_type),
+        sub_type: DeviceSubType(sub_type),
+        content,
+    };
+    report(push_at_in_buf(buffer, path_length, &node), place)
 }
 
 /// Adds the nodes of the device path at the start of bytes to the path at the start of a buffer, as

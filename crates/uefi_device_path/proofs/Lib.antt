@@ -15,10 +15,14 @@ pub mod PathTexts
 pub mod PathReading
 pub mod TextStops
 pub mod TextLengths
+mod PushedAt
 pub mod PushedTexts
 pub mod NamesInARow
 pub mod ShownPaths
 mod LoweredTexts
+mod AroundNodes
+mod FirstBytes
+mod PastedTexts
 pub mod StyledReading
 pub mod StyledPushes
 pub mod PrintedReading

@@ -5,6 +5,7 @@ use Rattle.std.specs.Result.{result_map_both}
 use Rattle.std.proofs.lemmas.Bool.{le-ltb, lt-ltb}
 use Rattle.std.proofs.lemmas.List.{append-nil, take_all}
 use Rattle.uefi_device_nodes.specs.Nodes.{Node, end_entire, node_bytes, node_length}
+use Rattle.uefi_device_path.specs.AroundNodes.{first_place}
 use Rattle.uefi_device_path.specs.Building.{path_length}
 use Rattle.uefi_device_path.specs.StyledReading.{Holds, IsReadAs, grown_length, lenient_refusal, nodes_up_to, path_read}
 use Rattle.uefi_device_path.specs.Paths.{IsPath, nodes_in, path_bytes, without_end}
@@ -25,7 +26,8 @@ pub record Puts (style : TextStyle) (text old : List ℕ) (len : ℕ) (new : Lis
   pub holds : end ≤ length old → Holds old (nodes_up_to len old ++ nodes) new end
 
 module _ (style : TextStyle) (text old : List ℕ) (len : ℕ) where
-  pub puts_none : len ≤ 2 ^ 64 - 1 → (len ≤ length old → IsPath (take len old)) → Puts style text old len old len true text
+  pub puts_none : len ≤ 2 ^ 64 - 1 → (len ≤ length old → IsPath (take len old))
+      → Puts style text old len old len true (first_place style text)
   puts_none small path = record {
     nodes = [];
     on = going_first style text;

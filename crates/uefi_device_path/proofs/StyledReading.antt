@@ -11,6 +11,9 @@ use Rattle.uefi_device_path.specs.StyledReading.{follows_comma, place_read, IsRe
 use Rattle.uefi_device_path.specs.StyledReading.ReadsTo.{Begins, Comma, OneMore}
 use Rattle.uefi_device_path.specs.PathReading.{AreTold, end_instance, is_after_instance}
 use Rattle.uefi_device_path.specs.declared.lenient_errors.TextFault.{TextFault}
+use Rattle.uefi_device_path.specs.AroundNodes.{before_closing, first_place}
+use Rattle.uefi_device_path.proofs.AroundNodes.{all_is_read, closing_within, is_clear, place_within}
+use Rattle.uefi_device_path.proofs.FirstBytes.{node_clear}
 use Rattle.uefi_device_path.proofs.PathReading.{IsToldOrEnd, path_text_is, place_is, printed, rest_text, separator}
 use Rattle.uefi_device_path.proofs.TextStops.{end_first, told_first, whole_after}
 use Rattle.uefi_node_reader.specs.Laws.{NodeAgain, NodeFits, NodeStarts}
@@ -34,7 +37,7 @@ reading nodes = Ok nodes
 ok_same : (nodes others : List Node) → reading nodes ≡ reading others → nodes ≡ others
 ok_same nodes others e = cc
 
-abbrev failing : TextFault → Nodes
+abbrev pub failing : TextFault → Nodes
 failing fault = Err fault
 
 err_same : (fault other : TextFault) → failing fault ≡ failing other → fault ≡ other
@@ -136,19 +139,27 @@ module _ (style : TextStyle) (text : List ℕ) where
     pub left_fault : (found : NodeFault) → place_read style text place ≡ Err found → left s rest ≡ Err (fault_from text place found)
     left_fault found refused = left_read (Err found) refused
 
+-- what a text is read as: up to the mark that closes it, from the place of the first node on
+module _ (style : TextStyle) (text : List ℕ) where
+  abbrev whole : List ℕ
+  whole = before_closing style text
+
+  abbrev first : List ℕ
+  first = first_place style text
+
   -- what the relation says is what the function says
   start : {nodes : List Node} {s : Bool} {rest : List ℕ} → StyledStarts → StyledEnds → ReadsTo style text nodes s rest
-      → onto nodes (left s rest) ≡ path_read style text
+      → onto nodes (left style whole s rest) ≡ path_read style text
   unfolding path_read
-  start starts ends Begins = onto_none (left true text)
-  start starts ends (Comma nodes s rest on) = sym (onto_more nodes end_instance (left true rest)) ∙ start starts ends on
+  start starts ends Begins = onto_none (left style whole true first)
+  start starts ends (Comma nodes s rest on) = sym (onto_more nodes end_instance (left style whole true rest)) ∙ start starts ends on
   start starts ends (OneMore nodes s node place rest on read) =
-      sym (onto_more nodes node (left false rest))
-      ∙ ap (onto nodes) (sym (left_node s (separator s ++ place) place (other s) (at_place s place) ends node rest read))
+      sym (onto_more nodes node (left style whole false rest))
+      ∙ ap (onto nodes) (sym (left_node style whole s (separator s ++ place) place (other s) (at_place s place) ends node rest read))
       ∙ start starts ends on
     where
       other : (t : Bool) → is_after_instance (separator t ++ place) ≡ false
-      other true = no_instance place (starts style (follows_comma text place) place node rest read)
+      other true = no_instance place (starts style (follows_comma whole place) place node rest read)
       other false = refl
 
   read_is : StyledStarts → StyledEnds → (nodes : List Node) → Reads style text nodes → IsReadAs style text nodes
@@ -157,14 +168,14 @@ module _ (style : TextStyle) (text : List ℕ) where
   stop_is : StyledStarts → StyledEnds → (fault : TextFault) → StopsBeingRead style text fault → ReadingStopsAt style text fault
   stop_is starts ends fault (nodes, s, rest, stop) =
       sym (start starts ends stop.reads)
-      ∙ ap (onto nodes) (left_fault s (separator s ++ rest) rest (other s stop.not_empty) (at_place s rest) stop.found stop.refused
+      ∙ ap (onto nodes) (left_fault style whole s (separator s ++ rest) rest (other s stop.not_empty) (at_place s rest) stop.found stop.refused
       ∙ ap failing (sym same))
     where
       other : (t : Bool) → (t ≡ true → is_after_instance rest ≡ false) → is_after_instance (separator t ++ rest) ≡ false
       other true h = h refl
       other false h = refl
 
-      same : fault ≡ fault_from text rest stop.found
+      same : fault ≡ fault_from whole rest stop.found
       same = λ i. record { node = stop.offset i; byte = (stop.byte ∙ ap (λ (n : ℕ). n + stop.found.byte) stop.offset) i; expected = stop.expected i }
 
   -- and back
@@ -172,20 +183,20 @@ module _ (style : TextStyle) (text : List ℕ) where
   told_on takes Begins = All-nil IsToldOrEnd
   told_on takes (Comma nodes s rest on) = All-push IsToldOrEnd nodes end_instance (told_on takes on) (inr refl)
   told_on takes (OneMore nodes s node place rest on read) =
-      All-push IsToldOrEnd nodes node (told_on takes on) (inl (takes style (follows_comma text place) place node rest read))
+      All-push IsToldOrEnd nodes node (told_on takes on) (inl (takes style (follows_comma whole place) place node rest read))
 
   reads_end : StyledEnds → {nodes : List Node} {s : Bool} {rest : List ℕ} → ReadsTo style text nodes s rest
       → s ≡ false → is_after_node rest ≡ true
   reads_end ends Begins e = absurd (true≢false e)
   reads_end ends (Comma nodes s rest on) e = absurd (true≢false e)
-  reads_end ends (OneMore nodes s node place rest on read) e = (ends style (follows_comma text place) place node rest read).1
+  reads_end ends (OneMore nodes s node place rest on read) e = (ends style (follows_comma whole place) place node rest read).1
 
   reads_within : StyledEnds → {nodes : List Node} {s : Bool} {rest : List ℕ} → ReadsTo style text nodes s rest
-      → length rest ≤ length text
-  reads_within ends Begins = omega arith
+      → length rest ≤ length whole
+  reads_within ends Begins = place_within style text
   reads_within ends (Comma nodes s rest on) = let l = reads_within ends on in omega (arith, l)
   reads_within ends (OneMore nodes s node place rest on read) =
-      omega (arith, reads_within ends on, length-append (separator s) place, after_shorter ends place node rest read)
+      omega (arith, reads_within ends on, length-append (separator s) place, after_shorter style whole ends place node rest read)
 
   abbrev Means : List Node → Nodes → Type 0
   Means nodes (Ok more) = Reads style text (nodes ++ more)
@@ -196,33 +207,33 @@ module _ (style : TextStyle) (text : List ℕ) where
   more_means nodes node (Err fault) h = h
 
   means : StyledEnds → (m : ℕ) (nodes : List Node) (s : Bool) (rest : List ℕ) → length rest < m → ReadsTo style text nodes s rest
-      → Means nodes (nodes_of_rest style text m s rest)
+      → Means nodes (nodes_of_rest style whole m s rest)
   means ends zero nodes s rest l on = absurd (omega (arith, l))
   means ends (suc m) nodes s [] l on =
       (s, subst (λ (x : List Node). ReadsTo style text x s []) (sym (append-nil nodes)) on)
   means ends (suc m) nodes s (c ∷ cs) l on = by (c == 44) refl (means ends m)
     where
       Next : Type 0
-      Next = (done : List Node) (t : Bool) (r : List ℕ) → length r < m → ReadsTo style text done t r → Means done (nodes_of_rest style text m t r)
+      Next = (done : List Node) (t : Bool) (r : List ℕ) → length r < m → ReadsTo style text done t r → Means done (nodes_of_rest style whole m t r)
 
       place : List ℕ
       place = cond s (c ∷ cs) cs
 
-      whole : (c == 44) ≡ false → c ∷ cs ≡ separator s ++ place
-      whole p = place_is s (c ∷ cs) p (reads_end ends on)
+      splits : (c == 44) ≡ false → c ∷ cs ≡ separator s ++ place
+      splits p = place_is s (c ∷ cs) p (reads_end ends on)
 
-      read_on : (c == 44) ≡ false → (r : Result (Node × List ℕ) NodeFault) → place_read style text place ≡ r → Next
-          → Means nodes (node_then text place (nodes_of_rest style text m false) r)
-      read_on p (Ok read) is h = more_means nodes read.0 (nodes_of_rest style text m false read.1)
+      read_on : (c == 44) ≡ false → (r : Result (Node × List ℕ) NodeFault) → place_read style whole place ≡ r → Next
+          → Means nodes (node_then whole place (nodes_of_rest style whole m false) r)
+      read_on p (Ok read) is h = more_means nodes read.0 (nodes_of_rest style whole m false read.1)
           (h (nodes ++ read.0 ∷ []) false read.1
-          (omega (arith, l, after_shorter ends place read.0 read.1 is, ap length (whole p), length-append (separator s) place))
-          (OneMore nodes s read.0 place read.1 (subst (λ (x : List ℕ). ReadsTo style text nodes s x) (whole p) on) is))
+          (omega (arith, l, after_shorter style whole ends place read.0 read.1 is, ap length (splits p), length-append (separator s) place))
+          (OneMore nodes s read.0 place read.1 (subst (λ (x : List ℕ). ReadsTo style text nodes s x) (splits p) on) is))
       read_on p (Err found) is h = (
         nodes,
         s,
         place,
         record {
-          reads = subst (λ (x : List ℕ). ReadsTo style text nodes s x) (whole p) on;
+          reads = subst (λ (x : List ℕ). ReadsTo style text nodes s x) (splits p) on;
           not_empty = λ e. ap (λ (t : Bool). is_after_instance (cond t (c ∷ cs) cs)) e ∙ p;
           found = found;
           refused = is;
@@ -233,15 +244,15 @@ module _ (style : TextStyle) (text : List ℕ) where
       )
 
       by : (b : Bool) → (c == 44) ≡ b → Next
-          → Means nodes (cond b (more_nodes end_instance (nodes_of_rest style text m true cs)) (node_then text place (nodes_of_rest style text m false) (place_read style text place)))
-      by true p h = more_means nodes end_instance (nodes_of_rest style text m true cs)
+          → Means nodes (cond b (more_nodes end_instance (nodes_of_rest style whole m true cs)) (node_then whole place (nodes_of_rest style whole m false) (place_read style whole place)))
+      by true p h = more_means nodes end_instance (nodes_of_rest style whole m true cs)
           (h (nodes ++ end_instance ∷ []) true cs (omega (arith, l))
           (Comma nodes s cs (subst (λ (x : ℕ). ReadsTo style text nodes s (x ∷ cs)) (eqb-true c 44 p) on)))
-      by false p h = read_on p (place_read style text place) refl h
+      by false p h = read_on p (place_read style whole place) refl h
 
   all_means : StyledEnds → Means [] (path_read style text)
   unfolding path_read
-  all_means ends = means ends (suc (length text)) [] true text (omega arith) Begins
+  all_means ends = means ends (suc (length first)) [] true first (omega arith) Begins
 
   pub reads_mean : StyledStarts → StyledEnds → (nodes : List Node) → IsReadAs style text nodes ↔ Reads style text nodes
   reads_mean starts ends nodes = (λ is. subst (λ (r : Nodes). Means [] r) is (all_means ends), read_is starts ends nodes)
@@ -267,25 +278,25 @@ module _ (style : TextStyle) (text : List ℕ) where
       → (fault.node ≤ fault.byte) × (fault.byte ≤ length text)
   faults_within starts ends within fault is =
       let (nodes, s, rest, stop) = (stops_mean starts ends fault).0 is in
-      let long : length (separator s ++ rest) ≤ length text = reads_within ends stop.reads in
-      let size : length rest ≤ length text = omega (arith, long, length-append (separator s) rest) in
-      let here = IfErr-at_err (λ (f : NodeFault). f.byte ≤ length rest) stop.refused (within style (follows_comma text rest) rest) in
-      (omega (arith, stop.byte), omega (arith, size, here, stop.offset, stop.byte))
+      let long : length (separator s ++ rest) ≤ length whole = reads_within ends stop.reads in
+      let size : length rest ≤ length whole = omega (arith, long, length-append (separator s) rest) in
+      let here = IfErr-at_err (λ (f : NodeFault). f.byte ≤ length rest) stop.refused (within style (follows_comma whole rest) rest) in
+      (omega (arith, stop.byte), omega (arith, size, here, stop.offset, stop.byte, closing_within style text))
 
   -- how far a text was read: the nodes so far, and what is left
   pub record Going (nodes : List Node) (s : Bool) (rest : List ℕ) : Type 0 where
-    pub all : onto nodes (left s rest) ≡ path_read style text
-    pub within : length rest ≤ length text
+    pub all : onto nodes (left style whole s rest) ≡ path_read style text
+    pub within : length rest ≤ length whole
 
-  pub going_first : Going [] true text
+  pub going_first : Going [] true first
   unfolding path_read
-  going_first = record { all = onto_none (left true text); within = omega arith }
+  going_first = record { all = onto_none (left style whole true first); within = place_within style text }
 
   pub going_comma : (nodes : List Node) (s : Bool) (rest after : List ℕ) → Going nodes s rest → rest ≡ 44 ∷ after
       → Going (nodes ++ end_instance ∷ []) true after × (length after < length rest)
   going_comma nodes s rest after on is = (
     record {
-      all = sym (onto_more nodes end_instance (left true after)) ∙ ap (onto nodes) (sym (left_comma s rest after is)) ∙ on.all;
+      all = sym (onto_more nodes end_instance (left style whole true after)) ∙ ap (onto nodes) (sym (left_comma style whole s rest after is)) ∙ on.all;
       within = omega (arith, on.within, ap length is);
     },
     omega (arith, ap length is),
@@ -293,24 +304,24 @@ module _ (style : TextStyle) (text : List ℕ) where
 
   module _ (nodes : List Node) (s : Bool) (rest place : List ℕ) (on : Going nodes s rest) (other : is_after_instance rest ≡ false)
       (is : place ≡ cond s rest (drop 1 rest)) where
-    pub place_within : length place ≤ length text
-    place_within = omega (arith, on.within, ap length is, place_fits s rest)
+    pub place_inside : length place ≤ length whole
+    place_inside = omega (arith, on.within, ap length is, place_fits style whole s rest)
 
-    pub going_node : StyledEnds → (node : Node) (after : List ℕ) → place_read style text place ≡ Ok (node, after)
+    pub going_node : StyledEnds → (node : Node) (after : List ℕ) → place_read style whole place ≡ Ok (node, after)
         → Going (nodes ++ node ∷ []) false after × (length after < length rest)
     going_node ends node after read =
-        let less = shorter s rest place other is ends node after read in (
+        let less = shorter style whole s rest place other is ends node after read in (
           record {
-            all = sym (onto_more nodes node (left false after)) ∙ ap (onto nodes) (sym (left_node s rest place other is ends node after read)) ∙ on.all;
+            all = sym (onto_more nodes node (left style whole false after)) ∙ ap (onto nodes) (sym (left_node style whole s rest place other is ends node after read)) ∙ on.all;
             within = omega (arith, on.within, less);
           },
           less,
         )
 
-    pub going_stops : (found : NodeFault) → place_read style text place ≡ Err found → (fault : TextFault) → fault ≡ fault_from text place found
+    pub going_stops : (found : NodeFault) → place_read style whole place ≡ Err found → (fault : TextFault) → fault ≡ fault_from whole place found
         → ReadingStopsAt style text fault
     going_stops found refused fault same =
-        sym on.all ∙ ap (onto nodes) (left_fault s rest place other is found refused) ∙ ap (λ (f : TextFault). Err f) (sym same)
+        sym on.all ∙ ap (onto nodes) (left_fault style whole s rest place other is found refused) ∙ ap (λ (f : TextFault). Err f) (sym same)
 
   pub all_read : (nodes : List Node) (s : Bool) (rest : List ℕ) → Going nodes s rest → length rest ≡ 0 → IsReadAs style text nodes
   all_read nodes s [] on none = sym on.all ∙ ap (λ (l : List Node). Ok l) (append-nil nodes)
@@ -341,8 +352,21 @@ module _ (fits : NodeFits) (starts : NodeStarts) (again : NodeAgain) (styled : S
           other true = no_instance (printed n ++ rest_text false ns) (starts n told (rest_text false ns))
           other false = refl
 
+  printed_clear : (nodes : List Node) → AreTold nodes → is_clear (rest_text true nodes) ≡ true
+  printed_clear [] told = refl
+  printed_clear (n ∷ ns) told = one (All-head IsToldOrEnd n ns told)
+    where
+      one : IsToldOrEnd n → is_clear (rest_text true (n ∷ ns)) ≡ true
+      one (inr same) = ap is_clear (end_first true n ns None same)
+      one (inl told) =
+          let after = rest_text false ns in
+          ap is_clear (told_first fits true n ns None told)
+          ∙ node_clear (printed n ++ after) (n, after) (again n told after (whole_after ns None))
+
   pub printed_is_read : PrintedIsRead
   unfolding path_read
   printed_is_read style takes text nodes told is =
-      subst (λ (x : List ℕ). left style text true x ≡ Ok nodes) (sym (path_text_is nodes) ∙ is)
-      (printed_left style takes text true nodes told)
+      let same : rest_text true nodes ≡ text = sym (path_text_is nodes) ∙ is in
+      let all = all_is_read style text (subst (λ (x : List ℕ). is_clear x ≡ true) same (printed_clear nodes told)) in
+      (λ i. left style (all.0 i) true (all.1 i))
+      ∙ subst (λ (x : List ℕ). left style text true x ≡ Ok nodes) same (printed_left style takes text true nodes told)

@@ -1,13 +1,16 @@
 -- Which nodes are refused by a device path that grows.
-use Rattle.std.specs.Prelude.{ℕ, ◌+◌, ◌-◌, ◌^◌, min, List, ◌++◌, nat_lt, ◌==◌, ◌&&◌, not, if◌then◌else◌, length, Option, Some, None}
+use Rattle.std.specs.Prelude.{ℕ, ◌+◌, ◌-◌, ◌^◌, min, List, ◌++◌, nat_eq, nat_lt, ◌==◌, ◌&&◌, not, if◌then◌else◌, Bool, length, take, Option, Some, None, Result, Ok, Err}
+use Rattle.std.specs.List.{ends_with}
 use Rattle.uefi_device_nodes.specs.Nodes.{is_end_instance}
-use Rattle.uefi_device_nodes.specs.Nodes.{Node, node_length, node_with}
+use Rattle.uefi_device_nodes.specs.Nodes.{Node, end_entire, node_bytes, node_length, node_with}
+use Rattle.uefi_device_nodes.specs.declared.errors.NodeError.TheVariants.{Missing}
+use Rattle.uefi_text.specs.UnalignedCStr16.{with_prefix}
 use Rattle.uefi_text.specs.UnitBytes.{unit_bytes}
 use Rattle.uefi_text.specs.Units.{nul_terminated}
 use Rattle.uefi_device_path.specs.Paths.{path_bytes}
 use Rattle.uefi_device_path.specs.declared.errors.BuildError.{BuildError}
 use Rattle.uefi_device_path.specs.declared.errors.GrowError.{GrowError}
-use Rattle.uefi_device_path.specs.declared.errors.GrowError.TheVariants.{Build}
+use Rattle.uefi_device_path.specs.declared.errors.GrowError.TheVariants.{Build, Path}
 use Rattle.uefi_device_path.specs.declared.errors.BuildError.TheVariants.{BufferTooSmall, EndNode, NodeTooLong}
 use Rattle.uefi_device_path.specs.declared.errors.PushTextError.{PushTextError}
 use Rattle.uefi_device_path.specs.declared.errors.PushTextError.TheVariants as text
@@ -44,6 +47,33 @@ append_refusal nodes others room = room_refusal (length (path_bytes (nodes ++ ot
 abbrev pub grow_refusal : Option BuildError → Option GrowError
 grow_refusal None = None
 grow_refusal (Some error) = Some (Build error)
+
+-- whether the first `len` bytes end with the node that ends a path
+abbrev pub ends_at : List ℕ → ℕ → Bool
+ends_at bytes len =
+    not (nat_lt (length bytes) len) && ends_with nat_eq (take len bytes) (node_bytes end_entire)
+
+-- the first `len` bytes with a node in place of the end node that they end with, and an end node
+-- after it
+abbrev pub pushed_at : List ℕ → ℕ → Node → List ℕ
+pushed_at bytes len node = take (len - 4) bytes ++ (node_bytes node ++ node_bytes end_entire)
+
+-- why a node is not added to the path in the first `len` bytes, or none: a missing end node comes first
+abbrev pub push_at_refusal : List ℕ → ℕ → Node → Option GrowError
+push_at_refusal bytes len node =
+    if ends_at bytes len
+    then grow_refusal (room_refusal (length (pushed_at bytes len node)) (length bytes) (build_refusal node))
+    else Some (Path (record { cause = Missing; offset = len }))
+
+-- the length of what is written, or why nothing is
+abbrev pub len_unless : {E : Type 0} → Option E → ℕ → Result ℕ E
+len_unless None len = Ok len
+len_unless (Some error) len = Err error
+
+-- a buffer that begins with what is written, or is unchanged
+abbrev pub prefix_unless : {E : Type 0} → Option E → List ℕ → List ℕ → List ℕ
+prefix_unless None bytes buffer = with_prefix bytes buffer
+prefix_unless (Some error) bytes buffer = buffer
 
 -- how many bytes the path of these nodes has, as far as a `usize` counts
 abbrev pub path_length : List Node → ℕ

@@ -1,5 +1,5 @@
 -- The laws of device paths and load options, over the definitions that contracts of working calls cite.
-use Rattle.std.specs.Prelude.{◌≡◌, ◌↔◌, ◌≢◌, ℕ, ◌+◌, ◌-◌, ◌≤◌, length, Bool, true, false, List, [], ◌∷◌, ◌++◌, All, filter, fold, take, Ok, Err}
+use Rattle.std.specs.Prelude.{◌≡◌, ◌↔◌, ◌≢◌, ℕ, ◌+◌, ◌-◌, ◌≤◌, length, Bool, true, false, List, [], ◌∷◌, ◌++◌, All, filter, fold, take, Result, Ok, Err}
 use Rattle.std.specs.List.{flat_map}
 use Rattle.uefi_path.specs.Components.{components_of}
 use Rattle.uefi_path.specs.Laws.{IsRelative}
@@ -10,8 +10,10 @@ use Rattle.uefi_device_nodes.specs.Nodes.{Node, IsInner}
 use Rattle.uefi_device_nodes.specs.NodeFaults.{fault_place}
 use Rattle.uefi_device_nodes.specs.declared.errors.NodeError.{NodeError}
 use Rattle.uefi_device_nodes.specs.declared.errors.NodeError.TheVariants.{Missing, TruncatedHeader, UnknownEnd, LengthBelowHeader, EndWithData, BeyondEnd}
+use Rattle.uefi_device_path.specs.Building.{grow_refusal, push_at_refusal, push_refusal, pushed_at}
 use Rattle.uefi_device_path.specs.CheckedNodes.{path_of_bytes}
-use Rattle.uefi_device_path.specs.StyledReading.{IsReadAs, Reads, ReadingStopsAt, StopsBeingRead}
+use Rattle.uefi_device_path.specs.AroundNodes.{is_mark, is_quoted, is_spaces}
+use Rattle.uefi_device_path.specs.StyledReading.{IsReadAs, Reads, ReadingStopsAt, StopsBeingRead, path_read}
 use Rattle.uefi_device_path.specs.PathReading.{AreTold, StopsAt}
 use Rattle.uefi_text.specs.Packed.{IsByte}
 use Rattle.uefi_field_texts.specs.ShownTexts.{IsShown}
@@ -24,7 +26,9 @@ use Rattle.uefi_device_path.specs.declared.errors.DevicePathError.{DevicePathErr
 use Rattle.uefi_device_path.specs.declared.errors.LoadOptionError.{LoadOptionError}
 use Rattle.uefi_device_path.specs.declared.lenient_errors.TextFault.{TextFault}
 use Rattle.uefi_node_reader.specs.declared.styles.TextStyle.{TextStyle}
-use Rattle.uefi_node_reader.specs.declared.styles.TextStyle.TheVariants.{Printed}
+use Rattle.uefi_node_reader.specs.declared.styles.TextStyle.TheVariants.{Printed, Lenient}
+use Rattle.uefi_node_reader.specs.NamedFiles.{is_after_node, past_spaces}
+use Rattle.uefi_node_reader.specs.TableReading.{is_empty}
 use Rattle.uefi_node_reader.specs.Styles.{takes_printed}
 
 -- bytes begin with one path at most
@@ -41,6 +45,17 @@ BytesOnce = (nodes others : List Node) → All IsInner nodes → All IsInner oth
 -- what is built of nodes is read as these nodes
 abbrev pub BuiltIsRead : Type 0
 BuiltIsRead = (nodes : List Node) → All IsInner nodes → BeginWithPath (path_bytes nodes) nodes
+
+-- a node at the end of the path that a buffer begins with is refused as by the path
+abbrev pub PushedAtRefused : Type 0
+PushedAtRefused = (bytes : List ℕ) (nodes : List Node) (node : Node) → BeginWithPath bytes nodes
+    → push_at_refusal bytes (length (path_bytes nodes)) node
+    ≡ grow_refusal (push_refusal nodes node (length bytes))
+
+-- what is written there is the path of all nodes
+abbrev pub PushedAtWritten : Type 0
+PushedAtWritten = (bytes : List ℕ) (nodes : List Node) (node : Node) → BeginWithPath bytes nodes
+    → pushed_at bytes (length (path_bytes nodes)) node ≡ path_bytes (nodes ++ node ∷ [])
 
 -- what bytes are read as is the path that they begin with
 abbrev pub PathsAreRead : Type 0
@@ -131,6 +146,32 @@ ReadTold = (style : TextStyle) (text : List ℕ) (nodes : List Node) → IsReadA
 abbrev pub PrintedIsRead : Type 0
 PrintedIsRead = (style : TextStyle) → takes_printed style ≡ true → (text : List ℕ) (nodes : List Node)
     → AreTold nodes → nodes_text false false nodes ≡ text → IsReadAs style text nodes
+
+-- a fault where this many bytes stand before the text
+abbrev pub fault_after : ℕ → TextFault → TextFault
+fault_after count fault = record {
+  node = fault.node + count;
+  byte = fault.byte + count;
+  expected = fault.expected;
+}
+
+-- what a text is read as where this many bytes stand before it
+abbrev pub read_after : ℕ → Result (List Node) TextFault → Result (List Node) TextFault
+read_after count (Ok nodes) = Ok nodes
+read_after count (Err fault) = Err (fault_after count fault)
+
+-- a text in quotation marks, with blanks around them, is read by people's rules as it is without them
+abbrev pub QuotedIsRead : Type 0
+QuotedIsRead = (mark : ℕ) (before text after : List ℕ) → is_mark mark ≡ true → is_spaces before ≡ true
+    → is_spaces after ≡ true → is_empty (past_spaces text) ≡ false → is_quoted text ≡ false
+    → path_read Lenient (before ++ (mark ∷ (text ++ (mark ∷ after))))
+    ≡ read_after (length before + 1) (path_read Lenient text)
+
+-- and so is a text after a slash, where a node may begin
+abbrev pub SlashedIsRead : Type 0
+SlashedIsRead = (before text : List ℕ) → is_spaces before ≡ true → is_after_node (past_spaces text) ≡ false
+    → is_quoted text ≡ false
+    → path_read Lenient (before ++ (47 ∷ text)) ≡ read_after (length before + 1) (path_read Lenient text)
 
 -- in the style of printed texts, a text is that of the nodes that are read
 abbrev pub ReadIsPrinted : Type 0

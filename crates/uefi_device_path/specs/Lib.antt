@@ -35,6 +35,7 @@ pub mod Instances
 pub mod LibefivarTexts
 pub mod PathTexts
 pub mod PathReading
+pub mod AroundNodes
 pub mod StyledReading
 pub mod LenientErrorTexts
 pub mod Matching

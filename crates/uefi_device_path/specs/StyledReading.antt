@@ -1,6 +1,7 @@
 -- Device paths read from texts in a style.
 use Rattle.std.specs.Prelude.{◌≡◌, ◌≤◌, ◌^◌, min, ℕ, zero, suc, drop, take, ◌+◌, ◌-◌, Bool, true, false, nat_lt, ◌==◌, ◌&&◌, if◌then◌else◌, List, [], ◌∷◌, ◌++◌, length, slice_index, codes, Option, Some, None, Result, Ok, Err, is_ok}
 use Rattle.uefi_device_nodes.specs.Nodes.{Node}
+use Rattle.uefi_device_path.specs.AroundNodes.{before_closing, first_place}
 use Rattle.uefi_device_path.specs.Building.{path_length}
 use Rattle.uefi_device_path.specs.PathReading.{end_instance, is_after_instance}
 use Rattle.uefi_device_path.specs.Faults.{RefusedFor}
@@ -56,9 +57,12 @@ nodes_of_rest style text (suc most) at_start (c ∷ cs) =
     else node_then text (if at_start then c ∷ cs else cs) (nodes_of_rest style text most false)
     (place_read style text (if at_start then c ∷ cs else cs))
 
--- the nodes that a text is read as in a style, or its fault
+-- the nodes that a text is read as in a style, or its fault: from the place of the first node up to the mark
+-- that closes the text
 unfoldable pub path_read : TextStyle → List ℕ → Result (List Node) TextFault
-path_read style text = nodes_of_rest style text (suc (length text)) true text
+path_read style text =
+    nodes_of_rest style (before_closing style text) (suc (length (first_place style text))) true
+    (first_place style text)
 
 -- a text is read as nodes to its end
 abbrev pub IsReadAs : TextStyle → List ℕ → List Node → Type 0
@@ -74,8 +78,8 @@ ReadingStopsAt style text fault = path_read style text ≡ Err fault
 
 -- the nodes of a text up to what is left of it, and whether an instance begins there
 pub data ReadsTo (style : TextStyle) (text : List ℕ) : List Node → Bool → List ℕ → Type 0 where
-  -- at its beginning
-  Begins : ReadsTo style text [] true text
+  -- at the place of the first node
+  Begins : ReadsTo style text [] true (first_place style text)
   -- a comma ends an instance
   Comma : (nodes : List Node) (at_start : Bool) (rest : List ℕ)
       → ReadsTo style text nodes at_start (44 ∷ rest)
@@ -83,7 +87,8 @@ pub data ReadsTo (style : TextStyle) (text : List ℕ) : List Node → Bool → 
   -- one more node, after a slash where it is not the first of its instance
   OneMore : (nodes : List Node) (at_start : Bool) (node : Node) (place rest : List ℕ)
       → ReadsTo style text nodes at_start ((if at_start then [] else codes "/") ++ place)
-      → place_read style text place ≡ Ok (node, rest) → ReadsTo style text (nodes ++ node ∷ []) false rest
+      → place_read style (before_closing style text) place ≡ Ok (node, rest)
+      → ReadsTo style text (nodes ++ node ∷ []) false rest
 
 -- a text is that of these nodes to its end
 abbrev pub Reads : TextStyle → List ℕ → List Node → Type 0
@@ -97,8 +102,8 @@ pub record ReadingStops (style : TextStyle) (text : List ℕ) (fault : TextFault
   pub reads : ReadsTo style text nodes at_start ((if at_start then [] else codes "/") ++ rest)
   pub not_empty : at_start ≡ true → is_after_instance rest ≡ false
   pub found : NodeFault
-  pub refused : place_read style text rest ≡ Err found
-  pub offset : fault.node ≡ length text - length rest
+  pub refused : place_read style (before_closing style text) rest ≡ Err found
+  pub offset : fault.node ≡ length (before_closing style text) - length rest
   pub byte : fault.byte ≡ fault.node + found.byte
   pub expected : fault.expected ≡ found.expected
 

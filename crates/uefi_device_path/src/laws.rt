@@ -1,6 +1,6 @@
 //! The laws of device paths and load options, for proofs of callers. They are about the definitions
 //! that other contracts cite. Each law is a function that does nothing: its contract is the law.
-ghost use Rattle.uefi_device_path.specs.Laws.{AcceptedWithMore, BuiltIsRead, BytesOnce, FaultsWithin, InstancesShown, LibefivarShown, NamesInARow, NeverBoth, OneName, OnlyFilesCount, OptionsNeverBoth, OptionsOnce, PathsAreRead, PathsOnce, PathsShown, PrintedIsRead, PrintedStops, ReadIsPrinted, ReadMeans, ReadNeverStops, ReadOnce, ReadTold, ReadingStopsOnce, RefusalsAreRead, RefusedByHeader, RelativeNamesArePushed, StopMeans, StopsOnce, TextsNeverBoth, TextsOnce};
+ghost use Rattle.uefi_device_path.specs.Laws.{AcceptedWithMore, BuiltIsRead, BytesOnce, FaultsWithin, InstancesShown, LibefivarShown, NamesInARow, NeverBoth, OneName, OnlyFilesCount, OptionsNeverBoth, OptionsOnce, PathsAreRead, PathsOnce, PathsShown, PrintedIsRead, PrintedStops, PushedAtRefused, PushedAtWritten, QuotedIsRead, ReadIsPrinted, ReadMeans, ReadNeverStops, ReadOnce, ReadTold, ReadingStopsOnce, RefusalsAreRead, RefusedByHeader, RelativeNamesArePushed, SlashedIsRead, StopMeans, StopsOnce, TextsNeverBoth, TextsOnce};
 
 use uefi_device_nodes::laws::nodes_are_shown;
 pub use uefi_device_nodes::laws::{units_in_bytes, view_of_built};
@@ -30,6 +30,14 @@ pub fn accepted_paths()
 pub fn paths_are_read()
     ensures path { PathsAreRead }
     ensures refusal { RefusalsAreRead }
+{}
+
+/// At the end of the path that a buffer begins with, [`push_at_in_buf`](crate::push_at_in_buf) does
+/// as [`push_in_buf`](crate::push_in_buf): it refuses the same nodes, and otherwise writes the same
+/// path.
+pub fn pushed_at_the_end()
+    ensures refused { PushedAtRefused }
+    ensures written { PushedAtWritten }
 {}
 
 /// Bytes that are refused for the contents of a node's header, as `UnknownEnd`, `LengthBelowHeader`
@@ -84,6 +92,16 @@ pub fn styled_texts()
     nodes_are_read();
     styled_nodes_are_read();
     faults_lie_within();
+}
+
+/// A text in quotation marks, or after a `/` that a node may follow, is read by people's rules as it
+/// is without them: as the same nodes, or with the same fault, whose places lie as many bytes
+/// further as stand before the text.
+pub fn pasted_texts()
+    ensures quoted { QuotedIsRead }
+    ensures slashed { SlashedIsRead }
+{
+    styled_nodes_are_read();
 }
 
 /// A file path consists of the names of the nodes that name files, and of nothing else: a single

@@ -30,7 +30,10 @@ impl<A: Allocator + Copy> DevicePathBuf<A> {
     /// Reads a path from a text of the UEFI Specification as people write it: names and digits in
     /// either case, numbers in decimal or after `0x`, leading zeros, blanks in a call, numbers left
     /// out at its end, `File(..)`, and, except after a comma, a file's name that contains a
-    /// backslash and omits its first one.
+    /// backslash and omits its first one. It also reads forms that other programs print, such as
+    /// `MAC(52:54:00:ab:cd:ef)` and `IPv6(fe80::1)`. It skips quotation marks around the whole text, and one
+    /// `/` before the first node, which U-Boot prints; places in errors still count from the start
+    /// of the text.
     ///
     /// A call in which other programs print hexadecimal numbers without `0x`, such as
     /// `Fibre(5006,0)`, is refused. `efibootmgr` prints the identifier of an NVMe node with its
@@ -41,7 +44,8 @@ impl<A: Allocator + Copy> DevicePathBuf<A> {
     ///
     /// Allocates one byte more than the text has, for copies of its calls and names, and frees it
     /// at the end. Then checks the text, and fails with `NoNode` if a node can't be read: the error
-    /// has the start of the first such node, the byte that is wrong, and what must be there. Then
+    /// has the start of the first such node, the byte that is wrong, and what must be there, which
+    /// may be one of some words, or a name that differs in one letter. Then
     /// allocates once, for the whole path. Fails with `OutOfMemory` if memory runs out at either
     /// allocation; the first comes before the text is checked.
     ///
@@ -52,6 +56,8 @@ impl<A: Allocator + Copy> DevicePathBuf<A> {
     /// let refused = DevicePathBuf::from_lenient_text(rt.alloc(), "pciroot(0)/pci(31,256)");
     /// let fault = TextFault { node: 11, byte: 18, expected: Expected::Number(0xff) };
     /// assert_eq!(rt; refused.err(), Some(LenientTextError::NoNode(fault)));
+    /// let pasted = DevicePathBuf::from_lenient_text(rt.alloc(), "\"/PciRoot(0x0)/Pci(0x1F,0x2)\"")?;
+    /// assert_eq!(rt; pasted.as_device_path(), path.as_device_path());
     /// ```
     pub fn from_lenient_text(alloc: A, text: &str) -> Result<Self, LenientTextError>
         ensures { GivesText result (path_read Lenient text.now) }
@@ -65,7 +71,8 @@ impl<A: Allocator + Copy> DevicePathBuf<A> {
     /// node has its bytes in order, and `Ata` has three numbers. Its `Fibre`, `SAS` and `UsbClass`
     /// leave out what distinguishes two nodes, and `PciRoot` and `PcieRoot` may have a text instead
     /// of the number, which begins with `0x`; these are refused. All other nodes are read as
-    /// [`DevicePathBuf::from_lenient_text`] reads them. Fails and allocates as that call does.
+    /// [`DevicePathBuf::from_lenient_text`] reads them, but quotation marks around the text and a
+    /// `/` before it are refused. Fails and allocates as that call does.
     ///
     /// ```rust
     /// let text = "NVMe(0x1,00-25-38-5B-71-B0-03-1C)";

@@ -26,6 +26,7 @@
 //! calls that say so allocate.
 #![tactic(auto)]
 
+mod around_nodes;
 pub mod build;
 mod checked_nodes;
 mod device_path;
@@ -68,7 +69,7 @@ pub use errors::{
 };
 pub use extent::{PathCut, PathExtent};
 pub use instance::{DevicePathInstance, DevicePathInstanceIterator};
-pub use lenient_errors::{Expected, LenientTextError, PushLenientTextError, TextFault};
+pub use lenient_errors::{Choice, Expected, LenientTextError, PushLenientTextError, TextFault};
 pub use lenient_text_in_buf::{push_lenient_text_in_buf, push_libefivar_text_in_buf};
 pub use load_option::LoadOption;
 pub use load_option_builder::LoadOptionBuilder;
@@ -76,7 +77,7 @@ pub use load_option_edits::set_attributes;
 pub use load_option_parts::LoadOptionParts;
 pub use matching::ShortForm;
 pub use node_iterator::DevicePathNodeIterator;
-pub use path_in_buf::{append_in_buf, push_in_buf};
+pub use path_in_buf::{append_in_buf, push_at_in_buf, push_in_buf};
 pub use path_list::{DevicePaths, check_paths};
 pub use path_reader::PathTextError;
 pub use path_text::PathText;

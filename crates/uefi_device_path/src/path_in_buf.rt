@@ -1,11 +1,11 @@
 //! Device paths that grow in their buffer.
 #![tactic(auto)]
 
-ghost use Rattle.std.specs.Prelude.{◌≡◌, ◌+◌, ◌-◌, ◌^◌, ◌≤◌, min, ◌∷◌, ◌++◌, [], List, drop, length, take, Err, IfErr, IfOk, IsOk, None, OnErr, OnOk};
+ghost use Rattle.std.specs.Prelude.{◌≡◌, ◌+◌, ◌-◌, ◌^◌, ◌≤◌, min, ◌∷◌, ◌++◌, [], List, drop, length, take, Err, IfErr, IfOk, IsOk, IsTrue, None, OnErr, OnOk};
 ghost use Rattle.std.specs.Result.{result_err};
 ghost use Rattle.uefi_text.specs.UnalignedCStr16.{with_prefix};
 ghost use Rattle.uefi_device_nodes.specs.Nodes.{Node, end_entire, node_bytes, node_length};
-ghost use Rattle.uefi_device_path.specs.Building.{append_refusal, build_refusal, grow_refusal, push_refusal};
+ghost use Rattle.uefi_device_path.specs.Building.{append_refusal, build_refusal, ends_at, grow_refusal, len_unless, prefix_unless, push_at_refusal, push_refusal, pushed_at, room_refusal};
 ghost use Rattle.uefi_device_path.specs.Faults.{RefusedFor};
 ghost use Rattle.uefi_device_path.specs.Paths.{BeginWithPath, IsPath, nodes_in, path_bytes, without_end};
 ghost use Rattle.uefi_device_path.specs.Views.{nodes_of};
@@ -13,7 +13,7 @@ ghost use Rattle.uefi_device_path.specs.declared.errors.DevicePathError.{DeviceP
 
 use crate::device_path::DevicePath;
 use crate::device_path_buf::{check_node, node_header};
-use crate::errors::{BuildError, DevicePathError, GrowError};
+use crate::errors::{BuildError, DevicePathError, GrowError, NodeError};
 use uefi_device_nodes::build_node::{BuildNode, copy_bytes};
 
 /// Writes a node, and the node that ends a path after it.
@@ -66,6 +66,26 @@ pub(crate) fn put_if_room<N: BuildNode>(buffer: &mut [u8], len: usize, node: &N)
     put_at(buffer, len, node)
 }
 
+/// Returns how many bytes a path of `len` bytes has with one more node, or why the node is not added
+/// to it.
+fn grown_len<N: BuildNode>(buffer: &[u8], len: usize, node: &N) -> Result<usize, BuildError>
+    requires { len ≤ length buffer.now }
+    ensures len { IfOk result (λ end. end ≡ len + node_length (N.node node.now)) }
+    ensures within { IfOk result (λ end. end ≤ length buffer.now) }
+    ensures unrefused { OnOk result (build_refusal (N.node node.now) ≡ None) }
+    ensures refusal { result_err result ≡ room_refusal (len + node_length (N.node node.now))
+        (length buffer.now) (build_refusal (N.node node.now)) }
+{
+    if let Err(error) = check_node(node) {
+        return Err(error);
+    }
+    let end = len + node.data_len() + 4;
+    if buffer.len() < end {
+        return Err(BuildError::BufferTooSmall(end));
+    }
+    Ok(end)
+}
+
 /// Adds a node before the end of the path that the first `len` bytes of a buffer are, and returns how many
 /// bytes the path then has.
 pub(crate) fn push_at<N: BuildNode>(
@@ -84,14 +104,10 @@ pub(crate) fn push_at<N: BuildNode>(
     ensures refusal { result_err result
         ≡ push_refusal (nodes_in (without_end (take len buffer.old))) (N.node node.now) (length buffer.old) }
 {
-    if let Err(error) = check_node(node) {
-        return Err(error);
+    match grown_len(buffer, len, node) {
+        Ok(_) => Ok(put_at(buffer, len, node)),
+        Err(error) => Err(error),
     }
-    let end = len + node.data_len() + 4;
-    if buffer.len() < end {
-        return Err(BuildError::BufferTooSmall(end));
-    }
-    Ok(put_at(buffer, len, node))
 }
 
 /// Adds the nodes of another path before the end of the path that the first `len` bytes of a buffer are, and
@@ -173,6 +189,59 @@ pub fn push_in_buf<N: BuildNode>(buffer: &mut [u8], node: &N) -> Result<usize, G
         Ok(len) => Ok(len),
         Err(error) => Err(GrowError::Build(error)),
     }
+}
+
+/// Returns whether the first `len` bytes end with the node that ends a path.
+fn ends_at(bytes: &[u8], len: usize) -> bool
+    ensures value { result ≡ ends_at bytes.now len }
+    ensures within { IsTrue result → len ≤ length bytes.now }
+    ensures end { IsTrue result → 4 ≤ len }
+{
+    len <= bytes.len() && bytes[..len].ends_with(&[0x7f, 0xff, 4, 0])
+}
+
+/// Adds a node before the end of the device path in the first `len` bytes of a buffer, and returns
+/// the number of bytes that the path then has: the `len` of the next call. Unlike [`push_in_buf`],
+/// the call reads none of the path but its end node, so that its time does not depend on the path.
+///
+/// Fails with `Path`, the cause `Missing` and the offset `len` if the buffer has fewer than `len`
+/// bytes or the first `len` bytes do not end with an end node, and otherwise as [`push_in_buf`]
+/// does; the buffer is then unchanged. Bytes after the new path are never changed. The bytes before
+/// the end node are not checked. If the first `len` bytes are a device path, the call does what
+/// [`push_in_buf`] does ([`pushed_at_the_end`](crate::laws::pushed_at_the_end)). Does not allocate.
+///
+/// ```rust
+/// let mut buffer = [0x7f, 0xff, 4, 0, 0, 0, 0, 0, 0, 0];
+/// let node = build::hardware::Pci { function: 2, device: 0x1f };
+/// assert_eq!(rt; push_at_in_buf(&mut buffer, 4, &node), Ok(10));
+/// assert_eq!(rt; buffer, [1, 1, 6, 0, 2, 0x1f, 0x7f, 0xff, 4, 0]);
+/// let refused = push_at_in_buf(&mut buffer, 10, &node);
+/// assert_eq!(rt; refused, Err(GrowError::Build(BuildError::BufferTooSmall(16))));
+/// let no_end = DevicePathError { cause: NodeError::Missing, offset: 6 };
+/// assert_eq!(rt; push_at_in_buf(&mut buffer, 6, &node), Err(GrowError::Path(no_end)));
+/// ```
+pub fn push_at_in_buf<N: BuildNode>(
+    buffer: &mut [u8],
+    len: usize,
+    node: &N,
+) -> Result<usize, GrowError>
+    ensures result { let added = N.node node.now in result
+        ≡ len_unless (push_at_refusal buffer.old len added) (length (pushed_at buffer.old len added)) }
+    ensures buffer { let added = N.node node.now in buffer.new
+        ≡ prefix_unless (push_at_refusal buffer.old len added) (pushed_at buffer.old len added) buffer.old }
+{
+    if !ends_at(buffer, len) {
+        return Err(GrowError::Path(DevicePathError {
+            cause: NodeError::Missing,
+            offset: len,
+        }));
+    }
+    let end = match grown_len(buffer, len, node) {
+        Ok(end) => end,
+        Err(error) => return Err(GrowError::Build(error)),
+    };
+    put_node(&mut buffer[len - 4..end], node_header(node), node);
+    Ok(end)
 }
 
 /// Adds the nodes of another path before the end of the device path at the start of a buffer, and

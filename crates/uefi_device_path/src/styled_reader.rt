@@ -13,6 +13,7 @@ ghost use Rattle.uefi_node_reader.specs.Styles.{HasScratch};
 ghost use Rattle.uefi_device_path.specs.declared.lenient_errors.LenientTextError.TheVariants.{OutOfMemory};
 ghost use Rattle.uefi_node_reader.specs.ParsedNodeViews.{parsed_node};
 
+use crate::around_nodes::around_nodes;
 use crate::device_path_buf::{DevicePathBuf, empty_path};
 use crate::lenient_errors::{LenientTextError, TextFault};
 use crate::path_in_buf::put_if_room;
@@ -140,8 +141,8 @@ pub(crate) fn put_text(
     nodes_are_read();
     styled_nodes_are_read();
     faults_lie_within();
+    let (whole, mut rest) = around_nodes(style, text);
     let mut end = len;
-    let mut rest = text;
     let mut at_start = true;
     'nodes: while !rest.is_empty() {
         match after_comma(rest) {
@@ -153,9 +154,9 @@ pub(crate) fn put_text(
             }
             None => {
                 let place = node_start(at_start, rest);
-                let (node, after) = match first_styled_node(style, scratch, text, place) {
+                let (node, after) = match first_styled_node(style, scratch, whole, place) {
                     Ok(read) => read,
-                    Err(found) => return Err(fault_at(text, place, found)),
+                    Err(found) => return Err(fault_at(whole, place, found)),
                 };
                 end = put_if_room(buffer, end, &node);
                 rest = after;

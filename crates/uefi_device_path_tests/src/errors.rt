@@ -4,9 +4,10 @@ use for_tests::says;
 use std::alloc::Global;
 use std::fmt::Display;
 use uefi_device_path::{
-    BuildError, DevicePathError, Expected, FilePathCause, FilePathError, FilePathWriteError,
-    GrowError, LenientTextError, LoadOptionCause, LoadOptionError, NodeConversionError, NodeError,
-    OptionBuildError, PathTextError, PushLenientTextError, PushTextError, TextFault,
+    BuildError, Choice, DevicePathError, Expected, FilePathCause, FilePathError,
+    FilePathWriteError, GrowError, LenientTextError, LoadOptionCause, LoadOptionError,
+    NodeConversionError, NodeError, OptionBuildError, PathTextError, PushLenientTextError,
+    PushTextError, TextFault,
 };
 use uefi_text::{FromSliceWithNulError, Printed};
 
@@ -250,6 +251,56 @@ const EXPECTED: &[(Expected, &str)] = &[
     (Expected::FileName, "the name of a file"),
     (Expected::End, "`/`, `,` or the end of the text"),
     (Expected::AsPrinted, "the exact printed form"),
+    (
+        Expected::NodeLike(0),
+        "the name of a node, such as `Pci(0x`",
+    ),
+    (Expected::NodeLike(9999), "the name of a node, such as ``"),
+    (Expected::Id, "an ID such as `PNP0A03`, or `0`"),
+    (
+        Expected::Word(Choice::AtaChannel),
+        "`Primary` or `Secondary`",
+    ),
+    (Expected::Word(Choice::AtaDrive), "`Master` or `Slave`"),
+    (
+        Expected::Word(Choice::PartitionFormat),
+        "`GPT`, `MBR` or a number",
+    ),
+    (
+        Expected::Word(Choice::SasProtocol),
+        "`SAS`, `SATA`, `NoTopology` or a number",
+    ),
+    (
+        Expected::Word(Choice::SasLocation),
+        "`Internal` or `External`",
+    ),
+    (
+        Expected::Word(Choice::SasConnection),
+        "`Direct` or `Expanded`",
+    ),
+    (
+        Expected::Word(Choice::IpProtocol),
+        "`TCP`, `UDP` or a number",
+    ),
+    (Expected::Word(Choice::Ipv4Origin), "`DHCP` or `Static`"),
+    (
+        Expected::Word(Choice::Ipv6Origin),
+        "`Static`, `StatelessAutoConfigure` or `StatefulAutoConfigure`",
+    ),
+    (
+        Expected::Word(Choice::BootDevice),
+        "`Floppy`, `HD`, `CDROM`, `PCMCIA`, `USB`, `Network` or a number",
+    ),
+    (
+        Expected::Word(Choice::FlowControl),
+        "`None`, `Hardware` or `XonXoff`",
+    ),
+    (Expected::Word(Choice::Digest), "`None` or `CRC32C`"),
+    (
+        Expected::Word(Choice::Login),
+        "`None`, `CHAP_BI` or `CHAP_UNI`",
+    ),
+    (Expected::Word(Choice::IscsiProtocol), "`TCP`"),
     (
         Expected::Untold,
         "a shorter node, or one whose text tells all of it",

@@ -1,10 +1,11 @@
 //! Device paths read from texts as people write them: the bytes of each, by libefivar, on which efibootmgr
 //! stands, and by the layouts of the UEFI Specification 2.10, section 10.3.
 
+use crate::pasted_texts::{READ_BY_EDK2, READ_BY_PEOPLE, fault_words};
 use for_tests::{bytes, split_row};
 use std::alloc::Global;
 use std::test::Fail;
-use uefi_device_path::{DevicePathBuf, LenientTextError};
+use uefi_device_path::DevicePathBuf;
 
 /// Paths that libefivar makes, without the node that ends them, and the texts that it prints of them.
 pub(crate) const BY_LIBEFIVAR: &str = "\
@@ -105,7 +106,21 @@ const PASTED: &str = "\
 04042c005c004500460049005c00780020002800780038003600290029005c0061002e006500660069000000 \
     File(\\EFI\\x (x86))\\a.efi)
 04041a005c004500460049005c0078002e006500660069000000  EFI\\x.efi
-04041a005c004500460049005c0078002e006500660069000000  \\EFI\\x.efi";
+04041a005c004500460049005c0078002e006500660069000000  \\EFI\\x.efi
+02010c00d041030a00000000010106000101 /PciRoot(0x0)/Pci(0x1,0x1)
+01041400b9731de684a3cc4aaeab82e828f3628b031a050000\
+    04012a0001000000000800000000000000100000000000007856341200000000000000000000000001\
+    01 /VenHw(e61d73b9-a384-4acc-aeab-82e828f3628b)/SD(0)/HD(1,MBR,0x12345678,0x800,0x1000)
+04041a005c004500460049005c0078002e006500660069000000 /\\EFI\\x.efi
+04041a005c004500460049005c0078002e006500660069000000 \t /EFI\\x.efi
+02010c00d041030a00000000010106000101  / PciRoot(0x0)/Pci(0x1,0x1)
+02010c00d041030a00000000010106000101 \"PciRoot(0x0)/Pci(0x1,0x1)\"
+02010c00d041030a00000000010106000101 \t\" PciRoot(0x0)/Pci(0x1,0x1)\t\"\t
+02010c00d041030a00000000010106000101 '/PciRoot(0x0)/Pci(0x1,0x1)'
+02010c00d041030a000000007f01040004040a005c0061000000 \" / PciRoot(0x0),\\a\"
+04041a005c004500460049005c0078002e006500660069000000 '\\EFI\\x.efi'
+04041a005c004500460049005c0078002e006500660069000000 \"EFI\\x.efi\"
+040418005c0069007400270073002e006500660069000000 '\\it's.efi'";
 
 /// The same with blanks and line ends around the nodes.
 const AROUND: &str = "\r\n PciRoot(0x0)\t/\n  Pci(0x1F,\n0x2)\r\n";
@@ -141,7 +156,13 @@ fn is_read(
 
 #[test]
 fn texts(rt: HostRuntime) -> Result<(), Fail> {
-    for table in [BY_LIBEFIVAR, BY_PEOPLE, PASTED] {
+    for table in [
+        BY_LIBEFIVAR,
+        BY_PEOPLE,
+        PASTED,
+        READ_BY_EDK2,
+        READ_BY_PEOPLE,
+    ] {
         for line in table.split('\n') {
             let (nodes, text) = split_row(line);
             let nodes = bytes(rt.alloc(), nodes)?;
@@ -188,12 +209,8 @@ fn refused_texts_of_libefivar(rt: HostRuntime) -> Result<(), Fail> {
         let Some((text, words)) = line.split_once(": ") else {
             return Err(Fail::from("a row without words"));
         };
-        let error = DevicePathBuf::from_libefivar_text(rt.alloc(), text).err();
-        let shown = match error {
-            Some(error) => format!(in rt.alloc(); "{error}")?,
-            None => String::new(rt.alloc()),
-        };
-        assert_eq!(rt; shown.as_str(), words);
+        let read = DevicePathBuf::from_libefivar_text(rt.alloc(), text);
+        assert_eq!(rt; fault_words(rt.alloc(), read)?.as_str(), words);
     }
     Ok(())
 }
@@ -202,7 +219,8 @@ fn refused_texts_of_libefivar(rt: HostRuntime) -> Result<(), Fail> {
 /// expected.
 pub(crate) const REFUSED: &str = "\
 11 11 PciRoot(0)/: the name of a node | 0 12 Uart(9600,8,Q,1): a parity (D, N, E, O, M, S or x) and `,` | \
-0 0 PcRoot(0): the name of a node | 0 5 Uart(fast,8,N,1): DEFAULT or a number up to 0xFFFFFFFFFFFFFFFF | \
+0 0 PcRoot(0): the name of a node, such as `PciRoot(0x` | \
+0 5 Uart(fast,8,N,1): DEFAULT or a number up to 0xFFFFFFFFFFFFFFFF | \
 6 6 \\a/\\b//c: the name of a node | \
 11 20 PciRoot(0)/Pci(0x1F,0x12345678901)/Sata(0x0): a number up to 0xFF | \
 0 10 PciRoot(0)x: `/`, `,` or the end of the text | 0 11 Dns(1.1.1.1,1.1.1.256): the exact printed form | \
@@ -212,26 +230,41 @@ pub(crate) const REFUSED: &str = "\
 11 18 PciRoot(0)/Pci(1,2,3): `)` | 0 14 Path(1,1,0102): a shorter node, or one whose text tells all of it | \
 0 7 Path(9,0x100): a number up to 0xFF | \
 0 6 File(a: `)` | 0 7 NVMe(1,0025385b71b0031c): 16 hexadecimal digits in pairs, with dashes between them | \
-2 3 ,,(: a number after `0x` | 0 0 wi-fi(home): the exact printed form | \
-0 45 VenHw(12345678-9abc-def0-1234-56789abcdef0,abc): `)` | 0 18 IPv4(1.2.3.4,TCP,Dynamic,0.0.0.0): `H` | \
+2 3 ,,(: a number after `0x` | 0 38 wi-fi(a name of more than thirty-two bytes): `)` | \
+0 45 VenHw(12345678-9abc-def0-1234-56789abcdef0,abc): `)` | \
+0 17 IPv4(1.2.3.4,TCP,Dynamic,0.0.0.0): `DHCP` or `Static` | \
 0 4 Pci(f,0): a number up to 0xFF | 0 14 Uart(9600,8,N,3): stop bits (D, 1, 1.5, 2 or x) and `)` | \
-12 20 pci root(0)/pci( 31 ; 2 ): `,` | 0 7 HD(128,0,1032547698badcfe0102030405060708,0x0,0x0): `M` | \
+12 20 pci root(0)/pci( 31 ; 2 ): `,` | \
+0 7 HD(128,0,1032547698badcfe0102030405060708,0x0,0x0): `GPT`, `MBR` or a number | \
 0 7 Sata(0,-1,0): a number up to 0xFFFF | 0 17 HD(1,GPT,12345678_9abc-def0-1234-56789abcdef0): `-` | \
-0 12 Ata(Primary,Third,0): `S` | 0 18 AcpiAdr(0x80010100,1): the exact printed form | \
-0 26 SAS(0,0,0,SAS,Internal,Dirct,0,0): `e` | 11 15 PciRoot(0)/Pci(0x100,0): a number up to 0xFF | \
+0 12 Ata(Primary,Third,0): `Master` or `Slave` | 0 18 AcpiAdr(0x80010100,1): the exact printed form | \
+0 23 SAS(0,0,0,SAS,Internal,Dirct,0,0): `Direct` or `Expanded` | \
+11 15 PciRoot(0)/Pci(0x100,0): a number up to 0xFF | \
 0 19 MAC(001122334455,2): a shorter node, or one whose text tells all of it | 0 13 \
     Acpi(PNP0A03,0x): a number up to 0xFFFFFFFF | \
-0 0 uri(http://a): the exact printed form | 0 5 file(a\u{7}b): the name of a file | \
+0 12 uri(http://a\u{7}): `)` | 0 5 file(a\u{7}b): the name of a file | \
 0 0 a\u{202e}: the name of a file | 0 0 shim.efi: the name of a file | \
 0 0 Pci 0x1F,0x2): the name of a file | 0 0 PciRoot/Pci(0x1,0x0): the name of a file | \
 0 0 FS0:\\EFI\\x.efi: the name of a file | 7 7 \\EFI\\a,b.efi: the name of a file | 7 7 \
     \\EFI\\a,b\\c.efi: the name of a file | \
 1 1 ,EFI\\a.efi: the name of a file | \
-0 0 EFI\\x)\\y: the name of a file | 0 0 \"EFI\\x\": the name of a file | \
+0 0 EFI\\x)\\y: the name of a file | \
 0 9 HD(1,MBR,12345678,0x800,0x64000): a number after `0x` | \
 0 5 Acpi(12345678,0): a number after `0x` | 0 25 BluetoothLE(001122334455,10): a number after `0x` | \
 0 6 Fibre(5006016047273469,0): a number after `0x` | \
 0 11 Fibre(0x1, 5006016047273469): a number after `0x` | \
 0 4 SAS(5000,0,0,NoTopology,0,0,0): a number after `0x` | \
 0 9 UsbClass(781,5583,255,255): a number after `0x` | \
-0 8 PciRoot(): a number after `0x` | 0 5 Sata(): a number after `0x`";
+0 8 PciRoot(): a number after `0x` | 0 5 Sata(): a number after `0x` | \
+0 0 /: the name of a node | 0 0 //PciRoot(0): the name of a node | 0 0 /,PciRoot(0): the name of a node | \
+0 0 / : the name of a node | 0 0 / /PciRoot(0): the name of a node | \
+1 1 /PcRoot(0): the name of a node, such as `PciRoot(0x` | \
+1 5 /Pci(0x100,0): a number up to 0xFF | 1 1 /\"\\a\": the name of a file | \
+11 11 PciRoot(0),/\\a: the name of a node | \
+0 0 \": the name of a file | 0 0 \"\": the name of a file | 0 0 \" \": the name of a file | \
+0 0 ': the name of a file | 0 0 '': the name of a file | 0 0  ' ': the name of a file | \
+0 0 \"PciRoot(0): the name of a node, such as `PciRoot(0x` | \
+0 0 'PciRoot(0)\": the name of a node, such as `PciRoot(0x` | \
+0 0 \"PciRoot(0)\"x: the name of a node, such as `PciRoot(0x` | 0 0 \"\\a\",\\b: the name of a file | \
+1 1 \"/\": the name of a node | 2 2  \"/,\\a\": the name of a node | 1 1 '//\\a': the name of a node | \
+12 16 \"PciRoot(0)/Pci(0x100,0)\": a number up to 0xFF | 5 5 \"\\a\"/\"\\b\": the name of a file";

@@ -34,10 +34,14 @@ mod option_edits;
 #[cfg(test)]
 mod out_of_memory;
 #[cfg(test)]
+mod pasted_texts;
+#[cfg(test)]
 mod path_reader;
 #[cfg(test)]
 mod path_text;
 #[cfg(test)]
+#[cfg(test)]
+mod push_at;
 #[cfg(test)]
 mod push_text;
 #[cfg(test)]

@@ -1,5 +1,5 @@
 -- Texts that differ in case, in blanks or in zeros before numbers alone are read alike.
-use Rattle.std.proofs.Common.{◌≡◌, ℕ, Bool, true, false, cond, eqb, ltb, List, [], ◌∷◌, length, refl, sym, ap, subst, ◌∙◌, arith, true≢false}
+use Rattle.std.proofs.Common.{◌≡◌, ℕ, Bool, true, false, cond, eqb, ltb, List, [], ◌∷◌, refl, sym, ap, subst, ◌∙◌, arith, true≢false}
 use Rattle.std.specs.Prelude.{Option, Some, None, Result, Ok, Err, codes}
 use Rattle.std.specs.Option.{ok_or, option_map}
 use Rattle.std.specs.Result.{result_map_both, result_ok}
@@ -8,7 +8,8 @@ use Rattle.uefi_device_nodes.specs.Nodes.{Node}
 use Rattle.uefi_node_reader.specs.Alike.{CallsAlike, IsOtherCall, ZerosAlike, ZerosAlikeAfterBase}
 use Rattle.uefi_node_reader.specs.FieldReading.{read_if}
 use Rattle.uefi_node_reader.specs.LenientFields.{after_literal, any_number, past_base, some_digits}
-use Rattle.uefi_node_reader.specs.LenientNodes.{bare_read, call_in, call_told, cut_call, end_fault, ended_at, ended_spaced, exact_or, fault_at_byte, file_or_call, lenient_read, or_fault, spaced, stop_fault, tidied, written_read}
+use Rattle.uefi_node_reader.specs.LenientCalls.{cut_call, tidied}
+use Rattle.uefi_node_reader.specs.LenientNodes.{call_read, or_textless, bare_read, call_in, end_fault, ended_at, ended_spaced, exact_or, fault_at_byte, file_or_call, lenient_read, or_fault, spaced, stop_fault, written_read}
 use Rattle.uefi_node_reader.specs.NamedFiles.{is_after_node, node_read, past_spaces}
 use Rattle.uefi_node_reader.specs.Stops.{◌>?◌}
 use Rattle.uefi_node_reader.specs.declared.faults.Expected.TheVariants as expected
@@ -31,10 +32,10 @@ exact_none text (Some read) other e = by (is_after_node (past_spaces read.1)) ot
 
 -- what is read of a call, by its tidied text
 abbrev tidied_read : List ℕ → List ℕ → Option (Node × List ℕ)
-tidied_read text rest = ended_spaced (option_map (λ (node : Node). (node, rest)) (result_ok (call_told text)))
+tidied_read text rest = ended_spaced (option_map (λ (node : Node). (node, rest)) (result_ok (or_textless text (Err None))))
 
 ended_ok : (text front rest : List ℕ) (r : Result Node (Option Stop))
-    → result_ok (result_map_both (λ (node : Node). (node, rest)) (stop_fault text (length (tidied front))) r >? ended_at text)
+    → result_ok (result_map_both (λ (node : Node). (node, rest)) (stop_fault text (tidied front)) r >? ended_at text)
     ≡ ended_spaced (option_map (λ (node : Node). (node, rest)) (result_ok r))
 ended_ok text front rest (Err stop) = refl
 ended_ok text front rest (Ok node) = by (is_after_node (past_spaces rest))
@@ -56,7 +57,8 @@ other_read is_rooted text front rest is =
     (ok_or (bare_read is_rooted text) (fault_at_byte 0 (cond (is_after_node text) expected.Node expected.FileName))))) is.begins
     ∙ ap (λ (r : Result (Node × List ℕ) NodeFault). result_ok (r >? ended_at text))
     (no_file (after_literal (codes "File(") text) text is.no_file ∙ ap (call_in text) is.cut)
-    ∙ ended_ok text front rest (call_told (tidied front))
+    ∙ ended_ok text front rest (call_read front (tidied front))
+    ∙ ap (λ (r : Result Node (Option Stop)). ended_spaced (option_map (λ (node : Node). (node, rest)) (result_ok (or_textless (tidied front) r)))) is.textless
 
 pub calls_alike : CallsAlike
 calls_alike is_rooted text other front back rest one two same =

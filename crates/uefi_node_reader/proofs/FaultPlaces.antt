@@ -5,7 +5,9 @@ use Rattle.std.specs.Option.{ok_or, option_map}
 use Rattle.std.specs.Result.{result_map_both}
 use Rattle.uefi_device_nodes.specs.Nodes.{Node}
 use Rattle.uefi_node_reader.specs.LenientFields.{after_literal}
-use Rattle.uefi_node_reader.specs.LenientNodes.{bare_read, begins_call, call_in, call_told, cut_call, cut_file, end_fault, ended_at, exact_or, fault_at_byte, file_in, file_or_call, is_blank, lenient_read, open_fault, or_fault, place_at, rooted, spaced, stop_fault, tidied, whole, written_read}
+use Rattle.uefi_node_reader.specs.LenientCalls.{cut_call, is_blank, place_at, tidied, whole}
+use Rattle.uefi_node_reader.specs.LenientNodes.{bare_read, begins_call, call_in, call_read, cut_file, end_fault, ended_at, exact_or, fault_at_byte, file_in, file_or_call, lenient_read, open_fault, or_fault, rooted, spaced, stop_fault, written_read}
+use Rattle.uefi_node_reader.specs.Mistakes.{mistake}
 use Rattle.uefi_node_reader.specs.NamedFiles.{is_after_node, name_read, node_read, past_spaces}
 use Rattle.uefi_node_reader.specs.Stops.{◌>?◌}
 use Rattle.uefi_node_reader.specs.declared.faults.Expected.TheVariants as expected
@@ -31,26 +33,26 @@ module _ (text : List ℕ) where
   or_within None fault l = l
   or_within (Some x) fault l = tt
 
-  stop_within : (len : ℕ) (o : Option Stop) → (stop_fault text len o).byte ≤ length text
-  stop_within len None = omega arith
-  stop_within len (Some stop) = place_within (len - stop.left) text
+  stop_within : (call : List ℕ) (o : Option Stop) → (stop_fault text call o).byte ≤ length text
+  stop_within call None = omega arith
+  stop_within call (Some stop) = place_within (length call - (mistake call stop).left) text
 
-  open_within : (len : ℕ) (r : Result Node (Option Stop)) → (open_fault text len r).byte ≤ length text
-  open_within len (Ok node) = omega arith
-  open_within len (Err None) = omega arith
-  open_within len (Err (Some stop)) = by (eqb stop.left 0)
+  open_within : (call : List ℕ) (r : Result Node (Option Stop)) → (open_fault text call r).byte ≤ length text
+  open_within call (Ok node) = omega arith
+  open_within call (Err None) = stop_within call None
+  open_within call (Err (Some stop)) = by (eqb stop.left 0)
     where
-      by : (b : Bool) → (cond b (fault_at_byte (length text) (expected.Byte 41)) (fault_at_byte (place_at (len - stop.left) text) stop.expected)).byte ≤ length text
+      by : (b : Bool) → (cond b (fault_at_byte (length text) (expected.Byte 41)) (stop_fault text call (Some stop))).byte ≤ length text
       by true = omega arith
-      by false = place_within (len - stop.left) text
+      by false = stop_within call (Some stop)
 
   call_within : (o : Option (List ℕ × List ℕ)) → Within (call_in text o)
-  call_within None = open_within (length (tidied text)) (call_told (tidied text))
-  call_within (Some call) = by (call_told (tidied call.0))
+  call_within None = open_within (tidied text) (call_read text (tidied text))
+  call_within (Some call) = by (call_read call.0 (tidied call.0))
     where
-      by : (r : Result Node (Option Stop)) → Within {A = Node × List ℕ} (result_map_both (λ (n : Node). (n, call.1)) (stop_fault text (length (tidied call.0))) r)
+      by : (r : Result Node (Option Stop)) → Within {A = Node × List ℕ} (result_map_both (λ (n : Node). (n, call.1)) (stop_fault text (tidied call.0)) r)
       by (Ok node) = tt
-      by (Err stop) = stop_within (length (tidied call.0)) stop
+      by (Err stop) = stop_within (tidied call.0) stop
 
   either_within : (r : Result (List ℕ) Stop) → Within (file_or_call r text)
   either_within (Err stop) = call_within (cut_call text)

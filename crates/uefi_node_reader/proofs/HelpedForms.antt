@@ -22,7 +22,7 @@ use Rattle.uefi_device_nodes.specs.Nodes.{Node}
 use Rattle.uefi_node_reader.specs.FieldReading.{comma_read, run_read, some_run}
 use Rattle.uefi_node_reader.specs.Helps.{GoesOn, IsThing}
 use Rattle.uefi_node_reader.specs.LenientFields.{after_literal, begins_base, literal_left, pieces_set}
-use Rattle.uefi_node_reader.specs.LenientNodes.{begins_call_name, form_told, form_tried, is_textless, named_told, told_in}
+use Rattle.uefi_node_reader.specs.LenientCalls.{begins_call_name, form_told, form_tried, is_textless, named_told, told_in}
 use Rattle.uefi_node_reader.specs.Numerals.{digit_of}
 use Rattle.uefi_node_reader.specs.Stops.{◌>?◌, close_stop, past, rest_end, stop_at, stop_of, tail_stop}
 use Rattle.uefi_node_reader.specs.TableReading.{blank, first_of, is_empty, is_read, rest_read, tail_read}
@@ -389,14 +389,14 @@ module _ (back thing more : List ℕ) (what : Expected) (is : IsThing what thing
           (λ i. not (is_read (sym mode i)) || (not (sym textless i) || is_mended form)) ∙ m
 
       textless : (t : Bool) → is_textless form.tail ≡ t → form.mode ≡ Read → begins_call_name form.start (front ++ back) ≡ true
-          → cond t (told (form_told form (front ++ back))) (Err (Some (stop_at (front ++ back) AsPrinted))) ≡ Err (Some (stop_at back what))
+          → cond t (told (form_told form (front ++ back))) (Err None) ≡ Err (Some (stop_at back what))
           → GoesOn (length more) (form_tried form (front ++ changed))
-      textless false p mode name q = absurd (expected back thing more what is closed (stop_at (front ++ back) AsPrinted) (same (stop_at (front ++ back) AsPrinted) q))
+      textless false p mode name q = cc
       textless true p mode name q =
           let goes = told_goes form (form_is mode p) front (map_err (form_told form (front ++ back)) (stop_at back what) q) in
           subst (λ (r : Result Node (Option Stop)). GoesOn (length more) r)
           (sym ((λ i. cond (goes.0 name i) (named_told (mode i) form (front ++ changed)) (Err None))
-          ∙ ap (λ (t : Bool). cond t (told (form_told form (front ++ changed))) (Err (Some (stop_at (front ++ changed) AsPrinted)))) p)) goes.1
+          ∙ ap (λ (t : Bool). cond t (told (form_told form (front ++ changed))) (Err None)) p)) goes.1
 
       by : (b : Bool) → begins_call_name form.start (front ++ back) ≡ b → (mode : Mode) → form.mode ≡ mode
           → cond b (named_told mode form (front ++ back)) (Err None) ≡ Err (Some (stop_at back what)) → GoesOn (length more) (form_tried form (front ++ changed))

@@ -7,7 +7,7 @@ use Rattle.uefi_node_table.specs.declared.rows.Tail.TheVariants.{Bytes}
 use Rattle.uefi_device_nodes.specs.Nodes.{Node}
 use Rattle.uefi_node_reader.specs.Helps.{GoesOn, IsThing}
 use Rattle.uefi_node_reader.specs.LenientFields.{after_literal, any_number}
-use Rattle.uefi_node_reader.specs.LenientNodes.{path_told, types_end, types_told, whole}
+use Rattle.uefi_node_reader.specs.LenientCalls.{path_told, types_end, types_told, whole}
 use Rattle.uefi_node_reader.specs.Numerals.{has_digit}
 use Rattle.uefi_node_reader.specs.Stops.{◌>?◌, past, rest_end, stop_at, stop_of}
 use Rattle.uefi_node_reader.specs.TableReading.{first_of}

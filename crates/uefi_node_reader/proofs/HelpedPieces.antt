@@ -23,7 +23,7 @@ use Rattle.uefi_node_table.specs.declared.words.Words.TheVariants as lists
 use Rattle.uefi_node_reader.specs.FieldReading.{◌>>=◌, IsValue, as_bytes, field_read, less_one}
 use Rattle.uefi_node_reader.specs.Helps.{IsNumber, IsThing, IsWord}
 use Rattle.uefi_node_reader.specs.LenientFields.{after_ending, after_letter, after_literal, any_field, any_number, any_word, begins_base, expected_field, is_number, left_out, literal_left, number_or_word, past_base, pieces_set, value_or_spare}
-use Rattle.uefi_node_reader.specs.LenientNodes.{tidied_byte}
+use Rattle.uefi_node_reader.specs.LenientCalls.{tidied_byte}
 use Rattle.uefi_node_reader.specs.Numerals.{digit_of, has_digit}
 use Rattle.uefi_node_reader.specs.Stops.{◌>?◌, past, stop_at}
 use Rattle.uefi_node_reader.specs.TableReading.{first_of, is_empty, put_at}

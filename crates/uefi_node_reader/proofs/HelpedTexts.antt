@@ -6,7 +6,7 @@ use Rattle.std.proofs.lemmas.Bool.Decides.{nat_tests}
 use Rattle.std.proofs.lemmas.List.{append_cancel_right}
 use Rattle.uefi_node_reader.specs.Helps.{IsThing}
 use Rattle.uefi_node_reader.specs.LenientFields.{after_letter, begins_base, literal_left, past_base}
-use Rattle.uefi_node_reader.specs.LenientNodes.{tidied_byte}
+use Rattle.uefi_node_reader.specs.LenientCalls.{tidied_byte}
 use Rattle.uefi_node_reader.specs.Stops.{◌>?◌, stop_at}
 use Rattle.uefi_node_reader.specs.TableReading.{is_empty}
 use Rattle.uefi_node_reader.specs.declared.faults.Expected.{Expected}

@@ -11,7 +11,7 @@ use Rattle.uefi_device_nodes.specs.Nodes.{Node}
 use Rattle.uefi_node_reader.specs.Ambiguous.{ambiguous_stop, bare_number_left, base_stop, is_empty_call, is_named_alone}
 use Rattle.uefi_node_reader.specs.Helps.{ExpectedHelps, GoesOn}
 use Rattle.uefi_node_reader.specs.LenientFields.{after_literal}
-use Rattle.uefi_node_reader.specs.LenientNodes.{call_told, call_tried, form_tried, forms_tried, or_next, path_told}
+use Rattle.uefi_node_reader.specs.LenientCalls.{call_told, call_tried, form_tried, forms_tried, or_next, path_told}
 use Rattle.uefi_node_reader.specs.OtherForms.{pasted_forms}
 use Rattle.uefi_node_reader.specs.Stops.{further, stop_at}
 use Rattle.uefi_node_reader.specs.TableReading.{first_of}

@@ -108,6 +108,17 @@ pub record SetIn (form : Form) (content : List ℕ) : Type 0 where
   pub bytes : All IsByte content
   pub tail : IsTailTold form.tail form.close (drop form.least content)
 
+-- a fixed part, and data after it that are told
+pub set_of : (form : Form) (head tail : List ℕ) → length head ≡ form.least → All IsByte head → All IsByte tail
+    → IsTailTold form.tail form.close tail → SetIn form (head ++ tail)
+set_of form head tail size bytes others told =
+    let left : drop form.least (head ++ tail) ≡ tail =
+    ap (λ (k : ℕ). drop k (head ++ tail)) (sym size) ∙ drop-append_seam head tail in
+    record {
+      bytes = All-append IsByte head tail bytes others;
+      tail = subst (λ (y : List ℕ). IsTailTold form.tail form.close y) (sym left) told;
+    }
+
 pub form_set_in : (form : Form) → is_sound form ≡ true → is_read form.mode ≡ true → (text content rest : List ℕ) (head : List ℕ × List ℕ)
     → pieces_set form.kind form.sub_kind form.pieces (blank form) text ≡ Ok head → rest_read form head ≡ Some (content, rest)
     → SetIn form content
@@ -121,9 +132,5 @@ form_set_in form s p text content rest h set e =
     let fields = pieces_set_bytes form.kind form.sub_kind n form.pieces (blank form) text h.0 h.1 is.within refl is.bytes set in
     let others = pieces_takes n form.rest h.0 c.0 f.0.0 f.0.1 is.rest_within is.apart.back fields.0 fields.1 f.1 in
     let tail = tail_takes form.tail form.close h.1 x.0.0 x.0.1 x.1 in
-    let left : drop form.least (f.0.0 ++ x.0.0) ≡ x.0.0 =
-    ap (λ (k : ℕ). drop k (f.0.0 ++ x.0.0)) (sym is.size ∙ sym fields.0 ∙ sym others.size) ∙ drop-append_seam f.0.0 x.0.0 in
-    subst (λ (y : List ℕ). SetIn form y) same.0 (record {
-      bytes = All-append IsByte f.0.0 x.0.0 others.bytes tail.1;
-      tail = subst (λ (y : List ℕ). IsTailTold form.tail form.close y) (sym left) tail.2;
-    })
+    subst (λ (y : List ℕ). SetIn form y) same.0
+    (set_of form f.0.0 x.0.0 (others.size ∙ fields.0 ∙ is.size) others.bytes tail.1 tail.2)

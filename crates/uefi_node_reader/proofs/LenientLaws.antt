@@ -1,32 +1,29 @@
 -- What is read leniently is told, and what is read strictly is read so too.
-use Rattle.std.proofs.Common.{◌≡◌, ◌++◌, append_assoc, take, ℕ, suc, ◌+◌, Bool, true, false, cond, eqb, leb, not, ◌==◌, ◌&&◌, ◌⊎◌, List, [], ◌∷◌, length, drop, refl, sym, ap, subst, ◌∙◌, inl, inr, arith, true≢false}
+use Rattle.std.proofs.Common.{◌≡◌, ◌++◌, append_assoc, take, ℕ, suc, ◌+◌, Bool, true, false, cond, eqb, not, ◌==◌, ◌&&◌, ◌⊎◌, List, [], ◌∷◌, drop, refl, sym, ap, subst, ◌∙◌, inl, inr, arith, true≢false}
 use Rattle.std.specs.Prelude.{Option, Some, None, Result, Ok, Err, codes, position}
 use Rattle.std.specs.Char.{to_ascii_uppercase}
 use Rattle.std.specs.List.{list_all, list_any, position_or_len}
 use Rattle.std.specs.Option.{ok_or, option_map, option_or}
 use Rattle.std.specs.Result.{result_map_both}
 use Rattle.std.specs.Str.{chars, is_utf8}
-use Rattle.std.proofs.lemmas.Bool.{and_parts}
 use Rattle.std.proofs.lemmas.List.{take-append-drop}
-use Rattle.uefi_node_table.specs.Rows.{Form, find_form}
+use Rattle.uefi_node_table.specs.Rows.{Form}
 use Rattle.uefi_node_table.specs.Table.{forms}
 use Rattle.uefi_device_nodes.specs.Nodes.{Node, node_with}
 use Rattle.uefi_node_reader.specs.FieldReading.{read_if}
 use Rattle.uefi_device_nodes.specs.NodeTexts.{node_text}
 use Rattle.uefi_node_reader.specs.LenientFields.{after_letter, after_literal, any_number, begins_base, literal_left, past_base, pieces_set}
 use Rattle.uefi_node_reader.specs.Ambiguous.{ambiguous_stop}
-use Rattle.uefi_node_reader.specs.LenientNodes.{IsRestOf, bare_read, begins_call, begins_call_name, call_in, call_told, call_tried, cut_call, end_fault, ended, ended_at, exact_or, cut_file, fault_at_byte, file_in, file_or_call, form_told, form_tried, forms_tried, is_textless, lenient_read, name_end, named_read, named_told, or_fault, or_next, path_told, rooted, spaced, stop_fault, tidied, told_in, types_told, whole, written_read}
-use Rattle.uefi_node_reader.specs.Stops.{◌>?◌, further, rest_end, stop_at, stop_of}
+use Rattle.uefi_node_reader.specs.LenientCalls.{begins_call_name, call_told, call_tried, cut_call, form_told, form_tried, forms_tried, is_textless, named_told, path_told, tidied, told_in, types_told, whole}
+use Rattle.uefi_node_reader.specs.LenientNodes.{call_read, or_short, or_textless, IsRestOf, bare_read, begins_call, call_in, end_fault, ended, ended_at, exact_or, cut_file, fault_at_byte, file_in, file_or_call, lenient_read, name_end, named_read, or_fault, rooted, spaced, stop_fault, written_read}
+use Rattle.uefi_node_reader.specs.Stops.{◌>?◌, rest_end, stop_at, stop_of}
 use Rattle.uefi_node_reader.specs.NamedFiles.{IsTold, ends_name, is_after_node, is_name, name_bytes, name_data, name_read, node_read, past_spaces}
-use Rattle.uefi_node_reader.specs.TableReading.{blank, is_empty, is_read, is_sound, prints, rest_read}
+use Rattle.uefi_node_reader.specs.TableReading.{blank, is_empty, is_read, is_sound, rest_read}
 use Rattle.uefi_node_table.specs.declared.rows.Mode.{Mode}
 use Rattle.uefi_node_table.specs.declared.rows.Mode.TheVariants.{Read, Printed, Display}
 use Rattle.uefi_node_reader.specs.declared.faults.Expected.TheVariants as expected
-use Rattle.uefi_node_reader.specs.declared.faults.Expected.TheVariants.{AsPrinted}
 use Rattle.uefi_node_reader.specs.declared.faults.NodeFault.{NodeFault}
 use Rattle.uefi_node_reader.specs.declared.faults.Stop.{Stop}
-use Rattle.uefi_node_reader.specs.CompleteTexts.{tells, tells_data}
-use Rattle.uefi_node_reader.specs.ParsedNodes.{fitting}
 use Rattle.uefi_node_reader.proofs.Digits.{some_pair}
 use Rattle.uefi_node_reader.proofs.Groups.{table_sound}
 use Rattle.uefi_node_reader.specs.WordReading.{after}
@@ -39,6 +36,11 @@ use Rattle.uefi_node_reader.specs.OtherForms.{pasted_forms}
 use Rattle.uefi_node_reader.proofs.OtherForms.{pasted_sound}
 use Rattle.uefi_node_reader.proofs.PlainNodes.{rest_takes}
 use Rattle.uefi_node_reader.proofs.Spaces.{IsEnd, past_spaces-after, rest_then, spaces_end, whole_end}
+use Rattle.uefi_node_reader.specs.ShortAddresses.{short_ipv6}
+use Rattle.uefi_node_reader.specs.TextCalls.{texts_tried}
+use Rattle.uefi_node_reader.proofs.ShortAddresses.{short_told}
+use Rattle.uefi_node_reader.proofs.TextCalls.{texts_told}
+use Rattle.uefi_node_reader.proofs.ToldForms.{all_told, next_way, of_form, told_as}
 use Rattle.uefi_node_reader.proofs.ToldNodes.{tells_told}
 
 -- what was read, if a test holds
@@ -46,39 +48,6 @@ if_read : (b : Bool) (x node : Node) (r rest : List ℕ) → read_if b x r ≡ S
     → (b ≡ true) × (x ≡ node) × (r ≡ rest)
 if_read false x node r rest e = cc
 if_read true x node r rest e = let p = some_pair (x, r) (node, rest) e in (refl, p.0, p.1)
-
--- the node of a form with these data
-abbrev of_form : Form → List ℕ → Node
-of_form form content = node_with form.kind form.sub_kind content
-
--- a node that its text tells has no more data than a node may have
-pub told_in-fitting : (form : Form) (o : Option (List ℕ × List ℕ)) → told_in form (fitting o) ≡ told_in form o
-unfolding tells
-told_in-fitting form None = refl
-told_in-fitting form (Some read) = by (leb (length read.0) 0xfffb) refl
-  where
-    no : (x y : Bool) → None ≡ cond (x && (false && y)) (Some (of_form form read.0)) None
-    no true y = refl
-    no false y = refl
-
-    by : (t : Bool) → leb (length read.0) 0xfffb ≡ t
-        → told_in form (cond t (Some read) None)
-        ≡ cond (is_empty read.1 && (leb (length read.0) 0xfffb && tells_data form read.0 (find_form (prints (of_form form read.0)) forms))) (Some (of_form form read.0)) None
-    by true p = refl
-    by false p = no (is_empty read.1) (tells_data form read.0 (find_form (prints (of_form form read.0)) forms))
-        ∙ ap (λ (t : Bool). cond (is_empty read.1 && (t && tells_data form read.0 (find_form (prints (of_form form read.0)) forms))) (Some (of_form form read.0)) None) (sym p)
-
--- a node that its text tells
-pub told_as : (form : Form) (o : Option (List ℕ × List ℕ)) (node : Node) → told_in form o ≡ Some node
-    → (read : List ℕ × List ℕ) × (o ≡ Some read) × (tells form (of_form form read.0) ≡ true) × (of_form form read.0 ≡ node)
-told_as form None node e = cc
-told_as form (Some read) node e = by (is_empty read.1) (tells form (of_form form read.0)) refl e
-  where
-    by : (a b : Bool) → tells form (of_form form read.0) ≡ b → cond (a && b) (Some (of_form form read.0)) None ≡ Some node
-        → (x : List ℕ × List ℕ) × (Some read ≡ Some x) × (tells form (of_form form x.0) ≡ true) × (of_form form x.0 ≡ node)
-    by false b p q = cc
-    by true false p q = cc
-    by true true p q = let same : of_form form read.0 ≡ node = cc in (read, refl, p, same)
 
 -- a form whose start and fields were read
 abbrev ended_row : Form → List ℕ × List ℕ → Result Node Stop
@@ -117,7 +86,7 @@ tried_told : (form : Form) → is_sound form ≡ true → (text : List ℕ) (nod
 tried_told form sound text node e = by (begins_call_name form.start text) form.mode refl e
   where
     textless : (b : Bool) → is_read form.mode ≡ true
-        → cond b (result_map_both (λ (n : Node). n) (λ (s : Stop). Some s) (form_told form text)) (Err (Some (stop_at text AsPrinted))) ≡ Ok node
+        → cond b (result_map_both (λ (n : Node). n) (λ (s : Stop). Some s) (form_told form text)) (Err None) ≡ Ok node
         → IsTold node
     textless false m q = cc
     textless true m q =
@@ -130,21 +99,10 @@ tried_told form sound text node e = by (begins_call_name form.start text) form.m
     by true Printed m q = cc
     by true Display m q = cc
 
--- a node that was read, or else the next
-next_way : (r : Result Node (Option Stop)) (next : Option Stop → Result Node (Option Stop)) (node : Node) → or_next r next ≡ Ok node
-    → (r ≡ Ok node) ⊎ ((stop : Option Stop) × (next stop ≡ Ok node))
-next_way (Ok x) next node e = inl e
-next_way (Err stop) next node e = inr (stop, e)
-
 forms_told : (all : List Form) → list_all is_sound all ≡ true → (furthest : Option Stop) (text : List ℕ) (node : Node)
     → forms_tried all furthest text ≡ Ok node → IsTold node
-forms_told [] sound furthest text node e = cc
-forms_told (form ∷ others) sound furthest text node e =
-    let sounds = and_parts (is_sound form) (list_all is_sound others) sound in
-    elim (next_way (form_tried form text) (λ stop. forms_tried others (further furthest stop) text) node e) [
-      | inl p ↦ tried_told form sounds.0 text node p
-      | inr p ↦ forms_told others sounds.1 (further furthest p.0) text node p.1
-    ]
+forms_told all sound furthest text node e =
+    all_told (λ form. form_tried form text) (λ form s. tried_told form s text) all sound furthest node e
 
 -- a node after which nothing stands
 whole_read : (o : Option (Node × List ℕ)) (node : Node) → whole o ≡ Some node
@@ -179,6 +137,20 @@ call_is_told None text node e = elim (next_way (forms_tried forms None text) _ n
   ]
 ]
 
+-- any call, with a text or without one
+read_is_told : (front call : List ℕ) (node : Node) → call_read front call ≡ Ok node → IsTold node
+read_is_told front call node e = by (texts_tried front call) refl e
+  where
+    by : (r : Result Node (Option Stop)) → texts_tried front call ≡ r → or_textless call r ≡ Ok node → IsTold node
+    by (Ok x) p q = texts_told front call node (p ∙ q)
+    by (Err (Some stop)) p q = cc
+    by (Err None) p q = short (call_told call) (short_ipv6 call) refl refl q
+      where
+        short : (r : Result Node (Option Stop)) (o : Option Node) → call_told call ≡ r → short_ipv6 call ≡ o → or_short r o ≡ Ok node → IsTold node
+        short (Ok x) o r s t = call_is_told (ambiguous_stop call) call node (r ∙ t)
+        short (Err stop) None r s t = cc
+        short (Err stop) (Some x) r s t = short_told call node (s ∙ ok_some (Some x) stop node t)
+
 name_told : (text : List ℕ) (node : Node) → whole (name_read text) ≡ Some node → IsTold node
 name_told text node e =
     let read = whole_read (name_read text) node e in inr (inr (name_takes text node read.0 read.1).0)
@@ -196,10 +168,10 @@ if_bare false o x e = cc
 
 -- what a call was read of
 called : (text : List ℕ) (node : Node) (rest : List ℕ) (o : Option (List ℕ × List ℕ)) → call_in text o ≡ Ok (node, rest)
-    → (call : List ℕ × List ℕ) × (o ≡ Some call) × ((call_told (tidied call.0) ≡ Ok node) × (call.1 ≡ rest))
+    → (call : List ℕ × List ℕ) × (o ≡ Some call) × ((call_read call.0 (tidied call.0) ≡ Ok node) × (call.1 ≡ rest))
 called text node rest None e = cc
 called text node rest (Some call) e =
-    let read = map_ok (λ (n : Node). (n, call.1)) (stop_fault text (length (tidied call.0))) (call_told (tidied call.0)) (node, rest) e in
+    let read = map_ok (λ (n : Node). (n, call.1)) (stop_fault text (tidied call.0)) (call_read call.0 (tidied call.0)) (node, rest) e in
     let same : read.0 ≡ node = ap (λ (x : Node × List ℕ). x.0) read.2 in
     (call, refl, (read.1 ∙ ap (λ (n : Node). Ok n) same, ap (λ (x : Node × List ℕ). x.1) read.2))
 
@@ -506,7 +478,7 @@ lenient_well is_rooted text node rest e = one_of_four is_rooted text node rest (
       starts = call_starts text b;
     })
     (λ b before p spaces after. let call = called text node before (cut_call text) p in record {
-      told = call_is_told (ambiguous_stop (tidied call.0.0)) (tidied call.0.0) node call.2.0;
+      told = read_is_told call.0.0 (tidied call.0.0) node call.2.0;
       rest_of = spaced_rest text before rest (call_end text node before p) spaces;
       ends = after;
       starts = call_starts text b;

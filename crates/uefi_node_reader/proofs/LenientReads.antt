@@ -13,7 +13,8 @@ use Rattle.uefi_node_table.specs.Table.{forms_from, group_forms}
 use Rattle.uefi_node_table.proofs.Groups.{next_group}
 use Rattle.uefi_device_nodes.specs.Nodes.{Node}
 use Rattle.uefi_node_reader.specs.LenientFields.{expected_field, left_out, value_or_spare, value_set}
-use Rattle.uefi_node_reader.specs.LenientNodes.{form_tried, forms_tried, is_blank, or_next, rooted, tidied, tidied_byte}
+use Rattle.uefi_node_reader.specs.LenientCalls.{first_tried, is_blank, or_next, tidied, tidied_byte}
+use Rattle.uefi_node_reader.specs.LenientNodes.{rooted}
 use Rattle.uefi_node_reader.specs.Stops.{further, stop_at}
 use Rattle.uefi_node_reader.specs.TableReading.{put_at}
 use Rattle.uefi_node_reader.specs.declared.faults.Stop.{Stop}
@@ -91,24 +92,23 @@ next_assoc : (r : Result Node (Option Stop)) (f g : Option Stop → Result Node 
 next_assoc (Ok node) f g = refl
 next_assoc (Err stop) f g = refl
 
-tried_append : (xs ys : List Form) (furthest : Option Stop) (text : List ℕ)
-    → forms_tried (xs ++ ys) furthest text
-    ≡ or_next (forms_tried xs furthest text) (λ stop. forms_tried ys stop text)
-tried_append [] ys furthest text = refl
-tried_append (x ∷ xs) ys furthest text =
-    ap (or_next (form_tried x text)) (λ i stop. tried_append xs ys (further furthest stop) text i)
-    ∙ next_assoc (form_tried x text) (λ stop. forms_tried xs (further furthest stop) text)
-    (λ stop. forms_tried ys stop text)
+module _ (tried : Form → Result Node (Option Stop)) where
+  tried_append : (xs ys : List Form) (furthest : Option Stop)
+      → first_tried tried (xs ++ ys) furthest ≡ or_next (first_tried tried xs furthest) (first_tried tried ys)
+  tried_append [] ys furthest = refl
+  tried_append (x ∷ xs) ys furthest =
+      ap (or_next (tried x)) (λ i stop. tried_append xs ys (further furthest stop) i)
+      ∙ next_assoc (tried x) (λ stop. first_tried tried xs (further furthest stop)) (first_tried tried ys)
 
-pub tried_step : (index : ℕ) → index < 12 → (group : List Form) → group ≡ group_forms index → (text : List ℕ)
-    → (furthest : Option Stop) (all : Result Node (Option Stop))
-    → forms_tried (forms_from index (12 - index)) furthest text ≡ all
-    → (here : Result Node (Option Stop)) → here ≡ forms_tried group furthest text
-    → or_next here (λ stop. forms_tried (forms_from (index + 1) (12 - (index + 1))) stop text) ≡ all
-tried_step index more group is text furthest all so_far here e =
-    let others = forms_from (index + 1) (12 - (index + 1)) in
-    ap (λ (r : Result Node (Option Stop)). or_next r (λ stop. forms_tried others stop text)) e
-    ∙ sym (tried_append group others furthest text)
-    ∙ ap (λ (l : List Form). forms_tried l furthest text)
-    (ap (λ (l : List Form). l ++ others) is ∙ sym (next_group index more))
-    ∙ so_far
+  pub tried_step : (index : ℕ) → index < 12 → (group : List Form) → group ≡ group_forms index
+      → (furthest : Option Stop) (all : Result Node (Option Stop))
+      → first_tried tried (forms_from index (12 - index)) furthest ≡ all
+      → (here : Result Node (Option Stop)) → here ≡ first_tried tried group furthest
+      → or_next here (first_tried tried (forms_from (index + 1) (12 - (index + 1)))) ≡ all
+  tried_step index more group is furthest all so_far here e =
+      let others = forms_from (index + 1) (12 - (index + 1)) in
+      ap (λ (r : Result Node (Option Stop)). or_next r (first_tried tried others)) e
+      ∙ sym (tried_append group others furthest)
+      ∙ ap (λ (l : List Form). first_tried tried l furthest)
+      (ap (λ (l : List Form). l ++ others) is ∙ sym (next_group index more))
+      ∙ so_far

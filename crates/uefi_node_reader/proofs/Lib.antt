@@ -10,6 +10,7 @@ pub mod PieceLaws
 pub mod ListLaws
 pub mod CountedBytes
 pub mod FixedParts
+pub mod SegmentOctets
 pub mod Heads
 pub mod ParsedNodes
 pub mod ListReads
@@ -21,13 +22,18 @@ pub mod PieceReads
 pub mod RestReads
 mod Spaces
 pub mod Groups
+pub mod FirstLetters
 pub mod PlainNodes
 pub mod NamedFiles
 pub mod NodeLaws
 pub mod Spares
 pub mod LenientFields
 pub mod ToldNodes
+pub mod CallBytes
+pub mod ShortAddresses
 pub mod LenientReads
+pub mod ToldForms
+pub mod TextCalls
 pub mod FaultPlaces
 pub mod OtherForms
 pub mod LenientLaws

@@ -7,7 +7,8 @@ use Rattle.std.specs.Option.{ok_or, option_map, option_or}
 use Rattle.std.proofs.lemmas.Bool.{and_parts}
 use Rattle.uefi_node_table.specs.Rows.{Form}
 use Rattle.uefi_device_nodes.specs.Nodes.{Node, node_with}
-use Rattle.uefi_node_reader.specs.LenientNodes.{IsRestOf, begins_call, cut_call, ended, fault_at_byte, place_at, tidied, told_in}
+use Rattle.uefi_node_reader.specs.LenientCalls.{cut_call, place_at, tidied, told_in}
+use Rattle.uefi_node_reader.specs.LenientNodes.{IsRestOf, begins_call, ended, fault_at_byte}
 use Rattle.uefi_node_reader.specs.Libefivar.{forms_exact, libefivar_read, own_call, own_fault, own_or_lenient, own_read, own_stop}
 use Rattle.uefi_node_reader.specs.NamedFiles.{IsTold, is_after_node, node_read, past_spaces}
 use Rattle.uefi_node_reader.specs.Styles.{PrintedExactly, StyledAgain, StyledEnds, StyledFaultWithin, StyledStarts, StyledTakes, styled_read}
@@ -18,7 +19,8 @@ use Rattle.uefi_node_reader.specs.declared.faults.Stop.{Stop}
 use Rattle.uefi_node_reader.specs.declared.styles.TextStyle.{TextStyle}
 use Rattle.uefi_node_reader.specs.declared.styles.TextStyle.TheVariants.{Printed, Lenient, Libefivar}
 use Rattle.uefi_node_reader.proofs.FaultPlaces.{Within, end_within, fault_within, or_within, place_within}
-use Rattle.uefi_node_reader.proofs.LenientLaws.{WellRead, call_starts, cut_end, ends, ends_at, lenient_again, lenient_well, spaced_rest, strict_well, told_as, with_rest}
+use Rattle.uefi_node_reader.proofs.LenientLaws.{WellRead, call_starts, cut_end, ends, ends_at, lenient_again, lenient_well, spaced_rest, strict_well, with_rest}
+use Rattle.uefi_node_reader.proofs.ToldForms.{told_as}
 use Rattle.uefi_node_reader.proofs.Spaces.{past_spaces-after}
 use Rattle.uefi_node_reader.proofs.Literals.{bind_some, ok_some}
 use Rattle.uefi_node_reader.specs.OtherForms.{own_forms}

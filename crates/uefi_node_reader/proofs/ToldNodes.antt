@@ -1,5 +1,5 @@
 -- A node whose text holds all of it, by what was read, is told by the table.
-use Rattle.std.proofs.Common.{◌≡◌, ℕ, ◌+◌, ◌-◌, ◌^◌, ◌≤◌, Bool, true, false, eqb, leb, ◌&&◌, List, ◌++◌, length, take, drop, refl, sym, ap, subst, ◌∙◌, arith}
+use Rattle.std.proofs.Common.{◌≡◌, ℕ, ◌+◌, ◌-◌, ◌^◌, ◌≤◌, Bool, true, false, eqb, leb, ◌&&◌, List, [], ◌∷◌, ◌++◌, length, take, drop, refl, sym, ap, subst, ◌∙◌, arith}
 use Rattle.std.specs.Prelude.{Option, Some, None}
 use Rattle.std.specs.Cmp.Lexicographic.{same_text}
 use Rattle.std.proofs.lemmas.Bool.{and_parts, le-leb}
@@ -19,10 +19,11 @@ use Rattle.uefi_node_table.specs.declared.rows.Tail.{Tail}
 use Rattle.uefi_node_table.specs.declared.rows.Tail.TheVariants.{Nothing, Bytes, Text, Utf16, Name, Padded, Ids, Repeated}
 use Rattle.uefi_node_table.proofs.Forms.{found, long_enough}
 use Rattle.uefi_device_nodes.specs.Nodes.{Node, node_with}
+use Rattle.uefi_text.specs.UnitBytes.{unit_bytes}
 use Rattle.uefi_node_reader.specs.Counted.{pushed_bytes}
-use Rattle.uefi_node_reader.specs.FieldReading.{field_kept}
-use Rattle.uefi_node_reader.specs.TableReading.{AreItems, IsTabled, IsTailTold, blank, is_filled, is_read, is_sound, overlay, prints, put_at}
-use Rattle.uefi_node_reader.specs.CompleteTexts.{are_items, tells, tells_data, tells_fixed, tells_tail}
+use Rattle.uefi_node_reader.specs.FieldReading.{field_kept, is_clear}
+use Rattle.uefi_node_reader.specs.TableReading.{AreItems, IsTabled, IsTailTold, as_ids, blank, first_of, is_filled, is_read, is_sound, overlay, padded, prints, put_at}
+use Rattle.uefi_node_reader.specs.CompleteTexts.{are_items, are_texts, tells, tells_data, tells_fixed, tells_tail}
 use Rattle.uefi_node_reader.proofs.CountedBytes.{pushed_is}
 use Rattle.uefi_node_reader.proofs.Groups.{table_filled, table_sound}
 use Rattle.uefi_node_reader.proofs.Heads.{form_same}
@@ -37,8 +38,33 @@ same_items Ipv4 (Repeated Ipv4) close bytes e told = told
 same_items Ipv6 (Repeated Ipv6) close bytes e told = told
 same_items items tail close bytes e told = cc
 
+-- texts of one kind, with ends that begin alike
+same_texts : (one other : Tail) (close end bytes : List ℕ) → are_texts one other ≡ true → first_of end ≡ first_of close
+    → IsTailTold other end bytes → IsTailTold one close bytes
+same_texts Text Text close end bytes e first told =
+    subst (λ (stop : ℕ). list_all (is_clear stop) bytes ≡ true) first told
+same_texts Utf16 Utf16 close end bytes e first told = subst (λ (stop : ℕ). (text : List ℕ)
+    × ((bytes ≡ unit_bytes text) × (list_all (is_clear stop) text ≡ true))) first told
+same_texts Name Name close end bytes e first told = subst (λ (stop : ℕ). (name : List ℕ)
+    × ((bytes ≡ name ++ 0 ∷ []) × (list_all (is_clear stop) name ≡ true))) first told
+same_texts Padded Padded close end bytes e first told = subst (λ (stop : ℕ). (text : List ℕ) × (bytes ≡ padded text)
+    × (leb (length text) 32 ≡ true) × (list_all (is_clear stop) text ≡ true)) first told
+same_texts Ids Ids close end bytes e first told = subst (λ (stop : ℕ). (hid cid uid : List ℕ) × (bytes ≡ as_ids hid cid uid)
+    × (list_all (is_clear 44) hid ≡ true) × (list_all (is_clear 44) cid ≡ true)
+    × (list_all (is_clear stop) uid ≡ true)) first told
+same_texts one other close end bytes e first told = cc
+
+text_told : (read : Form) (content : List ℕ) → SetIn read content → (least : ℕ) (tail : Tail) (close : List ℕ)
+    → are_texts tail read.tail && (eqb read.least least && eqb (first_of read.close) (first_of close)) ≡ true
+    → IsTailTold tail close (drop least content)
+text_told read content is least tail close e =
+    let parts = and_parts (are_texts tail read.tail) _ e in
+    let ends = and_parts (eqb read.least least) (eqb (first_of read.close) (first_of close)) parts.1 in
+    same_texts tail read.tail close read.close (drop least content) parts.0 (eqb-true _ _ ends.1)
+    (subst (λ (n : ℕ). IsTailTold read.tail read.close (drop n content)) (eqb-true read.least least ends.0) is.tail)
+
 tail_told : (read : Form) (content : List ℕ) → SetIn read content → (least : ℕ) (tail : Tail) (close : List ℕ)
-    → tells_tail read least tail (length content) ≡ true → IsTailTold tail close (drop least content)
+    → tells_tail read least tail close (length content) ≡ true → IsTailTold tail close (drop least content)
 tail_told read content is least Nothing close e =
     drop_all least content (omega (arith, eqb-true (length content) least e))
 tail_told read content is least Bytes close e = tt
@@ -46,11 +72,11 @@ tail_told read content is least (Repeated items) close e =
     let parts = and_parts (are_items items read.tail) (eqb read.least least) e in
     same_items items read.tail read.close (drop least content) parts.0
     (subst (λ (n : ℕ). IsTailTold read.tail read.close (drop n content)) (eqb-true read.least least parts.1) is.tail)
-tail_told read content is least Text close e = cc
-tail_told read content is least Utf16 close e = cc
-tail_told read content is least Name close e = cc
-tail_told read content is least Padded close e = cc
-tail_told read content is least Ids close e = cc
+tail_told read content is least Text close e = text_told read content is least Text close e
+tail_told read content is least Utf16 close e = text_told read content is least Utf16 close e
+tail_told read content is least Name close e = text_told read content is least Name close e
+tail_told read content is least Padded close e = text_told read content is least Padded close e
+tail_told read content is least Ids close e = text_told read content is least Ids close e
 
 -- what passes the test is told
 pub tells_told : (read : Form) (node : Node) → SetIn read node.content → tells read node ≡ true → IsTabled forms node
@@ -66,8 +92,8 @@ tells_told read node is e =
         → tells_data read node.content o ≡ true → IsTabled forms node
     by None f l t = cc
     by (Some form) f l t =
-        let first = and_parts (is_read form.mode) (tells_fixed form (take form.least node.content) && tells_tail read form.least form.tail (length node.content)) t in
-        let second = and_parts (tells_fixed form (take form.least node.content)) (tells_tail read form.least form.tail (length node.content)) first.1 in
+        let first = and_parts (is_read form.mode) (tells_fixed form (take form.least node.content) && tells_tail read form.least form.tail form.close (length node.content)) t in
+        let second = and_parts (tells_fixed form (take form.least node.content)) (tells_tail read form.least form.tail form.close (length node.content)) first.1 in
         let test = found (prints node) is_sound forms form f table_sound in
         let s = sound form first.0 test.0 in
         let long = long_enough false node.device_type node.sub_type node.content form test.1 in
@@ -144,7 +170,7 @@ pub tells_other : (read : Form) (node : Node) (form : Form) → find_form (print
     → (form.mode ≡ Read → ⊥) → false ≡ tells read node
 unfolding tells
 tells_other read node form e other =
-    let rest : Bool = tells_fixed form (take form.least node.content) && tells_tail read form.least form.tail (length node.content) in
+    let rest : Bool = tells_fixed form (take form.least node.content) && tells_tail read form.least form.tail form.close (length node.content) in
     no (leb (length node.content) 0xfffb)
     ∙ ap (λ (t : Bool). leb (length node.content) 0xfffb && (t && rest)) (sym (not_read form.mode other))
     ∙ ap (λ (o : Option Form). leb (length node.content) 0xfffb && tells_data read node.content o) (sym e)
@@ -153,7 +179,7 @@ tells_other read node form e other =
 pub tells_is : (read : Form) (node : Node) (form : Form) → ShownIn node form → form.mode ≡ Read
     → length node.content ≤ 0xfffb → (fixed tail : Bool)
     → fixed ≡ tells_fixed form (take form.least (take 64 node.content))
-    → tail ≡ tells_tail read form.least form.tail (length node.content) → fixed && tail ≡ tells read node
+    → tail ≡ tells_tail read form.least form.tail form.close (length node.content) → fixed && tail ≡ tells read node
 unfolding tells
 tells_is read node form shown is fits fixed tail f t =
     (λ i. sym (le-leb (length node.content) 0xfffb fits) i && (sym (ap is_read is) i

@@ -1,17 +1,20 @@
 -- Texts that are read alike.
-use Rattle.std.specs.Prelude.{◌≡◌, ◌≤◌, ℕ, Bool, true, false, List, ◌∷◌, ◌++◌, codes, Some, None}
+use Rattle.std.specs.Prelude.{◌≡◌, ◌≤◌, ℕ, Bool, true, false, List, ◌∷◌, ◌++◌, codes, Some, None, Err}
 use Rattle.std.specs.Result.{result_ok}
 use Rattle.uefi_node_reader.specs.LenientFields.{after_literal, any_number, begins_base}
-use Rattle.uefi_node_reader.specs.LenientNodes.{begins_call, cut_call, ended_spaced, lenient_read, tidied}
+use Rattle.uefi_node_reader.specs.LenientCalls.{cut_call, tidied}
+use Rattle.uefi_node_reader.specs.LenientNodes.{begins_call, ended_spaced, lenient_read}
 use Rattle.uefi_node_reader.specs.NamedFiles.{node_read}
 use Rattle.uefi_node_reader.specs.Numerals.{has_digit}
+use Rattle.uefi_node_reader.specs.TextCalls.{texts_tried}
 
 -- a text begins with a call, of which this stands before its `)` and this after it: one that names no
--- file, and is not read exactly
+-- file and no form that holds a text, and is not read exactly
 pub record IsOtherCall (text front rest : List ℕ) : Type 0 where
   pub begins : begins_call text ≡ true
   pub cut : cut_call text ≡ Some (front, rest)
   pub no_file : result_ok (after_literal (codes "File(") text) ≡ None
+  pub textless : texts_tried front (tidied front) ≡ Err None
   pub inexact : ended_spaced (node_read text) ≡ None
 
 -- two such calls that differ in case and in blanks alone are read as the same

@@ -1,13 +1,37 @@
 -- What is printed of what a text should hold. Numbers are in hexadecimal, and counts of digits in decimal.
-use Rattle.std.specs.Prelude.{ℕ, List, ◌++◌, codes, encode_utf8}
+use Rattle.std.specs.Prelude.{ℕ, List, [], ◌++◌, codes, encode_utf8}
 use Rattle.std.specs.Fmt.{decimal}
+use Rattle.std.specs.Option.{unwrap_or}
 use Rattle.uefi_field_texts.specs.FieldTexts.{hex}
+use Rattle.uefi_node_table.specs.Table.{forms}
+use Rattle.uefi_node_reader.specs.NearNames.{start_at}
+use Rattle.uefi_node_reader.specs.declared.faults.Choice.{Choice}
+use Rattle.uefi_node_reader.specs.declared.faults.Choice.TheVariants as choice
 use Rattle.uefi_node_reader.specs.declared.faults.Expected.{Expected}
 use Rattle.uefi_node_reader.specs.declared.faults.Expected.TheVariants as expected
+
+-- the words of which one has to stand in a field
+abbrev pub choice_text : Choice → List ℕ
+choice_text choice.AtaChannel = codes "`Primary` or `Secondary`"
+choice_text choice.AtaDrive = codes "`Master` or `Slave`"
+choice_text choice.PartitionFormat = codes "`GPT`, `MBR` or a number"
+choice_text choice.SasProtocol = codes "`SAS`, `SATA`, `NoTopology` or a number"
+choice_text choice.SasLocation = codes "`Internal` or `External`"
+choice_text choice.SasConnection = codes "`Direct` or `Expanded`"
+choice_text choice.IpProtocol = codes "`TCP`, `UDP` or a number"
+choice_text choice.Ipv4Origin = codes "`DHCP` or `Static`"
+choice_text choice.Ipv6Origin = codes "`Static`, `StatelessAutoConfigure` or `StatefulAutoConfigure`"
+choice_text choice.BootDevice = codes "`Floppy`, `HD`, `CDROM`, `PCMCIA`, `USB`, `Network` or a number"
+choice_text choice.FlowControl = codes "`None`, `Hardware` or `XonXoff`"
+choice_text choice.Digest = codes "`None` or `CRC32C`"
+choice_text choice.Login = codes "`None`, `CHAP_BI` or `CHAP_UNI`"
+choice_text choice.IscsiProtocol = codes "`TCP`"
 
 -- what has to stand at a byte of a text
 abbrev pub expected_text : Expected → List ℕ
 expected_text expected.Node = codes "the name of a node"
+expected_text (expected.NodeLike place) =
+    codes "the name of a node, such as `" ++ (unwrap_or (start_at forms place) [] ++ codes "`")
 expected_text (expected.Number most) = codes "a number up to 0x" ++ hex most
 expected_text (expected.NumberOrDefault most) = codes "DEFAULT or a number up to 0x" ++ hex most
 expected_text (expected.NumberFromOne most) = codes "a number from 1 to 0x" ++ hex most
@@ -18,6 +42,8 @@ expected_text expected.Parity = codes "a parity (D, N, E, O, M, S or x) and `,`"
 expected_text expected.StopBits = codes "stop bits (D, 1, 1.5, 2 or x) and `)`"
 expected_text (expected.Byte byte) = codes "`" ++ encode_utf8 byte ++ codes "`"
 expected_text expected.FileName = codes "the name of a file"
+expected_text (expected.Word words) = choice_text words
+expected_text expected.Id = codes "an ID such as `PNP0A03`, or `0`"
 expected_text expected.End = codes "`/`, `,` or the end of the text"
 expected_text expected.AsPrinted = codes "the exact printed form"
 expected_text expected.Base = codes "a number after `0x`"

@@ -9,7 +9,7 @@ use Rattle.uefi_node_table.specs.Words.{words_of}
 use Rattle.uefi_node_table.specs.declared.words.Words.TheVariants as lists
 use Rattle.uefi_device_nodes.specs.Nodes.{Node}
 use Rattle.uefi_node_reader.specs.Ambiguous.{ambiguous_stop}
-use Rattle.uefi_node_reader.specs.LenientNodes.{call_told, tidied_byte}
+use Rattle.uefi_node_reader.specs.LenientCalls.{call_told, tidied_byte}
 use Rattle.uefi_node_reader.specs.Numerals.{has_digit}
 use Rattle.uefi_node_reader.specs.Stops.{stop_at}
 use Rattle.uefi_node_reader.specs.TableReading.{first_of}

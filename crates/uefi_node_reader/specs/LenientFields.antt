@@ -115,7 +115,7 @@ expected_field Back width = expected.Digits (width * 2)
 expected_field Forth width = expected.Digits (width * 2)
 expected_field Dashed width = expected.DashedDigits (width * 2)
 expected_field Next width = expected.NumberFromOne 256
-expected_field Eisa width = expected.AsPrinted
+expected_field Eisa width = expected.Id
 expected_field (Word list) width = expected_word list
 
 -- the data of a node of a kind with the field that a text begins with, and what stands after it, or where it

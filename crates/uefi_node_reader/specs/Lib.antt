@@ -1,6 +1,7 @@
 pub mod Numerals
 pub mod FieldReading
 pub mod TableReading
+pub mod FirstLetters
 pub mod WordReading
 pub mod PlainNodes
 pub mod NamedFiles
@@ -9,13 +10,18 @@ pub mod Stops
 pub mod LenientFields
 pub mod CompleteTexts
 pub mod OtherForms
+pub mod ShortAddresses
 pub mod Ambiguous
+pub mod LenientCalls
+pub mod TextCalls
+pub mod NearNames
+pub mod FaultTexts
+pub mod Mistakes
 pub mod LenientNodes
 pub mod Alike
 pub mod Helps
 pub mod Libefivar
 pub mod Styles
-pub mod FaultTexts
 pub mod Counted
 pub mod ParsedNodes
 pub mod ParsedNodeViews

@@ -6,7 +6,8 @@ use Rattle.uefi_device_nodes.specs.Nodes.{Node}
 use Rattle.uefi_node_table.specs.Rows.{Form}
 use Rattle.uefi_node_reader.specs.Ambiguous.{begins_with}
 use Rattle.uefi_node_reader.specs.FieldReading.{◌>>=◌}
-use Rattle.uefi_node_reader.specs.LenientNodes.{begins_call, cut_call, ended_at, fault_at_byte, lenient_read, place_at, tidied, told_in}
+use Rattle.uefi_node_reader.specs.LenientCalls.{cut_call, place_at, tidied, told_in}
+use Rattle.uefi_node_reader.specs.LenientNodes.{begins_call, ended_at, fault_at_byte, lenient_read}
 use Rattle.uefi_node_reader.specs.OtherForms.{own_forms}
 use Rattle.uefi_node_reader.specs.Stops.{stop_at}
 use Rattle.uefi_node_reader.specs.TableReading.{form_read}

@@ -2,15 +2,16 @@
 #![tactic(auto)]
 
 ghost use Rattle.std.specs.List.{list_all};
-ghost use Rattle.std.specs.Prelude.{◌≡◌, IsTrue, length, map};
+ghost use Rattle.std.specs.Prelude.{◌≡◌, ◌==◌, ◌&&◌, IsTrue, length, map};
 ghost use Rattle.uefi_node_table.specs.Rows.{as_form, as_piece, is_within, value_at};
 ghost use Rattle.uefi_node_table.specs.Words.{as_word};
 ghost use Rattle.uefi_node_reader.specs.FieldReading.{field_kept};
-ghost use Rattle.uefi_node_reader.specs.TableReading.{is_filled, is_read, is_sound, overlay, put_at};
-ghost use Rattle.uefi_node_reader.specs.CompleteTexts.{are_items, tells, tells_fixed, tells_tail};
+ghost use Rattle.uefi_node_reader.specs.TableReading.{first_of, is_filled, is_read, is_sound, overlay, put_at};
+ghost use Rattle.uefi_node_reader.specs.CompleteTexts.{are_items, are_texts, tells, tells_fixed, tells_tail};
 ghost use Rattle.uefi_node_reader.specs.ParsedNodeViews.{parsed_node};
 ghost use Rattle.uefi_node_reader.specs.WordReading.{word_number};
 
+use crate::clear_texts::first_of;
 use crate::counted_bytes::push_all;
 use crate::fields::put_low;
 use crate::parsed_node::ParsedNode;
@@ -96,16 +97,38 @@ fn are_items(items: Items, tail: Tail) -> bool
     }
 }
 
+/// Whether data after the fields are texts of one kind.
+fn are_texts(one: Tail, other: Tail) -> bool
+    ensures { result ≡ are_texts one other }
+{
+    match (one, other) {
+        (Tail::Text, Tail::Text) => true,
+        (Tail::Utf16, Tail::Utf16) => true,
+        (Tail::Name, Tail::Name) => true,
+        (Tail::Padded, Tail::Padded) => true,
+        (Tail::Ids, Tail::Ids) => true,
+        _ => false,
+    }
+}
+
+/// Whether two forms have fixed parts of one length, and ends that begin alike.
+fn end_alike(read: &Row, row: &Row) -> bool
+    ensures { result ≡ ((read.now.least == row.now.least)
+        && (first_of (as_form read.now).close == first_of (as_form row.now).close)) }
+{
+    read.least == row.least && first_of(read.close.as_bytes()) == first_of(row.close.as_bytes())
+}
+
 /// Whether the tail of a form tells all data after its fixed part, of `len` bytes in all that were read in
 /// the form `read`.
 fn tells_tail(read: &Row, row: &Row, len: usize) -> bool
-    ensures { result ≡ tells_tail (as_form read.now) row.now.least row.now.tail len }
+    ensures { result ≡ tells_tail (as_form read.now) row.now.least row.now.tail (as_form row.now).close len }
 {
     match row.tail {
         Tail::Nothing => len == row.least as usize,
         Tail::Bytes => true,
         Tail::Repeated(items) => are_items(items, read.tail) && read.least == row.least,
-        _ => false,
+        tail => are_texts(tail, read.tail) && end_alike(read, row),
     }
 }
 

@@ -9,4 +9,6 @@ pub(crate) enum DataForm {
     InTail(Tail),
     /// As a name of a file.
     InName,
+    /// As the second of three strings of IDs, of which the others are empty.
+    InUid,
 }

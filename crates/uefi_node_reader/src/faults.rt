@@ -1,19 +1,83 @@
 //! Why no node is read from a text.
 #![tactic(auto, using(uefi_text::proofs::Puts::puts))]
 
-ghost use Rattle.uefi_node_reader.specs.FaultTexts.{expected_text};
+ghost use Rattle.uefi_node_reader.specs.FaultTexts.{choice_text, expected_text};
 ghost use Rattle.std.specs.Prelude.{Some};
 
+use crate::form_places::start_at;
 use std::fmt;
 use uefi_field_texts::hexadecimal::put_hex;
 use uefi_text::number_texts::put_decimal;
 use uefi_text::text_sink::{Printed, TextSink, print};
+
+/// The words of which one has to stand in a field.
+#[derive(Clone, Copy, Debug, PartialEq, Eq)]
+pub enum Choice {
+    /// The channel of an ATA device.
+    AtaChannel,
+    /// The place of an ATA device on its channel.
+    AtaDrive,
+    /// The format of a partition table.
+    PartitionFormat,
+    /// The protocol of a SAS device.
+    SasProtocol,
+    /// Where a SAS device is.
+    SasLocation,
+    /// How a SAS device is connected.
+    SasConnection,
+    /// The protocol of an IP connection.
+    IpProtocol,
+    /// Where an address of IP version 4 comes from.
+    Ipv4Origin,
+    /// Where an address of IP version 6 comes from.
+    Ipv6Origin,
+    /// The type of a device that a BIOS boots.
+    BootDevice,
+    /// The flow control of a serial port.
+    FlowControl,
+    /// The digest of an iSCSI connection.
+    Digest,
+    /// The login of an iSCSI connection.
+    Login,
+    /// The protocol of an iSCSI connection.
+    IscsiProtocol,
+}
+
+/// Puts the words.
+impl Printed for Choice {
+    ghost printed = { choice_text };
+
+    fn put<S: TextSink>(&self, sink: &mut S) {
+        match self {
+            Self::AtaChannel => sink.put_str("`Primary` or `Secondary`"),
+            Self::AtaDrive => sink.put_str("`Master` or `Slave`"),
+            Self::PartitionFormat => sink.put_str("`GPT`, `MBR` or a number"),
+            Self::SasProtocol => sink.put_str("`SAS`, `SATA`, `NoTopology` or a number"),
+            Self::SasLocation => sink.put_str("`Internal` or `External`"),
+            Self::SasConnection => sink.put_str("`Direct` or `Expanded`"),
+            Self::IpProtocol => sink.put_str("`TCP`, `UDP` or a number"),
+            Self::Ipv4Origin => sink.put_str("`DHCP` or `Static`"),
+            Self::Ipv6Origin => sink.put_str(
+                "`Static`, `StatelessAutoConfigure` or `StatefulAutoConfigure`",
+            ),
+            Self::BootDevice => sink.put_str(
+                "`Floppy`, `HD`, `CDROM`, `PCMCIA`, `USB`, `Network` or a number",
+            ),
+            Self::FlowControl => sink.put_str("`None`, `Hardware` or `XonXoff`"),
+            Self::Digest => sink.put_str("`None` or `CRC32C`"),
+            Self::Login => sink.put_str("`None`, `CHAP_BI` or `CHAP_UNI`"),
+            Self::IscsiProtocol => sink.put_str("`TCP`"),
+        }
+    }
+}
 
 /// What has to stand at a byte of a text that is not read.
 #[derive(Clone, Copy, Debug, PartialEq, Eq)]
 pub enum Expected {
     /// The name of a node, such as `Pci(`.
     Node,
+    /// The name of a node, such as that of the form at this place of the table, which differs in one letter.
+    NodeLike(usize),
     /// A number, up to this one: in decimal, or in hexadecimal after `0x`.
     Number(u64),
     /// The same, or the word `DEFAULT`.
@@ -32,6 +96,10 @@ pub enum Expected {
     Byte(u8),
     /// The name of a file.
     FileName,
+    /// One of these words.
+    Word(Choice),
+    /// The ID of a device in EISA's form, or 0.
+    Id,
     /// The end of the node: a slash, a comma or the end of the text.
     End,
     /// The text of this node, or of what is left of it, exactly as it is printed.
@@ -50,6 +118,11 @@ impl Printed for Expected {
     fn put<S: TextSink>(&self, sink: &mut S) {
         match self {
             Self::Node => sink.put_str("the name of a node"),
+            Self::NodeLike(place) => {
+                sink.put_str("the name of a node, such as `");
+                sink.put_str(start_at(*place).unwrap_or(""));
+                sink.put_str("`");
+            }
             Self::Number(most) => put_hex(sink, "a number up to 0x", *most),
             Self::NumberOrDefault(most) => {
                 put_hex(sink, "DEFAULT or a number up to 0x", *most);
@@ -71,6 +144,8 @@ impl Printed for Expected {
                 sink.put_str("`");
             }
             Self::FileName => sink.put_str("the name of a file"),
+            Self::Word(choice) => choice.put(sink),
+            Self::Id => sink.put_str("an ID such as `PNP0A03`, or `0`"),
             Self::End => sink.put_str("`/`, `,` or the end of the text"),
             Self::AsPrinted => sink.put_str("the exact printed form"),
             Self::Base => sink.put_str("a number after `0x`"),

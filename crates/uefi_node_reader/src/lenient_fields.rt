@@ -225,7 +225,7 @@ pub(crate) fn left_out(kind: u8, sub_kind: u8, place: usize) -> u8
 }
 
 /// What stands after the ending of a field: a comma, and its `0x`, may be left out before `)`.
-fn after_ending<'a>(ending: &[u8], text: &'a [u8]) -> Result<&'a [u8], Stop>
+pub(crate) fn after_ending<'a>(ending: &[u8], text: &'a [u8]) -> Result<&'a [u8], Stop>
     ensures { result_map_both (λ x. x.now) (λ e. e) result ≡ after_ending ending.now text.now }
 {
     if first_of(text) == b')' && after_literal(ending, b",").is_ok() {
@@ -259,7 +259,7 @@ fn expected_field(shape: Shape, width: usize) -> Expected
         Shape::Forth => Expected::Digits(width * 2),
         Shape::Dashed => Expected::DashedDigits(width * 2),
         Shape::Next => Expected::NumberFromOne(256),
-        Shape::Eisa => Expected::AsPrinted,
+        Shape::Eisa => Expected::Id,
         Shape::Word(words) => expected_word(words),
     }
 }

@@ -4,16 +4,17 @@
 ghost use Rattle.std.specs.Option.{option_map};
 ghost use Rattle.std.specs.Prelude.{◌≡◌, ◌<◌, ◌≤◌, IfSome, length, take};
 ghost use Rattle.std.specs.Result.{result_map_both};
-ghost use Rattle.uefi_node_reader.specs.LenientNodes.{bare_read, begins_call, closes_node, cut_file, file_in, name_end, is_bare, rooted, whole};
+ghost use Rattle.uefi_node_reader.specs.LenientCalls.{whole};
+ghost use Rattle.uefi_node_reader.specs.LenientNodes.{bare_read, begins_call, closes_node, cut_file, file_in, name_end, is_bare, rooted};
 ghost use Rattle.uefi_node_reader.specs.NamedFiles.{name_read};
 ghost use Rattle.uefi_node_reader.specs.ParsedNodeViews.{parsed_node};
 
 use crate::clear_texts::first_of;
 use crate::counted_bytes::{push, push_all};
 use crate::faults::{Expected, NodeFault};
-use crate::lenient_table::cut_call;
 use crate::named_files::{is_after_node, name, name_len, past_spaces};
 use crate::parsed_node::ParsedNode;
+use crate::tidied::cut_call;
 
 /// Puts a name into a buffer, with a backslash at its start. Returns how many bytes these are.
 fn put_rooted(scratch: &mut [u8], name: &[u8]) -> usize

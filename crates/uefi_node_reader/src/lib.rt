@@ -4,7 +4,10 @@
 //! (UEFI Specification 2.10, section 10.6.1). Callers use `uefi_device_path`, which reads whole paths.
 #![tactic(auto)]
 
+mod address_texts;
 mod ambiguous;
+mod attempts;
+mod calls;
 mod clear_texts;
 mod complete_texts;
 mod counted_bytes;
@@ -12,12 +15,15 @@ mod data_form;
 #[doc(hidden)]
 pub mod faults;
 mod fields;
+mod form_places;
 mod lenient_fields;
 mod lenient_names;
 mod lenient_table;
 mod libefivar;
+mod mistakes;
 mod name_data;
 mod named_files;
+mod near_names;
 mod node_tails;
 #[doc(hidden)]
 pub mod nodes;
@@ -26,7 +32,10 @@ mod other_forms;
 #[doc(hidden)]
 pub mod parsed_node;
 mod plain_nodes;
+mod short_addresses;
 mod stops;
 #[doc(hidden)]
 pub mod styles;
 mod table_reader;
+mod text_calls;
+mod tidied;

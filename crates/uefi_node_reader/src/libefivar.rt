@@ -18,10 +18,11 @@ use crate::ambiguous::begins_with;
 use crate::faults::{Expected, NodeFault, Stop};
 use crate::fields::after;
 use crate::lenient_names::begins_call;
-use crate::lenient_table::{cut_call, exact_told, place_at, tidy};
+use crate::lenient_table::exact_told;
 use crate::other_forms::own_forms;
 use crate::parsed_node::ParsedNode;
 use crate::stops::stop_at;
+use crate::tidied::{cut_call, place_at, tidy};
 use uefi_node_table::rows::Row;
 
 /// Reads the node of the first of these forms that a tidied text has exactly.

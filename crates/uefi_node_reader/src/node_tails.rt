@@ -9,7 +9,7 @@ ghost use Rattle.std.proofs.Math.ListN.{replicate};
 ghost use Rattle.uefi_node_table.specs.Rows.{as_item, as_piece, is_within};
 ghost use Rattle.uefi_node_reader.specs.Counted.{pushed_bytes, put_on};
 ghost use Rattle.uefi_node_reader.specs.FieldReading.{clear_run, comma_read, run_read};
-ghost use Rattle.uefi_node_reader.specs.TableReading.{as_padded, ids_read, list_read, piece_put, pieces_put, tail_read};
+ghost use Rattle.uefi_node_reader.specs.TableReading.{as_ids, as_padded, ids_read, list_read, piece_put, pieces_put, tail_read};
 
 use crate::clear_texts::{cut_clear, first_of, push_clear, push_clear_name, push_clear_units};
 use crate::counted_bytes::{push, push_all};
@@ -142,6 +142,15 @@ fn push_string(places: &mut [u8], len: usize, string: &[u8]) -> usize
 }
 
 /// Puts the strings of the IDs of a device in the order in which they lie.
+fn push_strings(places: &mut [u8], len: usize, hid: &[u8], cid: &[u8], uid: &[u8]) -> usize
+    ensures { (places.new, result) ≡ pushed_bytes (places.old, len) (as_ids hid.now cid.now uid.now) }
+{
+    let len = push_string(places, len, hid);
+    let len = push_string(places, len, uid);
+    push_string(places, len, cid)
+}
+
+/// The same of strings that a text has.
 fn push_ids<'a>(
     places: &mut [u8],
     len: usize,
@@ -154,9 +163,15 @@ fn push_ids<'a>(
     let (hid, rest) = cut_clear(b',', text);
     let (cid, rest) = cut_clear(b',', after(b",", rest)?);
     let (uid, rest) = cut_clear(stop, after(b",", rest)?);
-    let len = push_string(places, len, hid);
-    let len = push_string(places, len, uid);
-    Some((push_string(places, len, cid), rest))
+    Some((push_strings(places, len, hid, cid, uid), rest))
+}
+
+/// The same of the second alone, which a text begins with.
+pub(crate) fn push_uid(places: &mut [u8], len: usize, stop: u8, text: &[u8]) -> usize
+    ensures { (places.new, result)
+        ≡ pushed_bytes (places.old, len) (as_ids [] [] (clear_run stop text.now).0) }
+{
+    push_strings(places, len, &[], &[], cut_clear(stop, text).0)
 }
 
 /// Puts the data after the fixed part, which a text begins with before `close`, after `len` other bytes, as

@@ -12,11 +12,11 @@ ghost use Rattle.uefi_node_reader.specs.LenientNodes.{end_fault, ended, ended_at
 ghost use Rattle.uefi_node_reader.specs.NamedFiles.{is_after_node, node_read};
 ghost use Rattle.uefi_node_reader.specs.ParsedNodeViews.{parsed_node};
 
+use crate::calls::by_call;
 use crate::clear_texts::first_of;
 use crate::faults::{Expected, NodeFault};
 use crate::lenient_fields::after_literal;
 use crate::lenient_names::{bare, begins_call, file};
-use crate::lenient_table::by_call;
 use crate::named_files::{is_after_node, name, past_spaces};
 use crate::parsed_node::ParsedNode;
 use crate::plain_nodes::plain;
@@ -82,7 +82,7 @@ pub(crate) fn ended_at<'s, 't>(
 }
 
 /// Reads the node whose call a text begins with.
-fn called<'s, 't>(
+fn called<'s, 't: 's>(
     scratch: &'s mut [u8],
     text: &'t [u8],
 ) -> Result<(ParsedNode<'s>, &'t [u8]), NodeFault>
@@ -97,7 +97,7 @@ fn called<'s, 't>(
 }
 
 /// Reads the node whose text a text begins with as people write it, but not as it is printed.
-fn written<'s, 't>(
+fn written<'s, 't: 's>(
     is_rooted: bool,
     scratch: &'s mut [u8],
     text: &'t [u8],
@@ -132,13 +132,15 @@ fn written<'s, 't>(
 /// without its first backslash where it has no `(`, unless names are rooted there. Takes no memory but
 /// the buffer, for a copy of the call or of the name.
 ///
-/// Left to [`read_node`], and so read only as printed, are calls that hold texts (`Uri`, `UsbWwid`, `AcpiEx`,
-/// `iSCSI`, `Wi-Fi`, `BBS`). The numbers of `AcpiAdr` after the first are as printed but for their case.
+/// The text in a call of `Uri`, `UsbWwid`, `AcpiEx`, `iSCSI`, `Wi-Fi` or `BBS` is taken as it stands,
+/// without the blanks before it. The numbers of `AcpiAdr` after the first are as printed but for their
+/// case. An address of IP version 6 may be in any form of RFC 4291 in a call of `IPv6`.
 ///
 /// Returns why no node is read, too: the byte that is wrong, and what has to stand there. Several forms of
 /// nodes may have the name of the call. The one that was read furthest decides, and the first of these if
 /// there are several. The byte is the first that differs from the form's text, or the first of a field that
-/// can't be read. If the text begins with a whole node, it is the first byte after that.
+/// can't be read, or of a field that has to be one of some words. If the text begins with a whole node, it is
+/// the first byte after that. If no form has the name of the call, but one almost has, the fault names it.
 #[tactic(auto, unfolding(crate::specs::LenientNodes::lenient_read))]
 pub fn read_lenient_node<'s, 't: 's>(
     is_rooted: bool,

@@ -8,11 +8,17 @@ ghost use Rattle.uefi_node_reader.specs.OtherForms.{own_forms, pasted_forms};
 use uefi_node_table::packed::{OWN_ROWS, PASTED_ROWS};
 use uefi_node_table::rows::{Mode, PieceOf, Row, RowOf, Shape, Tail, WrittenRow};
 
-/// A form of these: the type, the sub-type, how many bytes the data have, those that are fixed, what
-/// the text begins with, and the fields.
+/// A form of these: the type, the sub-type, how many bytes the data have before a text, those that are fixed,
+/// what the text begins with, and the fields; and the text and the end, if it has one.
 macro_rules! form {
     ($kind:literal $sub_kind:literal $least:literal [$($at:literal = $byte:literal)*] $start:literal
         $([$shape:ident $place:literal $width:literal $ending:literal])*) => {
+        form!($kind $sub_kind $least [$($at = $byte)*] $start
+            $([$shape $place $width $ending])*; Nothing "")
+    };
+    ($kind:literal $sub_kind:literal $least:literal [$($at:literal = $byte:literal)*] $start:literal
+        $([$shape:ident $place:literal $width:literal $ending:literal])*;
+        $tail:ident $close:literal) => {
         RowOf {
             kind: $kind,
             sub_kind: $sub_kind,
@@ -23,8 +29,8 @@ macro_rules! form {
             also: &[$(($at, $byte)),*],
             start: $start,
             pieces: &[$(PieceOf { shape: Shape::$shape, place: $place, width: $width, ending: $ending }),*],
-            tail: Tail::Nothing,
-            close: "",
+            tail: Tail::$tail,
+            close: $close,
             rest: &[],
         }
     };
@@ -52,6 +58,22 @@ const PASTED: &[WrittenRow] = &[
         8 = 0xa0 9 = 0x73 10 = 0xd0 11 = 0x1d 12 = 0xe7 13 = 0x7e 14 = 0x2d 15 = 0x88] "VenUtf8()"),
     form!(3 10 16 [0 = 0xd2 1 = 0xe8 2 = 0xa4 3 = 0xeb 4 = 0x58 5 = 0x38 6 = 0xec 7 = 0x41
         8 = 0xa2 9 = 0x81 10 = 0x26 11 = 0x47 12 = 0xba 13 = 0x96 14 = 0x60 15 = 0xd0] "DebugPort()"),
+    form!(3 10 20 [0 = 0x9d 1 = 0x9a 2 = 0x49 3 = 0x37 4 = 0x2f 5 = 0x54 6 = 0x89 7 = 0x4c
+        8 = 0xa0 9 = 0x26 10 = 0x35 11 = 0xda 12 = 0x14 13 = 0x20 14 = 0x94 15 = 0xe4]
+        "UartFlowControl(None)"),
+    form!(3 10 20 [0 = 0x9d 1 = 0x9a 2 = 0x49 3 = 0x37 4 = 0x2f 5 = 0x54 6 = 0x89 7 = 0x4c
+        8 = 0xa0 9 = 0x26 10 = 0x35 11 = 0xda 12 = 0x14 13 = 0x20 14 = 0x94 15 = 0xe4 16 = 0x01]
+        "UartFlowControl(Hardware)"),
+    form!(3 10 20 [0 = 0x9d 1 = 0x9a 2 = 0x49 3 = 0x37 4 = 0x2f 5 = 0x54 6 = 0x89 7 = 0x4c
+        8 = 0xa0 9 = 0x26 10 = 0x35 11 = 0xda 12 = 0x14 13 = 0x20 14 = 0x94 15 = 0xe4 16 = 0x02]
+        "UartFlowControl(XonXoff)"),
+    form!(3 10 40 [0 = 0xb4 1 = 0xdd 2 = 0x87 3 = 0xd4 4 = 0x8b 5 = 0x00 6 = 0xd9 7 = 0x11
+        8 = 0xaf 9 = 0xdc 10 = 0x00 11 = 0x10 12 = 0x83 13 = 0xff 14 = 0xca 15 = 0x4d]
+        "SAS(0x" [Hexadecimal 20 8 ",0x"] [Hexadecimal 28 8 ",0x"] [Hexadecimal 38 2 ")"]),
+    form!(3 10 40 [0 = 0xb4 1 = 0xdd 2 = 0x87 3 = 0xd4 4 = 0x8b 5 = 0x00 6 = 0xd9 7 = 0x11
+        8 = 0xaf 9 = 0xdc 10 = 0x00 11 = 0x10 12 = 0x83 13 = 0xff 14 = 0xca 15 = 0x4d]
+        "SAS(0x" [Hexadecimal 20 8 ",0x"] [Hexadecimal 28 8 ",0x"] [Hexadecimal 38 2 ",NoTopology)"]),
+    form!(3 22 20 [] "SasEx(0x" [Forth 0 8 ")"]),
     form!(3 1 4 [] "Ata(0x0)"),
     form!(3 1 4 [] "Ata(Primary,Master)"),
     form!(3 1 4 [1 = 0x01] "Ata(Primary,Slave)"),
@@ -62,18 +84,40 @@ const PASTED: &[WrittenRow] = &[
         [Forth 4 1 ":"] [Forth 5 1 ",0x"] [Hexadecimal 32 1 ")"]),
     form!(3 11 33 [] "MAC(" [Forth 0 1 "-"] [Forth 1 1 "-"] [Forth 2 1 "-"] [Forth 3 1 "-"]
         [Forth 4 1 "-"] [Forth 5 1 ",0x"] [Hexadecimal 32 1 ")"]),
+    form!(3 11 33 [] "MAC(" [Forth 0 32 ",0x"] [Hexadecimal 32 1 ")"]),
     form!(3 12 23 [] "IPv4(" [Decimal 4 1 "."] [Decimal 5 1 "."] [Decimal 6 1 "."] [Decimal 7 1 ")"]),
+    form!(3 12 23 [12 = 0x06] "IPv4(" [Decimal 4 1 "."] [Decimal 5 1 "."] [Decimal 6 1 "."]
+        [Decimal 7 1 ",TCP)"]),
+    form!(3 12 23 [12 = 0x06] "IPv4(" [Decimal 4 1 "."] [Decimal 5 1 "."] [Decimal 6 1 "."]
+        [Decimal 7 1 ",TCP,DHCP)"]),
+    form!(3 12 23 [12 = 0x06 14 = 0x01] "IPv4(" [Decimal 4 1 "."] [Decimal 5 1 "."] [Decimal 6 1 "."]
+        [Decimal 7 1 ",TCP,Static)"]),
+    form!(3 12 23 [12 = 0x11] "IPv4(" [Decimal 4 1 "."] [Decimal 5 1 "."] [Decimal 6 1 "."]
+        [Decimal 7 1 ",UDP)"]),
+    form!(3 12 23 [12 = 0x11] "IPv4(" [Decimal 4 1 "."] [Decimal 5 1 "."] [Decimal 6 1 "."]
+        [Decimal 7 1 ",UDP,DHCP)"]),
+    form!(3 12 23 [12 = 0x11 14 = 0x01] "IPv4(" [Decimal 4 1 "."] [Decimal 5 1 "."] [Decimal 6 1 "."]
+        [Decimal 7 1 ",UDP,Static)"]),
+    form!(3 12 23 [] "IPv4(0.0.0.00.0.0.0,0,0)"),
+    form!(3 13 56 [] "IPv6([::]:<->[::]:,0,0)"),
+    form!(3 21 20 [] "FibreEx(0x" [Forth 4 8 ",0x0)"]),
     form!(3 13 56 [38 = 0x02] "IPv6(" [Forth 16 2 ":"] [Forth 18 2 ":"] [Forth 20 2 ":"]
         [Forth 22 2 ":"] [Forth 24 2 ":"] [Forth 26 2 ":"] [Forth 28 2 ":"] [Forth 30 2 ")"]),
     form!(3 23 12 [] "NVMe(0x" [Hexadecimal 0 4 ")"]),
     form!(3 27 6 [] "Bluetooth(" [Forth 0 1 ":"] [Forth 1 1 ":"] [Forth 2 1 ":"] [Forth 3 1 ":"]
         [Forth 4 1 ":"] [Forth 5 1 ")"]),
+    form!(3 27 6 [] "Bluetooth(" [Forth 0 1 "-"] [Forth 1 1 "-"] [Forth 2 1 "-"] [Forth 3 1 "-"]
+        [Forth 4 1 "-"] [Forth 5 1 ")"]),
+    form!(3 30 7 [] "BluetoothLE(" [Forth 0 6 ",0x"] [Hexadecimal 6 1 ")"]),
+    form!(3 30 7 [] "BluetoothLE(" [Forth 0 1 "-"] [Forth 1 1 "-"] [Forth 2 1 "-"] [Forth 3 1 "-"]
+        [Forth 4 1 "-"] [Forth 5 1 ",0x"] [Hexadecimal 6 1 ")"]),
     form!(3 30 7 [] "BluetoothLE(" [Forth 0 1 ":"] [Forth 1 1 ":"] [Forth 2 1 ":"] [Forth 3 1 ":"]
         [Forth 4 1 ":"] [Forth 5 1 ",0x"] [Hexadecimal 6 1 ")"]),
     form!(4 1 38 [36 = 0x01 37 = 0x01] "HD(" [Decimal 0 4 ",MBR,0x"] [Hexadecimal 20 4 ",0x"]
         [Hexadecimal 4 8 ",0x"] [Hexadecimal 12 8 ")"]),
     form!(4 7 16 [] "FvVol(" [Back 0 4 "-"] [Back 4 2 "-"] [Back 6 2 "-"] [Forth 8 2 "-"]
         [Forth 10 6 ")"]),
+    form!(2 2 12 [] "AcpiExp(" [Eisa 0 4 ","] [Eisa 8 4 ","]; Ids ")"),
 ];
 
 /// The forms of [`OWN`].

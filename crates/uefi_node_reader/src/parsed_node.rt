@@ -3,18 +3,20 @@
 
 ghost use Rattle.std.specs.List.{list_all};
 ghost use Rattle.std.specs.Option.{option_and_then, option_map};
-ghost use Rattle.std.specs.Prelude.{◌≡◌, ◌≤◌, IfSome, IsTrue, true, drop, if◌then◌else◌, length, map, nat_le, take, None, Some};
+ghost use Rattle.std.specs.Prelude.{◌≡◌, ◌≤◌, ◌++◌, [], IfSome, IsTrue, true, drop, if◌then◌else◌, length, map, nat_le, take, None, Some};
 ghost use Rattle.std.specs.Str.{chars};
 ghost use Rattle.uefi_device_nodes.specs.Nodes.{node_with};
+ghost use Rattle.uefi_node_reader.specs.FieldReading.{clear_run};
 ghost use Rattle.uefi_node_reader.specs.NamedFiles.{name_data};
 ghost use Rattle.uefi_node_table.specs.Rows.{as_piece, is_within};
-ghost use Rattle.uefi_node_reader.specs.TableReading.{added, followed, pieces_put, tail_read};
+ghost use Rattle.uefi_node_reader.specs.TableReading.{added, as_ids, first_of, followed, pieces_put, tail_read};
 ghost use Rattle.uefi_node_reader.specs.ParsedNodes.{all_data, fitting, is_coded};
 
+use crate::clear_texts::first_of;
 use crate::counted_bytes::push_all;
 use crate::data_form::DataForm;
 use crate::name_data::push_name;
-use crate::node_tails::{push_tail, read_pieces};
+use crate::node_tails::{push_tail, push_uid, read_pieces};
 use uefi_node_table::rows::{Piece, Tail};
 
 /// A node whose text was read. A contract sees it as `parsed_node` of it. Its numbers are small, so that a
@@ -125,6 +127,42 @@ impl<'a> ParsedNode<'a> {
         })
     }
 
+    /// The node with these fixed bytes, and three strings of IDs, of which a text begins with the second
+    /// before `close`, and the others are empty.
+    pub(crate) fn with_uid(
+        device_type: u8,
+        sub_type: u8,
+        fixed_bytes: [u8; 64],
+        fixed: usize,
+        close: &'static str,
+        text: &'a [u8],
+    ) -> Option<Self>
+        requires { fixed ≤ 64 }
+        ensures types { IfSome result (λ x. (x.device_type ≡ device_type) × (x.sub_type ≡ sub_type)) }
+        ensures data { option_map text_node_data result
+            ≡ option_map (λ x. x.0) (fitting (Some (
+              take fixed fixed_bytes
+                  ++ as_ids [] [] (clear_run (first_of close.now) text.now).0,
+              [],
+            ))) }
+    {
+        let mut head = fixed_bytes;
+        let len = push_uid(&mut head, fixed, first_of(close.as_bytes()), text);
+        if 0xfffb < len {
+            return None;
+        }
+        Some(ParsedNode {
+            device_type,
+            sub_type,
+            head,
+            fixed: fixed as u8,
+            data_form: DataForm::InUid,
+            close,
+            text,
+            len: len as u16,
+        })
+    }
+
     /// The type and the sub-type.
     pub fn types(&self) -> (u8, u8)
         ensures device_type { result.0 ≡ (parsed_node self.now).device_type }
@@ -165,6 +203,9 @@ impl<'a> ParsedNode<'a> {
                 if let Ok(name) = str::from_utf8(self.text) {
                     push_name(bytes, len, name);
                 }
+            }
+            DataForm::InUid => {
+                push_uid(bytes, len, first_of(self.close.as_bytes()), self.text);
             }
         }
     }

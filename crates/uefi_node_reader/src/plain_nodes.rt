@@ -7,7 +7,7 @@ ghost use Rattle.std.specs.Result.{result_map_both};
 ghost use Rattle.uefi_device_nodes.specs.Nodes.{node_with};
 ghost use Rattle.uefi_device_nodes.specs.NodeTexts.{is_irregular};
 ghost use Rattle.uefi_node_reader.specs.LenientFields.{any_number};
-ghost use Rattle.uefi_node_reader.specs.LenientNodes.{types_end, types_told};
+ghost use Rattle.uefi_node_reader.specs.LenientCalls.{types_end, types_told};
 ghost use Rattle.uefi_node_reader.specs.Numerals.{number_read};
 ghost use Rattle.uefi_node_reader.specs.PlainNodes.{is_plain, plain_read, plain_rest, types_read};
 ghost use Rattle.uefi_node_reader.specs.Stops.{past, stop_at};

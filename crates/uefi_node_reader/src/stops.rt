@@ -69,7 +69,7 @@ fn close_stop(tail: Tail, close: &[u8], text: &[u8]) -> Stop
 }
 
 /// What stands after the data that follow the fields.
-fn tail_rest<'a>(tail: Tail, close: &[u8], text: &'a [u8]) -> Option<&'a [u8]>
+pub(crate) fn tail_rest<'a>(tail: Tail, close: &[u8], text: &'a [u8]) -> Option<&'a [u8]>
     ensures { option_map (λ x. x.now) result ≡ past (tail_read tail close.now text.now) }
 {
     let (_, rest) = push_tail(tail, close, &mut [], 0, text)?;

@@ -5,19 +5,38 @@ ghost use Rattle.std.specs.List.{list_all};
 ghost use Rattle.std.specs.Option.{option_map};
 ghost use Rattle.std.specs.Prelude.{◌≡◌, None, false, ◌<◌, ◌≤◌, ◌+◌, ◌^◌, IfSome, IsTrue, length, map, take};
 ghost use Rattle.uefi_node_table.specs.Rows.{as_form, as_piece, is_within};
-ghost use Rattle.uefi_node_table.specs.Table.{forms};
+ghost use Rattle.uefi_node_table.specs.Table.{forms, group_forms};
 ghost use Rattle.uefi_device_nodes.specs.Nodes.{node_with};
 ghost use Rattle.uefi_node_reader.specs.TableReading.{are_within, blank, form_place, form_read, forms_read, is_filled, is_sound, kept, prints, put_all, rest_read, table_read};
+ghost use Rattle.uefi_node_reader.specs.FirstLetters.{all_begin_in, begins_in};
 ghost use Rattle.uefi_node_reader.specs.ParsedNodes.{fitting};
 ghost use Rattle.uefi_node_reader.specs.WordReading.{after};
 ghost use Rattle.uefi_node_reader.specs.ParsedNodeViews.{text_node_data, parsed_node};
 
 use crate::fields::after;
+use crate::form_places::{FormTest, form_place};
 use crate::node_tails::read_pieces;
 use crate::parsed_node::ParsedNode;
 use uefi_node_table::printing::matches;
 use uefi_node_table::rows::{Mode, Row};
 use uefi_node_table::table::{GROUPS, group};
+
+/// The letters that the texts of the forms in each group begin with, a bit for each: that of a byte by its
+/// low six bits. Most groups have no form that begins with the first letter of a text.
+const FIRST_LETTERS: [u64; GROUPS] = [
+    0x0041_200c,
+    0x0009_0842,
+    0x0008_0000,
+    0x0008_0000,
+    0x0008_0000,
+    0x0220_00e8_6256,
+    0x0000_0200,
+    0x0000_0200,
+    0x0000_0200,
+    0x0020_0000,
+    0x0045_a148,
+    0x0000_0004,
+];
 
 /// Puts bytes at their places.
 fn put_bytes(content: &mut [u8], bytes: &[(u8, u8)])
@@ -89,32 +108,21 @@ pub(crate) fn read_row<'a>(row: &Row, text: &'a [u8]) -> Option<(ParsedNode<'a>,
     finish_row(row, fixed, rest)
 }
 
-/// Where among forms the first stands that a node is printed in; their number where there is none.
-fn place_in(rows: &[Row], kind: u8, sub_kind: u8, content: &[u8]) -> usize
-    ensures { result ≡ form_place (prints (node_with kind sub_kind content.now)) (map as_form rows.now) }
-{
-    for (place, row) in rows.iter().enumerate() {
-        if matches(row, false, kind, sub_kind, content) {
-            return place;
-        }
-    }
-    rows.len()
+/// A node that is printed.
+#[derive(Clone, Copy)]
+struct PrintedNode<'a> {
+    kind: u8,
+    sub_kind: u8,
+    content: &'a [u8],
 }
 
-/// The same among all forms of the table.
-fn form_place(kind: u8, sub_kind: u8, content: &[u8]) -> usize
-    ensures { result ≡ form_place (prints (node_with kind sub_kind content.now)) forms }
-{
-    let mut before = 0;
-    for index in 0..GROUPS {
-        let rows = group(index);
-        let place = place_in(rows, kind, sub_kind, content);
-        if place < rows.len() {
-            return before + place;
-        }
-        before += rows.len();
+/// The forms that it is printed in.
+impl FormTest for PrintedNode<'_> {
+    ghost test = { λ node. prints (node_with node.kind node.sub_kind node.content.now) };
+
+    fn passes(&self, row: &Row) -> bool {
+        matches(row, false, self.kind, self.sub_kind, self.content)
     }
-    before
 }
 
 /// Whether a text may begin with the start of a form, by the first bytes of both: most forms go no further.
@@ -138,7 +146,12 @@ fn read_kept<'a>(row: &Row, place: usize, text: &'a [u8]) -> Option<(ParsedNode<
         return None;
     }
     let (node, rest) = read_row(row, text)?;
-    if form_place(row.kind, row.sub_kind, node.head()) != place {
+    let printed = PrintedNode {
+        kind: row.kind,
+        sub_kind: row.sub_kind,
+        content: node.head(),
+    };
+    if form_place(&printed) != place {
         return None;
     }
     Some((node, rest))
@@ -160,6 +173,44 @@ fn read_group<'a>(rows: &[Row], before: usize, text: &'a [u8]) -> Option<(Parsed
     None
 }
 
+/// Whether a text begins with one of these letters.
+fn begins_in(letters: u64, text: &[u8]) -> bool
+    ensures { result ≡ begins_in letters text.now }
+{
+    match text {
+        [first, ..] => (letters >> (*first % 64)) % 2 == 1,
+        [] => false,
+    }
+}
+
+/// The letters that the texts of the forms in a group begin with.
+fn first_letters(index: usize) -> u64
+    requires { index < 12 }
+    ensures { IsTrue (all_begin_in result (group_forms index)) }
+{
+    FIRST_LETTERS[index]
+}
+
+/// The same in forms that begin with these letters.
+fn read_letters<'a>(
+    letters: u64,
+    rows: &[Row],
+    before: usize,
+    text: &'a [u8],
+) -> Option<(ParsedNode<'a>, &'a [u8])>
+    requires letters { IsTrue (all_begin_in letters (map as_form rows.now)) }
+    requires sound { IsTrue (list_all is_sound (map as_form rows.now)) }
+    requires filled { IsTrue (list_all is_filled (map as_form rows.now)) }
+    requires few { before + length rows.now < 2 ^ 64 }
+    ensures { option_map (λ x. (parsed_node x.0, x.1.now)) result
+        ≡ forms_read forms before (map as_form rows.now) text.now }
+{
+    if !begins_in(letters, text) {
+        return None;
+    }
+    read_group(rows, before, text)
+}
+
 /// Reads the node that a text begins with, in a form of the table. Returns what stands after it, too.
 pub(crate) fn by_table(text: &[u8]) -> Option<(ParsedNode<'_>, &[u8])>
     ensures { option_map (λ x. (parsed_node x.0, x.1.now)) result ≡ table_read forms text.now }
@@ -167,7 +218,7 @@ pub(crate) fn by_table(text: &[u8]) -> Option<(ParsedNode<'_>, &[u8])>
     let mut before = 0;
     for index in 0..GROUPS {
         let rows = group(index);
-        if let Some(read) = read_group(rows, before, text) {
+        if let Some(read) = read_letters(first_letters(index), rows, before, text) {
             return Some(read);
         }
         before += rows.len();

@@ -64,7 +64,7 @@ macro_rules! words {
 
 /// The texts.
 #[rattlefmt::skip]
-pub const TEXTS: [u8; 2094] = *b"\
+pub const TEXTS: [u8; 2285] = *b"\
     ,0x,.:Pci(0x)PcCard(0xMemoryMapped(0xVenHw(-Ctrl(0xBMC(0xPciRoot(0xPcieRoot(0xFloppy(0xKeyboard(0x\
     Serial(0xParallelPort(0xAcpi(PNPAcpiEx(AcpiAdr(0xAcpi(0xSAS(0x,NoTopology,0,0,0,0x,SAS,Internal,Di\
     rect,0,0x,SATA,Internal,Direct,0,0x,SAS,External,Direct,0,0x,SATA,External,Direct,0,0x,SAS,Interna\
@@ -85,12 +85,14 @@ pub const TEXTS: [u8; 2094] = *b"\
     e(Fv(Offset(0xVirtualDisk(0xVirtualCD(0xPersistentVirtualDisk(0xPersistentVirtualCD(0xRamDisk(0xBB\
     S(Floppy,BBS(HD,BBS(CDROM,BBS(PCMCIA,BBS(USB,BBS(Network,BBS(0xD,N,E,O,M,S,x,D)1)1.5)2)x)CRC32C,CR\
     C32C,CRC32C,None,None,CRC32C,None,None,None,CHAP_UNI,CHAP_BI,TCP)reserved)ATA(NVME(0xVenPcAnsi()Ve\
-    nVt100()VenVt100Plus()VenUtf8()DebugPort()Ata(0x0)Ata(Primary,Master)Ata(Primary,Slave)Ata(Seconda\
-    ry,Master)Ata(Secondary,Slave)FvVol(";
+    nVt100()VenVt100Plus()VenUtf8()DebugPort()UartFlowControl(None)UartFlowControl(Hardware)UartFlowCo\
+    ntrol(XonXoff),NoTopology)Ata(0x0)Ata(Primary,Master)Ata(Primary,Slave)Ata(Secondary,Master)Ata(Se\
+    condary,Slave),TCP),TCP,DHCP),TCP,Static),UDP),UDP,DHCP),UDP,Static)IPv4(0.0.0.00.0.0.0,0,0)IPv6([\
+    ::]:<->[::]:,0,0)FvVol(AcpiExp(";
 
 /// Where each text begins.
 #[rattlefmt::skip]
-pub const TEXT_STARTS: [u16; 176] = [
+pub const TEXT_STARTS: [u16; 189] = [
     0, 0, 3, 4, 5, 6, 12, 13, 22, 37, 43, 44, 51, 57, 67, 78, 87, 98, 107, 122, 130, 137, 147, 154, 160,
     180, 205, 231, 256, 282, 309, 337, 364, 392, 415, 439, 462, 486, 511, 537, 562, 588, 597, 605, 623,
     646, 670, 693, 717, 742, 768, 793, 819, 826, 832, 854, 877, 897, 918, 925, 933, 939, 945, 951, 964,
@@ -100,12 +102,13 @@ pub const TEXT_STARTS: [u16; 176] = [
     1527, 1541, 1567, 1583, 1607, 1618, 1621, 1628, 1633, 1638, 1646, 1655, 1661, 1668, 1671, 1680,
     1694, 1706, 1730, 1752, 1762, 1773, 1780, 1790, 1801, 1809, 1821, 1827, 1829, 1831, 1833, 1835,
     1837, 1839, 1841, 1843, 1845, 1849, 1851, 1853, 1867, 1879, 1891, 1901, 1906, 1915, 1923, 1927,
-    1936, 1940, 1947, 1958, 1968, 1982, 1991, 2002, 2010, 2029, 2047, 2068, 2088, 2094
+    1936, 1940, 1947, 1958, 1968, 1982, 1991, 2002, 2023, 2048, 2072, 2084, 2092, 2111, 2129, 2150,
+    2170, 2175, 2185, 2197, 2202, 2212, 2224, 2248, 2271, 2277, 2285
 ];
 
 /// The fields.
 #[rattlefmt::skip]
-pub const PIECES: [Piece; 860] = pieces!(
+pub const PIECES: [Piece; 909] = pieces!(
     Hexadecimal 0 4 0, Decimal 0 1 3, Decimal 1 1 3, Decimal 2 1 3, Decimal 3 1 0, Forth 0 2 4,
     Forth 2 2 4, Forth 4 2 4, Forth 6 2 4, Forth 8 2 4, Forth 10 2 4, Forth 12 2 4, Forth 14 2 0,
     Hexadecimal 1 1 1, Hexadecimal 0 1 6, Hexadecimal 0 1 6, Hexadecimal 0 4 1, Hexadecimal 4 8 1,
@@ -242,28 +245,37 @@ pub const PIECES: [Piece; 860] = pieces!(
     Decimal 32 2 2, Back 16 4 10, Back 20 2 10, Back 22 2 10, Forth 24 2 10, Forth 26 6 6,
     Hexadecimal 0 2 2, Decimal 0 1 2, Decimal 1 1 2, Decimal 2 2 6, Hexadecimal 0 4 2, Forth 4 1 10,
     Forth 5 1 10, Forth 6 1 10, Forth 7 1 10, Forth 8 1 10, Forth 9 1 10, Forth 10 1 10, Forth 11 1 6,
-    Forth 0 6 1, Hexadecimal 32 1 6, Forth 0 1 4, Forth 1 1 4, Forth 2 1 4, Forth 3 1 4, Forth 4 1 4,
-    Forth 5 1 1, Hexadecimal 32 1 6, Forth 0 1 10, Forth 1 1 10, Forth 2 1 10, Forth 3 1 10,
-    Forth 4 1 10, Forth 5 1 1, Hexadecimal 32 1 6, Forth 0 1 4, Forth 1 1 4, Forth 2 1 4, Forth 3 1 4,
-    Forth 4 1 4, Forth 5 1 6, Forth 0 1 4, Forth 1 1 4, Forth 2 1 4, Forth 3 1 4, Forth 4 1 4,
-    Forth 5 1 1, Hexadecimal 6 1 6, Decimal 0 4 120, Hexadecimal 20 4 1, Hexadecimal 4 8 1,
-    Hexadecimal 12 8 6
+    Hexadecimal 20 8 1, Hexadecimal 28 8 1, Hexadecimal 38 2 6, Hexadecimal 20 8 1, Hexadecimal 28 8 1,
+    Hexadecimal 38 2 172, Forth 0 8 6, Forth 0 6 1, Hexadecimal 32 1 6, Forth 0 1 4, Forth 1 1 4,
+    Forth 2 1 4, Forth 3 1 4, Forth 4 1 4, Forth 5 1 1, Hexadecimal 32 1 6, Forth 0 1 10, Forth 1 1 10,
+    Forth 2 1 10, Forth 3 1 10, Forth 4 1 10, Forth 5 1 1, Hexadecimal 32 1 6, Decimal 4 1 3,
+    Decimal 5 1 3, Decimal 6 1 3, Decimal 7 1 178, Decimal 4 1 3, Decimal 5 1 3, Decimal 6 1 3,
+    Decimal 7 1 179, Decimal 4 1 3, Decimal 5 1 3, Decimal 6 1 3, Decimal 7 1 180, Decimal 4 1 3,
+    Decimal 5 1 3, Decimal 6 1 3, Decimal 7 1 181, Decimal 4 1 3, Decimal 5 1 3, Decimal 6 1 3,
+    Decimal 7 1 182, Decimal 4 1 3, Decimal 5 1 3, Decimal 6 1 3, Decimal 7 1 183, Forth 4 8 69,
+    Forth 0 1 4, Forth 1 1 4, Forth 2 1 4, Forth 3 1 4, Forth 4 1 4, Forth 5 1 6, Forth 0 1 10,
+    Forth 1 1 10, Forth 2 1 10, Forth 3 1 10, Forth 4 1 10, Forth 5 1 6, Forth 0 6 1, Hexadecimal 6 1 6,
+    Forth 0 1 10, Forth 1 1 10, Forth 2 1 10, Forth 3 1 10, Forth 4 1 10, Forth 5 1 1,
+    Hexadecimal 6 1 6, Forth 0 1 4, Forth 1 1 4, Forth 2 1 4, Forth 3 1 4, Forth 4 1 4, Forth 5 1 1,
+    Hexadecimal 6 1 6, Decimal 0 4 120, Hexadecimal 20 4 1, Hexadecimal 4 8 1, Hexadecimal 12 8 6,
+    Eisa 0 4 2, Eisa 8 4 2
 );
 
 /// Where each list of fields begins.
 #[rattlefmt::skip]
-pub const PIECE_STARTS: [u16; 121] = [
+pub const PIECE_STARTS: [u16; 135] = [
     0, 0, 1, 5, 13, 15, 16, 19, 24, 25, 27, 28, 30, 33, 35, 39, 43, 47, 51, 55, 59, 63, 67, 71, 76, 81,
     86, 91, 96, 101, 106, 111, 116, 119, 122, 125, 128, 131, 134, 137, 140, 143, 147, 151, 155, 159,
     163, 167, 171, 175, 179, 180, 182, 184, 185, 187, 196, 197, 198, 200, 204, 207, 211, 219, 222, 223,
     225, 227, 232, 233, 235, 239, 255, 271, 287, 303, 320, 337, 345, 353, 361, 369, 378, 387, 395, 420,
     445, 470, 495, 520, 545, 571, 597, 623, 639, 655, 671, 687, 703, 719, 736, 753, 770, 774, 777, 782,
-    786, 794, 798, 803, 806, 814, 815, 818, 827, 829, 836, 843, 849, 856, 860
+    786, 794, 798, 803, 806, 814, 815, 818, 827, 830, 833, 834, 836, 843, 850, 854, 858, 862, 866, 870,
+    874, 875, 881, 887, 889, 896, 903, 907, 909
 ];
 
 /// The places and the bytes.
 #[rattlefmt::skip]
-pub const BYTES: [(u8, u8); 644] = [
+pub const BYTES: [(u8, u8); 700] = [
     (0, 208), (1, 65), (2, 3), (3, 10), (0, 208), (1, 65), (2, 8), (3, 10), (0, 208), (1, 65), (2, 4),
     (3, 6), (0, 208), (1, 65), (2, 1), (3, 3), (0, 208), (1, 65), (2, 1), (3, 5), (0, 208), (1, 65),
     (2, 1), (3, 4), (0, 208), (1, 65), (0, 180), (1, 221), (2, 135), (3, 212), (4, 139), (5, 0),
@@ -328,17 +340,24 @@ pub const BYTES: [(u8, u8); 644] = [
     (14, 131), (15, 67), (0, 214), (1, 160), (2, 21), (3, 173), (4, 236), (5, 139), (6, 207), (7, 74),
     (8, 160), (9, 115), (10, 208), (11, 29), (12, 231), (13, 126), (14, 45), (15, 136), (0, 210),
     (1, 232), (2, 164), (3, 235), (4, 88), (5, 56), (6, 236), (7, 65), (8, 162), (9, 129), (10, 38),
-    (11, 71), (12, 186), (13, 150), (14, 96), (15, 208), (36, 1), (37, 1)
+    (11, 71), (12, 186), (13, 150), (14, 96), (15, 208), (0, 157), (1, 154), (2, 73), (3, 55), (4, 47),
+    (5, 84), (6, 137), (7, 76), (8, 160), (9, 38), (10, 53), (11, 218), (12, 20), (13, 32), (14, 148),
+    (15, 228), (0, 157), (1, 154), (2, 73), (3, 55), (4, 47), (5, 84), (6, 137), (7, 76), (8, 160),
+    (9, 38), (10, 53), (11, 218), (12, 20), (13, 32), (14, 148), (15, 228), (16, 1), (0, 157), (1, 154),
+    (2, 73), (3, 55), (4, 47), (5, 84), (6, 137), (7, 76), (8, 160), (9, 38), (10, 53), (11, 218),
+    (12, 20), (13, 32), (14, 148), (15, 228), (16, 2), (12, 6), (12, 6), (14, 1), (12, 17), (12, 17),
+    (14, 1), (36, 1), (37, 1)
 ];
 
 /// Where each list of bytes begins.
 #[rattlefmt::skip]
-pub const BYTE_STARTS: [u16; 103] = [
+pub const BYTE_STARTS: [u16; 110] = [
     0, 0, 4, 8, 12, 16, 20, 24, 26, 44, 62, 80, 98, 116, 134, 152, 170, 188, 205, 222, 239, 256, 273,
     290, 307, 324, 340, 342, 344, 346, 348, 350, 352, 354, 356, 358, 359, 360, 361, 362, 363, 364, 365,
     366, 368, 369, 370, 390, 410, 430, 431, 432, 433, 436, 438, 439, 442, 444, 445, 448, 451, 453, 454,
     457, 460, 462, 463, 464, 465, 466, 467, 468, 469, 470, 471, 472, 473, 474, 475, 476, 478, 480, 482,
-    483, 484, 485, 486, 502, 518, 534, 550, 552, 554, 556, 558, 560, 562, 578, 594, 610, 626, 642, 644
+    483, 484, 485, 486, 502, 518, 534, 550, 552, 554, 556, 558, 560, 562, 578, 594, 610, 626, 642, 658,
+    675, 692, 693, 695, 696, 698, 700
 ];
 
 /// The rows of all groups.
@@ -554,19 +573,39 @@ pub const PASTED_ROWS: &[Row] = &rows!(
     3 10 Read 16 0 0 98 166 0 Nothing 0 0,
     3 10 Read 16 0 0 99 167 0 Nothing 0 0,
     3 10 Read 16 0 0 100 168 0 Nothing 0 0,
-    3 1 Read 4 0 0 0 169 0 Nothing 0 0,
-    3 1 Read 4 0 0 0 170 0 Nothing 0 0,
-    3 1 Read 4 0 0 45 171 0 Nothing 0 0,
-    3 1 Read 4 0 0 44 172 0 Nothing 0 0,
-    3 1 Read 4 0 0 43 173 0 Nothing 0 0,
-    3 11 Read 33 0 0 0 68 114 Nothing 0 0,
-    3 11 Read 33 0 0 0 68 115 Nothing 0 0,
-    3 11 Read 33 0 0 0 68 116 Nothing 0 0,
+    3 10 Read 20 0 0 101 169 0 Nothing 0 0,
+    3 10 Read 20 0 0 102 170 0 Nothing 0 0,
+    3 10 Read 20 0 0 103 171 0 Nothing 0 0,
+    3 10 Read 40 0 0 25 23 114 Nothing 0 0,
+    3 10 Read 40 0 0 25 23 115 Nothing 0 0,
+    3 22 Read 20 0 0 0 42 116 Nothing 0 0,
+    3 1 Read 4 0 0 0 173 0 Nothing 0 0,
+    3 1 Read 4 0 0 0 174 0 Nothing 0 0,
+    3 1 Read 4 0 0 45 175 0 Nothing 0 0,
+    3 1 Read 4 0 0 44 176 0 Nothing 0 0,
+    3 1 Read 4 0 0 43 177 0 Nothing 0 0,
+    3 11 Read 33 0 0 0 68 117 Nothing 0 0,
+    3 11 Read 33 0 0 0 68 118 Nothing 0 0,
+    3 11 Read 33 0 0 0 68 119 Nothing 0 0,
+    3 11 Read 33 0 0 0 68 58 Nothing 0 0,
     3 12 Read 23 0 0 0 89 70 Nothing 0 0,
+    3 12 Read 23 0 0 104 89 120 Nothing 0 0,
+    3 12 Read 23 0 0 104 89 121 Nothing 0 0,
+    3 12 Read 23 0 0 105 89 122 Nothing 0 0,
+    3 12 Read 23 0 0 106 89 123 Nothing 0 0,
+    3 12 Read 23 0 0 106 89 124 Nothing 0 0,
+    3 12 Read 23 0 0 107 89 125 Nothing 0 0,
+    3 12 Read 23 0 0 0 184 0 Nothing 0 0,
+    3 13 Read 56 0 0 0 185 0 Nothing 0 0,
+    3 21 Read 20 0 0 0 79 126 Nothing 0 0,
     3 13 Read 56 0 0 61 96 83 Nothing 0 0,
     3 23 Read 12 0 0 0 80 8 Nothing 0 0,
-    3 27 Read 6 0 0 0 86 117 Nothing 0 0,
-    3 30 Read 7 0 0 0 88 118 Nothing 0 0,
-    4 1 Read 38 0 0 101 119 119 Nothing 0 0,
-    4 7 Read 16 0 0 0 174 108 Nothing 0 0
+    3 27 Read 6 0 0 0 86 127 Nothing 0 0,
+    3 27 Read 6 0 0 0 86 128 Nothing 0 0,
+    3 30 Read 7 0 0 0 88 129 Nothing 0 0,
+    3 30 Read 7 0 0 0 88 130 Nothing 0 0,
+    3 30 Read 7 0 0 0 88 131 Nothing 0 0,
+    4 1 Read 38 0 0 108 119 132 Nothing 0 0,
+    4 7 Read 16 0 0 0 186 108 Nothing 0 0,
+    2 2 Read 12 0 0 0 187 133 Ids 6 0
 );

@@ -234,7 +234,8 @@ impl<'a> DevicePathBuilder<'a> {
 
     /// Adds the nodes of a text as people write it, such as `pciroot(0)/pci(31,2)/File(a)`: names and digits in either case,
     /// numbers in decimal or after `0x`, numbers left out at the end of a call, and a file's name in `File(..)` or without its
-    /// first backslash. A comma ends an instance.
+    /// first backslash. A comma ends an instance. Quotation marks around the whole text and one `/` before the first node are
+    /// ignored.
     ///
     /// `scratch` is for copies; its contents are then unspecified. Fails with [`Reason::ScratchTooSmall`] if it is not longer than
     /// the text, and with [`Reason::NoNode`] at the wrong byte of the first node that can't be read.

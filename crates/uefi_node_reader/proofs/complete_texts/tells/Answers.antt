@@ -69,7 +69,7 @@ returns-then-tells_fixed c =
     tells_is read node form shown c.in-Read.is (omega (arith, c.data_len-len.ensures.count, c.data_len-len.ensures.fits)) true c.tells_tail.result
     (sym c.if-tells_fixed.true ∙ c.tells_fixed.ensures
     ∙ ap (λ (l : List ℕ). tells_fixed form (take form.least l)) c.head-head.ensures)
-    (c.tells_tail.ensures ∙ ap (tells_tail read form.least form.tail) c.data_len-len.ensures.count)
+    (c.tells_tail.ensures ∙ ap (tells_tail read form.least form.tail form.close) c.data_len-len.ensures.count)
 
 pub returns-else-tells_fixed : goal.returns-else-tells_fixed
 returns-else-tells_fixed c =
@@ -81,6 +81,6 @@ returns-else-tells_fixed c =
     (rw c.in-Some.is at c.form_of.ensures)) in
     c.if-tells_fixed.false ∙ tells_is read node form shown c.in-Read.is
     (omega (arith, c.data_len-len.ensures.count, c.data_len-len.ensures.fits)) false
-    (tells_tail read form.least form.tail (length node.content))
+    (tells_tail read form.least form.tail form.close (length node.content))
     (sym c.if-tells_fixed.false ∙ c.tells_fixed.ensures
     ∙ ap (λ (l : List ℕ). tells_fixed form (take form.least l)) c.head-head.ensures) refl

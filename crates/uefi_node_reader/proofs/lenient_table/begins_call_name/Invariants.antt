@@ -1,5 +1,5 @@
 use Rattle.std.proofs.Common.{◌≡◌, length}
-use Rattle.uefi_node_reader.specs.LenientNodes.{begins_call_name}
+use Rattle.uefi_node_reader.specs.LenientCalls.{begins_call_name}
 use Rattle.uefi_node_reader.proofs.lenient_table.begins_call_name.Given as goal
 
 abbrev pub invariant-letters : goal.invariant-letters

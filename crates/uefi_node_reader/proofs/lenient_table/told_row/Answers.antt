@@ -3,12 +3,13 @@ use Rattle.std.proofs.lemmas.Grind.{common_steps}
 use Rattle.std.proofs.lemmas.List.{take_at}
 use Rattle.uefi_node_table.specs.Rows.{Form, as_form}
 use Rattle.uefi_node_reader.specs.LenientFields.{after_literal, pieces_set}
-use Rattle.uefi_node_reader.specs.LenientNodes.{told_in}
+use Rattle.uefi_node_reader.specs.LenientCalls.{told_in}
 use Rattle.uefi_node_reader.specs.Stops.{rest_end, stop_of}
 use Rattle.uefi_node_reader.specs.TableReading.{rest_read}
 use Rattle.uefi_node_reader.specs.ParsedNodes.{fitting}
 use Rattle.uefi_node_reader.specs.ParsedNodeViews.{parsed_node}
-use Rattle.uefi_node_reader.proofs.LenientLaws.{told_by, told_in-fitting, untold_by}
+use Rattle.uefi_node_reader.proofs.LenientLaws.{told_by, untold_by}
+use Rattle.uefi_node_reader.proofs.ToldForms.{told_in-fitting}
 use Rattle.uefi_node_reader.proofs.lenient_table.told_row.Goals as goal
 
 pub returns-in-Some : goal.returns-in-Some

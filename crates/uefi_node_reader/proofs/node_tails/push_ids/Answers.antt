@@ -1,21 +1,12 @@
-use Rattle.std.proofs.Common.{◌≡◌, ℕ, ◌++◌, [], ◌∷◌, Bor, List, ap, codes, sym, ◌∙◌}
+use Rattle.std.proofs.Common.{◌≡◌, ℕ, Bor, List, ap, codes, sym, ◌∙◌}
 use Rattle.std.specs.Option.{option_map}
 use Rattle.std.specs.Prelude.{Option, Some, option_and_then}
-use Rattle.uefi_node_reader.specs.Counted.{pushed_bytes, put_on}
+use Rattle.uefi_node_reader.specs.Counted.{put_on}
 use Rattle.uefi_node_reader.specs.FieldReading.{◌>>=◌, clear_run}
 use Rattle.uefi_node_reader.specs.TableReading.{as_ids, ids_read}
 use Rattle.uefi_node_reader.specs.WordReading.{after}
-use Rattle.uefi_node_reader.proofs.CountedBytes.{pushed_bytes-append}
 use Rattle.uefi_node_reader.proofs.Literals.{after_some}
 use Rattle.uefi_node_reader.proofs.node_tails.push_ids.Goals as goal
-
--- three strings, each with its zero
-strings : (state : List ℕ × ℕ) (hid cid uid : List ℕ) → pushed_bytes state (as_ids hid cid uid)
-    ≡ pushed_bytes (pushed_bytes (pushed_bytes (pushed_bytes (pushed_bytes (pushed_bytes state hid) (0 ∷ [])) uid) (0 ∷ [])) cid) (0 ∷ [])
-strings state hid cid uid =
-    let first = pushed_bytes (pushed_bytes state hid) (0 ∷ []) in
-    let second = pushed_bytes (pushed_bytes first uid) (0 ∷ []) in
-    pushed_bytes-append state hid (0 ∷ (uid ++ (0 ∷ (cid ++ (0 ∷ []))))) ∙ pushed_bytes-append first uid (0 ∷ (cid ++ (0 ∷ []))) ∙ pushed_bytes-append second cid (0 ∷ [])
 
 -- the strings that a text has
 read : (stop : ℕ) (text t u hid r cid s uid rest : List ℕ) → (hid, r) ≡ clear_run 44 text → after (codes ",") r ≡ Some t
@@ -39,12 +30,7 @@ returns c =
     let hid : List ℕ = c.cut_clear.result.0.now in
     let cid : List ℕ = c.cut_clear-2.result.0.now in
     let uid : List ℕ = c.cut_clear-3.result.0.now in
-    let out : List ℕ × ℕ = (c.push_string.new.places, c.push_string.result) in
-    let made : out ≡ pushed_bytes state (as_ids hid cid uid) = c.push_string.ensures
-    ∙ ap (λ (s : List ℕ × ℕ). pushed_bytes (pushed_bytes s cid) (0 ∷ [])) c.push_string-len-2.ensures
-    ∙ ap (λ (s : List ℕ × ℕ). pushed_bytes (pushed_bytes (pushed_bytes (pushed_bytes s uid) (0 ∷ [])) cid) (0 ∷ [])) c.push_string-len.ensures
-    ∙ sym (strings state hid cid uid) in
-    ap (λ (s : List ℕ × ℕ). Some (s, c.cut_clear-3.result.1.now)) made
+    ap (λ (s : List ℕ × ℕ). Some (s, c.cut_clear-3.result.1.now)) c.push_strings.ensures
     ∙ ap (λ (o : Option (List ℕ × List ℕ)). option_and_then (put_on state) o)
     (sym (read c.args.stop c.args.text.now c.in_ok-after.field-0.now c.in_ok-after-2.field-0.now hid c.cut_clear.result.1.now cid c.cut_clear-2.result.1.now
     uid c.cut_clear-3.result.1.now c.cut_clear.ensures (rest_of _ c.after.result c.in_ok-after.field-0 c.after.ensures c.in_ok-after.was)

@@ -1,35 +1,23 @@
-use Rattle.std.proofs.Common.{◌≡◌, Bool, refl, cond, true, false, eqb, leb, ◌&&◌, List, ℕ, length, sym, ap, ◌∙◌, arith}
-use Rattle.std.specs.Prelude.{Option, None, Some}
+use Rattle.std.proofs.Common.{◌≡◌, true, false, eqb, leb, ◌&&◌, List, ℕ, length, sym, ap, ◌∙◌, arith}
+use Rattle.std.specs.Prelude.{Option, Some}
 use Rattle.std.proofs.lemmas.Bool.{le-leb}
 use Rattle.std.proofs.lemmas.Bool.Decides.{nat_tests}
 use Rattle.uefi_node_table.specs.Rows.{Form, as_form}
 use Rattle.uefi_node_table.specs.Table.{forms}
 use Rattle.uefi_device_nodes.specs.Nodes.{Node, node_with}
-use Rattle.uefi_node_reader.specs.FieldReading.{◌>>=◌, read_if}
-use Rattle.uefi_node_reader.specs.TableReading.{blank, form_place, form_read, is_read, kept, pieces_put, prints, rest_read}
+use Rattle.uefi_node_reader.specs.FieldReading.{read_if}
+use Rattle.uefi_node_reader.specs.TableReading.{form_place, form_read, kept, prints}
 use Rattle.uefi_node_reader.specs.WordReading.{after}
 use Rattle.uefi_node_reader.specs.ParsedNodeViews.{text_node_data, parsed_node}
+use Rattle.uefi_node_reader.proofs.FirstLetters.{form_unread}
 use Rattle.uefi_node_reader.proofs.Heads.{place_shown}
 use Rattle.uefi_node_reader.proofs.ParsedNodes.{kept-fitting}
 use Rattle.uefi_node_reader.proofs.table_reader.read_kept.Goals as goal
 
--- no node is read of a text that does not begin with the start of the form
-unread : (form : Form) (text : List ℕ) → after form.start text ≡ None → form_read form text ≡ None
-unread form text e =
-    ap (λ (o : Option (List ℕ)). cond (is_read form.mode) (o >>= λ t. pieces_put form.pieces (blank form) t >>= rest_read form) None) e
-    ∙ by (is_read form.mode)
-  where
-    nothing : Option (List ℕ × List ℕ)
-    nothing = None
-
-    by : (b : Bool) → cond b nothing nothing ≡ nothing
-    by true = refl
-    by false = refl
-
 pub returns-then-not-begin_alike : goal.returns-then-not-begin_alike
 returns-then-not-begin_alike c =
     let form : Form = as_form c.args.row.now in
-    ap (λ (o : Option (List ℕ × List ℕ)). kept forms c.args.place form o) (sym (unread form c.args.text.now
+    ap (λ (o : Option (List ℕ × List ℕ)). kept forms c.args.place form o) (sym (form_unread form c.args.text.now
     (ap (λ (l : List ℕ). after l c.args.text.now) (sym c.as_bytes.ensures.value) ∙ c.begin_alike.ensures c.if-not-begin_alike.true)))
 
 pub returns-in_err-node : goal.returns-in_err-node

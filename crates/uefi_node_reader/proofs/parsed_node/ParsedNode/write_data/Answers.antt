@@ -1,10 +1,11 @@
-use Rattle.std.proofs.Common.{◌≡◌, ℕ, true, List, ◌++◌, length, take, sym, ap, ◌∙◌, arith}
+use Rattle.std.proofs.Common.{◌≡◌, ℕ, true, List, [], ◌++◌, length, take, sym, ap, ◌∙◌, arith}
 use Rattle.std.specs.Prelude.{is_some, option_and_then}
 use Rattle.std.specs.Str.{chars}
 use Rattle.std.proofs.lemmas.Str.{IsUtf8-from_is_utf8}
 use Rattle.uefi_node_reader.specs.Counted.{pushed_bytes, put_on}
 use Rattle.uefi_node_reader.specs.NamedFiles.{name_data}
-use Rattle.uefi_node_reader.specs.TableReading.{tail_read}
+use Rattle.uefi_node_reader.specs.FieldReading.{clear_run}
+use Rattle.uefi_node_reader.specs.TableReading.{as_ids, first_of, tail_read}
 use Rattle.uefi_node_reader.specs.ParsedNodes.{read_data, decoded, is_coded}
 use Rattle.uefi_node_reader.specs.ParsedNodeViews.{parsed_node}
 use Rattle.uefi_node_reader.specs.declared.data_form.DataForm.{DataForm}
@@ -38,6 +39,20 @@ returns-in-Ok c =
     ap (λ (s : List ℕ × ℕ). s.0)
     (c.push_name.ensures ∙ (λ i. pushed_bytes (first i) (name_data (chars (c.in-Ok.ensures.cases.0 i)))))
     ∙ whole_written front name c.args.bytes.now (c.requires ∙ ap length all) (omega (arith, c.requires, node.counted, node.fits))
+    ∙ sym all
+
+pub returns-in-InUid : goal.returns-in-InUid
+unfolding parsed_node
+returns-in-InUid c =
+    let node = c.args.self.now in
+    let front : List ℕ = take node.fixed node.head in
+    let uid : ℕ → List ℕ = λ stop. as_ids [] [] (clear_run stop node.text.now).0 in
+    let bytes : List ℕ = uid (first_of node.close.now) in
+    let all : (parsed_node node).content ≡ front ++ bytes = ap (λ (k : DataForm). front ++ decoded k node.close.now node.text.now) c.in-InUid.is in
+    let first = c.push_all-len.ensures ∙ ap (λ (n : ℕ). pushed_bytes (c.args.bytes.now, 0) (take n node.head)) c.from.ensures in
+    let stop = c.first_of.ensures ∙ ap first_of c.as_bytes-in-InUid.ensures.value in
+    ap (λ (s : List ℕ × ℕ). s.0) (c.push_uid.ensures ∙ (λ i. pushed_bytes (first i) (uid (stop i))))
+    ∙ whole_written front bytes c.args.bytes.now (c.requires ∙ ap length all) (omega (arith, c.requires, node.counted, node.fits))
     ∙ sym all
 
 pub returns-in_default : goal.returns-in_default

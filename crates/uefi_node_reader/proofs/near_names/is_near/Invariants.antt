@@ -1,0 +1,9 @@
+use Rattle.std.proofs.Common.{◌≡◌, length}
+use Rattle.uefi_node_reader.specs.NearNames.{is_near}
+use Rattle.uefi_node_reader.proofs.near_names.is_near.Given as goal
+
+abbrev pub invariant-letters : goal.invariant-letters
+invariant-letters l = is_near l.left l.rest ≡ is_near l.start l.text
+
+abbrev pub decreases-letters : goal.decreases-letters
+decreases-letters l = length l.left

@@ -1,0 +1,33 @@
+use Rattle.std.proofs.Common.{◌≡◌, ℕ, Bool, cond, List, [], ◌++◌, length, take, append-nil, ap, ◌∙◌, arith}
+use Rattle.std.specs.Prelude.{Option, Some, None, option_and_then}
+use Rattle.std.proofs.lemmas.Bool.{le-leb}
+use Rattle.std.proofs.lemmas.List.{length-take}
+use Rattle.std.proofs.lemmas.Option.{none-some}
+use Rattle.uefi_device_nodes.specs.Nodes.{node_with}
+use Rattle.uefi_node_reader.specs.ParsedNodes.{fitting}
+use Rattle.uefi_node_reader.specs.ParsedNodeViews.{parsed_node, text_node_data}
+use Rattle.uefi_node_reader.specs.ShortAddresses.{short_ipv6, told_fixed}
+use Rattle.uefi_node_reader.proofs.Digits.{some_pair}
+use Rattle.uefi_node_reader.proofs.short_addresses.short_ipv6.Goals as goal
+
+-- data without a tail, which are no more than a node may have
+all_fit : (all text : List ℕ) → fitting (Some (take 56 all ++ [], text)) ≡ Some (take 56 all, text)
+all_fit all text =
+    let size = length-take 56 all in
+    let same : take 56 all ++ [] ≡ take 56 all = append-nil (take 56 all) in
+    ap (λ (x : List ℕ). fitting (Some (x, text))) same
+    ∙ ap (λ (t : Bool). cond t (Some (take 56 all, text)) None) (le-leb (length (take 56 all)) 0xfffb (omega (arith, size)))
+
+pub returns-in_err-node : goal.returns-in_err-node
+returns-in_err-node c =
+    absurd (none-some _ (rw c.in_err-node.was at c.with_tail.ensures.data ∙ all_fit c.in_ok-fixed.fixed c.args.text.now))
+
+pub returns : goal.returns
+unfolding short_ipv6 parsed_node
+returns c =
+    let bytes : List ℕ = take 56 c.in_ok-fixed.fixed in
+    let types = (rw c.in_ok-node.was at c.with_tail.ensures.types) in
+    let read = (rw c.in_ok-node.was at c.with_tail.ensures.data) in
+    let same = (some_pair (text_node_data c.in_ok-node.node, c.in_ok-node.field-0-1.now) (bytes, c.args.text.now) (read ∙ all_fit c.in_ok-fixed.fixed c.args.text.now)).0 in
+    c.told_fixed.ensures ∙ (λ i. told_fixed (node_with (types.0 i) (types.1 i) (same i)))
+    ∙ ap (λ (o : Option (List ℕ)). option_and_then (λ (content : List ℕ). told_fixed (node_with 3 13 content)) o) (rw c.in_ok-fixed.was at c.call_data.ensures)

@@ -1,0 +1,190 @@
+//! Addresses of IP version 6 read from their texts (RFC 4291, section 2.2), as `std::net` defines it.
+//!
+//! `Ipv6Addr::parse_ascii` of std means the same, but it copies a run of segments whose length is known only
+//! when it runs. The compiler makes that a call of `memcpy`, which firmware lacks.
+#![tactic(auto)]
+
+ghost use Rattle.std.specs.Prelude.{◌≡◌, ◌<◌, ◌≤◌, ◌+◌, ◌-◌, ◌++◌, ◌∷◌, [], true, IfSome, drop, length, option_copied, take};
+ghost use Rattle.std.specs.Net.Addr.{octets_of, segments_of};
+ghost use Rattle.std.specs.Net.Reader as Reader;
+ghost use Rattle.std.specs.Option.{option_map};
+ghost use Rattle.std.proofs.Math.ListN.{replicate};
+ghost use Rattle.uefi_node_reader.specs.Counted.{pushed_bytes};
+ghost use Rattle.uefi_node_reader.specs.ShortAddresses.{address_octets};
+
+use crate::counted_bytes::push;
+
+/// An address of IP version 6.
+#[derive(Clone, Copy)]
+pub(crate) struct Address {
+    /// Its octets, the highest first.
+    pub(crate) octets: [u8; 16],
+}
+
+/// What stands after a byte that a text begins with.
+fn read_byte(text: &[u8], byte: u8) -> Option<&[u8]>
+    ensures { option_copied result ≡ Reader.read_byte byte text.now }
+{
+    match text {
+        [first, rest @ ..] if *first == byte => Some(rest),
+        _ => None,
+    }
+}
+
+/// The number up to `last` whose digits a text begins with, and how many digits these are.
+fn read_number(text: &[u8], base: u32, last: u32) -> Option<(u32, usize)>
+    requires low { 2 ≤ base }
+    requires high { base ≤ 16 }
+    ensures value { result ≡ Reader.read_number base last text.now }
+    ensures fits { IfSome result (λ n. (n.0 ≤ last) × (0 < n.1) × (n.1 ≤ length text.now)) }
+{
+    let mut value = 0u32;
+    let mut len = 0;
+    for byte in text {
+        let Some(digit) = char::from(*byte).to_digit(base) else {
+            break;
+        };
+        let next = value as u64 * base as u64 + digit as u64;
+        if next > last as u64 {
+            return None;
+        }
+        value = next as u32;
+        len += 1;
+    }
+    if len == 0 { None } else { Some((value, len)) }
+}
+
+/// A part of an address of IP version 4, without zeros at its start, and what stands after it.
+#[tactic(auto, unfolding(std::specs::Net::Reader::read_octet))]
+fn read_octet(text: &[u8]) -> Option<(u8, &[u8])>
+    ensures { Reader.read_view (λ n. n) result ≡ Reader.read_octet text.now }
+{
+    let (value, len) = read_number(text, 10, 255)?;
+    if len > 1 && text[0] == b'0' {
+        return None;
+    }
+    Some((value as u8, &text[len..]))
+}
+
+/// The segments of an address of IP version 4, and what stands after it.
+#[tactic(auto, unfolding(std::specs::Net::Reader::read_ipv4))]
+fn read_ipv4(text: &[u8]) -> Option<((u16, u16), &[u8])>
+    ensures { Reader.read_view (λ x. x.0 ∷ x.1 ∷ []) result
+        ≡ option_map (λ x. (segments_of x.0, x.1)) (Reader.read_ipv4 text.now) }
+{
+    let (a, rest) = read_octet(text)?;
+    let (b, rest) = read_octet(read_byte(rest, b'.')?)?;
+    let (c, rest) = read_octet(read_byte(rest, b'.')?)?;
+    let (d, rest) = read_octet(read_byte(rest, b'.')?)?;
+    let high = u16::from(a) * 256 + u16::from(b);
+    let low = u16::from(c) * 256 + u16::from(d);
+    Some(((high, low), rest))
+}
+
+/// The same where two segments fit.
+fn read_ipv4_if(text: &[u8], fits: bool) -> Option<((u16, u16), &[u8])>
+    ensures { Reader.read_view (λ x. x.0 ∷ x.1 ∷ []) result
+        ≡ option_map (λ x. (segments_of x.0, x.1)) (Reader.read_ipv4_if fits text.now) }
+{
+    if fits { read_ipv4(text) } else { None }
+}
+
+/// A segment of up to four digits, and what stands after it.
+#[tactic(auto, unfolding(std::specs::Net::Reader::read_segment))]
+fn read_segment(text: &[u8]) -> Option<(u16, &[u8])>
+    ensures { Reader.read_view (λ n. n) result ≡ Reader.read_segment text.now }
+{
+    let (value, len) = read_number(text, 16, 0xffff)?;
+    if len > 4 {
+        return None;
+    }
+    Some((value as u16, &text[len..]))
+}
+
+/// What stands after the colon before each segment but the first.
+fn read_separator(text: &[u8], first: bool) -> Option<&[u8]>
+    ensures { option_copied result ≡ Reader.read_separator first text.now }
+{
+    if first {
+        Some(text)
+    } else {
+        read_byte(text, b':')
+    }
+}
+
+/// Reads segments with colons between them into the first of these places. Returns how many there are,
+/// whether an address of IP version 4 is the last two, and what stands after them.
+fn read_segments<'a>(text: &'a [u8], segments: &mut [u16]) -> (usize, bool, &'a [u8])
+    ensures value { Reader.read_segments (length segments.old) true text.now
+        ≡ (take result.0 segments.new, result.1, result.2.now) }
+    ensures within { result.0 ≤ length segments.old }
+{
+    let room = segments.len();
+    let mut rest = text;
+    for i in 0..room {
+        let Some(group) = read_separator(rest, i == 0) else {
+            return (i, false, rest);
+        };
+        if let Some(((high, low), after)) = read_ipv4_if(group, i + 1 < room) {
+            segments[i] = high;
+            segments[i + 1] = low;
+            return (i + 2, true, after);
+        }
+        let Some((segment, after)) = read_segment(group) else {
+            return (i, false, rest);
+        };
+        segments[i] = segment;
+        rest = after;
+    }
+    (room, false, rest)
+}
+
+/// Puts the octets of segments after `len` others.
+fn push_segments(octets: &mut [u8], len: usize, segments: &[u16])
+    ensures { octets.new ≡ (pushed_bytes (octets.old, len) (octets_of segments.now)).0 }
+{
+    let mut count = len;
+    for segment in segments {
+        count = push(octets, count, (*segment / 256) as u8);
+        count = push(octets, count, (*segment % 256) as u8);
+    }
+}
+
+/// The address with the segments before `::` and those after it, and zeros between them.
+fn join(head: &[u16], tail: &[u16]) -> Address
+    requires { length head.now + length tail.now ≤ 8 }
+    ensures { result.octets ≡ octets_of
+        (head.now ++ (replicate (8 - length head.now - length tail.now) 0 ++ tail.now)) }
+{
+    let mut octets = [0; 16];
+    push_segments(&mut octets, 0, head);
+    push_segments(&mut octets, 16 - 2 * tail.len(), tail);
+    Address { octets }
+}
+
+/// The address that a whole text encodes.
+#[tactic(auto, unfolding(crate::specs::ShortAddresses::address_octets, std::specs::Net::Reader::read_ipv6))]
+pub(crate) fn whole_address(text: &[u8]) -> Option<Address>
+    ensures { option_map (λ x. x.octets) result ≡ address_octets text.now }
+{
+    let mut head = [0; 8];
+    let (head_len, ends_in_ipv4, rest) = read_segments(text, &mut head);
+    if head_len == 8 {
+        return if rest.is_empty() {
+            Some(join(&head, &[]))
+        } else {
+            None
+        };
+    }
+    if ends_in_ipv4 {
+        return None;
+    }
+    let rest = read_byte(read_byte(rest, b':')?, b':')?;
+    // The `::` stands for one segment at least.
+    let mut tail = [0; 7];
+    let (tail_len, _, rest) = read_segments(rest, &mut tail[..7 - head_len]);
+    if !rest.is_empty() {
+        return None;
+    }
+    Some(join(&head[..head_len], &tail[..tail_len]))
+}

@@ -1,0 +1,64 @@
+//! Where a form stands in the table.
+#![tactic(auto)]
+
+ghost use Rattle.std.specs.Option.{option_map};
+ghost use Rattle.std.specs.Prelude.{◌≡◌, Bool, map};
+ghost use Rattle.uefi_node_table.specs.Rows.{Form, as_form};
+ghost use Rattle.uefi_node_table.specs.Table.{forms};
+ghost use Rattle.uefi_node_reader.specs.NearNames.{start_at};
+ghost use Rattle.uefi_node_reader.specs.TableReading.{form_place};
+
+use uefi_node_table::rows::Row;
+use uefi_node_table::table::{GROUPS, group};
+
+/// A test that forms pass or not.
+pub(crate) trait FormTest {
+    ghost test: { Self → Form → Bool };
+
+    /// Whether a form passes it.
+    fn passes(&self, row: &Row) -> bool
+        ensures { result ≡ test self.now (as_form row.now) };
+}
+
+/// Where among forms the first stands that passes a test; their number where there is none.
+fn place_in<T: FormTest>(test: &T, rows: &[Row]) -> usize
+    ensures { result ≡ form_place (T.test test.now) (map as_form rows.now) }
+{
+    for (place, row) in rows.iter().enumerate() {
+        if test.passes(row) {
+            return place;
+        }
+    }
+    rows.len()
+}
+
+/// The same among all forms of the table.
+pub(crate) fn form_place<T: FormTest>(test: &T) -> usize
+    ensures { result ≡ form_place (T.test test.now) forms }
+{
+    let mut before = 0;
+    for index in 0..GROUPS {
+        let rows = group(index);
+        let place = place_in(test, rows);
+        if place < rows.len() {
+            return before + place;
+        }
+        before += rows.len();
+    }
+    before
+}
+
+/// What the text of the form at a place of the table begins with.
+pub(crate) fn start_at(place: usize) -> Option<&'static str>
+    ensures { option_map (λ start. start.now) result ≡ start_at forms place }
+{
+    let mut left = place;
+    for index in 0..GROUPS {
+        let rows = group(index);
+        if left < rows.len() {
+            return Some(rows[left].start.as_str());
+        }
+        left -= rows.len();
+    }
+    None
+}

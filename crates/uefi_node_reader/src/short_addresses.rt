@@ -1,0 +1,205 @@
+//! Nodes of connections over IP version 6, read from tidied calls whose addresses stand in any form of RFC
+//! 4291, section 2.2.
+#![tactic(auto)]
+
+ghost use Rattle.std.specs.Prelude.{◌≡◌, ◌≤◌, length, take};
+ghost use Rattle.std.specs.List.{position_or_len};
+ghost use Rattle.std.specs.Option.{option_map};
+ghost use Rattle.uefi_node_reader.specs.LenientFields.{any_number};
+ghost use Rattle.uefi_node_reader.specs.ShortAddresses.{address_read, bare_address, call_data, closed_address, connection, ends_address, gateway_read, closes_call, is_fixed, last_fields, local_read, no_address, origin_read, protocol_read, settings_read, short_ipv6, told_fixed};
+ghost use Rattle.uefi_node_reader.specs.ParsedNodeViews.{parsed_node};
+
+use crate::address_texts::{Address, whole_address};
+use crate::complete_texts::tells;
+use crate::counted_bytes::push_all;
+use crate::fields::after;
+use crate::lenient_fields::any_number;
+use crate::parsed_node::ParsedNode;
+use uefi_node_table::printing::form_of;
+use uefi_node_table::rows::Tail;
+
+/// The address `::`.
+const NO_ADDRESS: Address = Address { octets: [0; 16] };
+
+/// Whether a byte ends an address.
+fn ends_address(byte: u8) -> bool
+    ensures { result ≡ ends_address byte }
+{
+    byte == b',' || byte == b')' || byte == b']'
+}
+
+/// How many bytes of a text stand before one that ends an address.
+fn address_len(text: &[u8]) -> usize
+    ensures place { result ≡ position_or_len ends_address text.now }
+    ensures within { result ≤ length text.now }
+{
+    for place in 0..text.len() {
+        if ends_address(text[place]) {
+            return place;
+        }
+    }
+    text.len()
+}
+
+/// The address that a text begins with, and what stands after it.
+fn bare_address(text: &[u8]) -> Option<(Address, &[u8])>
+    ensures { option_map (λ x. (x.0.octets, x.1.now)) result ≡ bare_address text.now }
+{
+    let (front, rest) = text.split_at(address_len(text));
+    let address = whole_address(front)?;
+    Some((address, rest))
+}
+
+/// The same of an address from the byte after `[` on.
+fn closed_address(text: &[u8]) -> Option<(Address, &[u8])>
+    ensures { option_map (λ x. (x.0.octets, x.1.now)) result ≡ closed_address text.now }
+{
+    let (address, rest) = bare_address(text)?;
+    let rest = after(b"]", rest)?;
+    Some((address, rest))
+}
+
+/// The same of an address that may stand in brackets.
+fn address(text: &[u8]) -> Option<(Address, &[u8])>
+    ensures { option_map (λ x. (x.0.octets, x.1.now)) result ≡ address_read text.now }
+{
+    match text {
+        [b'[', rest @ ..] => closed_address(rest),
+        _ => bare_address(text),
+    }
+}
+
+/// The protocol that a text begins with, by its name or its number, and what stands after it.
+fn protocol(text: &[u8]) -> Option<(u16, &[u8])>
+    ensures { option_map (λ x. (x.0, x.1.now)) result ≡ protocol_read text.now }
+{
+    if let Some(rest) = after(b"TCP", text) {
+        return Some((6, rest));
+    }
+    if let Some(rest) = after(b"UDP", text) {
+        return Some((17, rest));
+    }
+    let (number, rest) = any_number(0xffff, text)?;
+    Some((number as u16, rest))
+}
+
+/// The origin of an address that a text begins with, and what stands after it.
+fn origin(text: &[u8]) -> Option<(u8, &[u8])>
+    ensures { option_map (λ x. (x.0, x.1.now)) result ≡ origin_read text.now }
+{
+    if let Some(rest) = after(b"STATIC", text) {
+        return Some((0, rest));
+    }
+    if let Some(rest) = after(b"STATELESSAUTOCONFIGURE", text) {
+        return Some((1, rest));
+    }
+    let rest = after(b"STATEFULAUTOCONFIGURE", text)?;
+    Some((2, rest))
+}
+
+/// Whether a text is the end of a call: a `)` alone.
+fn closes_call(text: &[u8]) -> bool
+    ensures { result ≡ closes_call text.now }
+{
+    text.len() == 1 && text[0] == b')'
+}
+
+/// The prefix length and the gateway that end a call.
+fn last_fields(text: &[u8]) -> Option<(u8, Address)>
+    ensures { option_map (λ x. (x.0, x.1.octets)) result ≡ last_fields text.now }
+{
+    let (prefix_length, rest) = any_number(0xff, text)?;
+    let (gateway, rest) = address(after(b",", rest)?)?;
+    if !closes_call(rest) {
+        return None;
+    }
+    Some((prefix_length as u8, gateway))
+}
+
+/// The same after a comma. A node without them has other data, and is read with whole addresses alone.
+fn gateway(text: &[u8]) -> Option<(u8, Address)>
+    ensures { option_map (λ x. (x.0, x.1.octets)) result ≡ gateway_read text.now }
+{
+    last_fields(after(b",", text)?)
+}
+
+/// The local address, the prefix length and the gateway that end a call, or zeros.
+fn local(text: &[u8]) -> Option<(Address, u8, Address)>
+    ensures { option_map (λ x. (x.0.octets, x.1, x.2.octets)) result ≡ local_read text.now }
+{
+    if closes_call(text) {
+        return Some((NO_ADDRESS, 0, NO_ADDRESS));
+    }
+    let (local, rest) = address(after(b",", text)?)?;
+    let (prefix_length, gateway) = gateway(rest)?;
+    Some((local, prefix_length, gateway))
+}
+
+/// The data of a connection without ports, and eight zeros.
+fn connection(remote: Address, protocol: u16, origin: u8, local: (Address, u8, Address)) -> [u8; 64]
+    ensures { take 56 result
+        ≡ connection remote.octets protocol origin (local.0.octets, local.1, local.2.octets) }
+{
+    let mut data = [0; 64];
+    let (local, prefix_length, gateway) = local;
+    let len = push_all(&mut data, 0, &local.octets);
+    let len = push_all(&mut data, len, &remote.octets);
+    let (low, high) = ((protocol % 256) as u8, (protocol / 256) as u8);
+    let len = push_all(
+        &mut data,
+        len,
+        &[0, 0, 0, 0, low, high, origin, prefix_length],
+    );
+    push_all(&mut data, len, &gateway.octets);
+    data
+}
+
+/// The data that a call tells from after the remote address on, and eight zeros.
+fn settings(remote: Address, text: &[u8]) -> Option<[u8; 64]>
+    ensures { option_map (λ x. take 56 x) result ≡ settings_read remote.octets text.now }
+{
+    if closes_call(text) {
+        return Some(connection(remote, 0, 2, (NO_ADDRESS, 0, NO_ADDRESS)));
+    }
+    let (protocol, rest) = protocol(after(b",", text)?)?;
+    let (origin, rest) = origin(after(b",", rest)?)?;
+    let local = local(rest)?;
+    Some(connection(remote, protocol, origin, local))
+}
+
+/// The data that a whole call tells, and eight zeros.
+fn call_data(text: &[u8]) -> Option<[u8; 64]>
+    ensures { option_map (λ x. take 56 x) result ≡ call_data text.now }
+{
+    let (remote, rest) = address(after(b"IPV6(", text)?)?;
+    settings(remote, rest)
+}
+
+/// Whether a form's data end with their fixed part.
+fn is_fixed(tail: Tail) -> bool
+    ensures { result ≡ is_fixed tail }
+{
+    matches!(tail, Tail::Nothing)
+}
+
+/// The node, if the text that it is printed in tells it.
+fn told_fixed<'a>(node: ParsedNode<'a>) -> Option<ParsedNode<'a>>
+    ensures { option_map parsed_node result ≡ told_fixed (parsed_node node.entry) }
+{
+    let (kind, sub_kind) = node.types();
+    let row = form_of(false, kind, sub_kind, node.head())?;
+    if !is_fixed(row.tail) || !tells(row, &node) {
+        return None;
+    }
+    Some(node)
+}
+
+/// Reads the IPv6 node of a tidied call whose addresses stand in any form of RFC 4291, section 2.2.
+#[tactic(auto, unfolding(crate::specs::ShortAddresses::short_ipv6))]
+pub(crate) fn short_ipv6(text: &[u8]) -> Option<ParsedNode<'_>>
+    ensures { option_map parsed_node result ≡ short_ipv6 text.now }
+{
+    let fixed = call_data(text)?;
+    let (node, _) = ParsedNode::with_tail(3, 13, fixed, 56, Tail::Nothing, "", text)?;
+    told_fixed(node)
+}
