@@ -14,13 +14,14 @@ pushed_bytes-append state (x ∷ xs) ys = pushed_bytes-append (pushed_byte state
 step : (p : List ℕ) (n b : ℕ) → n + 1 ≤ 2 ^ 64 - 1 → pushed_byte (p, n) b ≡ (set p n b, n + 1)
 step p n b few = let same : min (n + 1) (2 ^ 64 - 1) ≡ n + 1 = omega (arith, few) in ap (λ (k : ℕ). (set p n b, k)) same
 
--- bytes for which there is no room
-past : (c p : List ℕ) (n : ℕ) → length p ≤ n → n + length c ≤ 2 ^ 64 - 1 → pushed_bytes (p, n) c ≡ (p, n + length c)
-past [] p n l few = ap (λ (k : ℕ). (p, k)) {x = n} {y = n + 0} (omega arith)
-past (b ∷ bs) p n l few =
-    ap (λ (s : List ℕ × ℕ). pushed_bytes s bs) (step p n b (omega (arith, few)) ∙ ap (λ (l : List ℕ). (l, n + 1)) (set_past p n b l))
-    ∙ past bs p (n + 1) (omega (arith, l)) (omega (arith, few))
-    ∙ ap (λ (k : ℕ). (p, k)) {x = n + 1 + length bs} {y = n + length (b ∷ bs)} (omega arith)
+-- bytes for which there is no room are only counted
+pub past : (c p : List ℕ) (n : ℕ) → length p ≤ n → n ≤ 2 ^ 64 - 1 → pushed_bytes (p, n) c ≡ (p, min (n + length c) (2 ^ 64 - 1))
+past [] p n l small = ap (λ (k : ℕ). (p, k)) {x = n} {y = min (n + 0) (2 ^ 64 - 1)} (omega (arith, small))
+past (b ∷ bs) p n l small =
+    let next : ℕ = min (n + 1) (2 ^ 64 - 1) in
+    ap (λ (q : List ℕ). pushed_bytes (q, next) bs) (set_past p n b l)
+    ∙ past bs p next (omega (arith, l, small)) (omega arith)
+    ∙ ap (λ (k : ℕ). (p, k)) {x = min (next + length bs) (2 ^ 64 - 1)} {y = min (n + length (b ∷ bs)) (2 ^ 64 - 1)} (omega arith)
 
 no_bytes : (k : ℕ) → ◌≡◌ {A = List ℕ} [] (take k [])
 no_bytes zero = refl
@@ -52,7 +53,8 @@ pushed_is (b ∷ bs) p n l few = by (ltb n (length p)) refl (pushed_is bs (set p
     by false e others =
         let h : length p ≤ n = ltb-false n (length p) e in
         let none : length p - n ≡ 0 = omega (arith, h) in
-        past (b ∷ bs) p n h few
+        past (b ∷ bs) p n h (omega (arith, few))
+        ∙ ap (λ (k : ℕ). (p, k)) {x = min (n + length (b ∷ bs)) (2 ^ 64 - 1)} {y = n + length (b ∷ bs)} (omega (arith, few))
         ∙ ap (λ (f : List ℕ). (f, n + length (b ∷ bs))) (sym (append-nil p))
         ∙ (λ i. (sym (take_all n p h) i ++ ([] ++ sym (drop_all (n + length (b ∷ bs)) p (omega (arith, h))) i), n + length (b ∷ bs)))
         ∙ ap (λ (k : ℕ). (take n p ++ (take k (b ∷ bs) ++ drop (n + length (b ∷ bs)) p), n + length (b ∷ bs))) (sym none)

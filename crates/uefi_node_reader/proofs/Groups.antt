@@ -3,7 +3,7 @@ use Rattle.std.proofs.Common.{◌≡◌, ℕ, zero, suc, ◌+◌, ◌-◌, ◌<�
 use Rattle.std.specs.Prelude.{Option, Some, None, ◌&&◌}
 use Rattle.std.specs.List.{list_all}
 use Rattle.std.proofs.lemmas.Bool.{and_parts}
-use Rattle.uefi_node_table.specs.Rows.{Form, item_of}
+use Rattle.uefi_node_table.specs.Rows.{Form, find_form, item_of}
 use Rattle.uefi_node_table.specs.Table.{forms, forms_from, group_forms}
 use Rattle.uefi_node_table.proofs.Groups.{next_group}
 use Rattle.uefi_device_nodes.specs.Nodes.{Node}
@@ -46,6 +46,16 @@ pub group_filled : (index : ℕ) → index < 12 → list_all is_filled (group_fo
 group_filled index l = (and_parts _ _ (group_holds index l)).1
 
 module _ (test : Form → Bool) where
+  -- where no form passes a test
+  pub no_place : (xs : List Form) → find_form test xs ≡ None → form_place test xs ≡ length xs
+  no_place [] e = refl
+  no_place (a ∷ xs) e = by (test a) refl e (no_place xs)
+    where
+      by : (b : Bool) → test a ≡ b → cond b (Some a) (find_form test xs) ≡ None → (find_form test xs ≡ None → form_place test xs ≡ length xs)
+          → cond (test a) 0 (form_place test xs + 1) ≡ suc (length xs)
+      by true p q h = cc
+      by false p q h = let others = h q in ap (λ (b : Bool). cond b 0 (form_place test xs + 1)) p ∙ omega arith
+
   place_within : (xs bs : List Form) → form_place test xs < length xs → form_place test (xs ++ bs) ≡ form_place test xs
   place_within [] bs l = absurd (omega arith)
   place_within (a ∷ xs) bs l = by (test a) refl l (place_within xs bs)

@@ -1,5 +1,5 @@
 -- Names of files are read back.
-use Rattle.std.proofs.Common.{◌≡◌, ◌≢◌, ℕ, ◌+◌, ◌-◌, ◌/◌, ◌%◌, ◌<◌, ◌≤◌, Bool, true, false, cond, eqb, leb, ltb, not, ◌&&◌, List, [], ◌∷◌, ◌++◌, length, take, drop, slice_index, refl, ap, sym, subst, ◌∙◌, arith, ◌⊎◌, true≢false}
+use Rattle.std.proofs.Common.{◌≡◌, ◌≢◌, ℕ, ◌+◌, ◌-◌, ◌/◌, ◌%◌, ◌*◌, ◌^◌, ◌<◌, ◌≤◌, Bool, true, false, cond, eqb, leb, ltb, min, not, ◌&&◌, List, [], ◌∷◌, ◌++◌, length, take, drop, slice_index, refl, ap, sym, subst, ◌∙◌, arith, ◌⊎◌, true≢false}
 use Rattle.std.specs.Prelude.{Some, None}
 use Rattle.std.specs.Option.{unwrap_or}
 use Rattle.std.specs.Char.Escape.{encode_utf16}
@@ -8,7 +8,7 @@ use Rattle.std.specs.List.{flat_map, list_all, position_or_len}
 use Rattle.std.specs.Str.{all_scalars, chars, is_utf8, IsUtf8}
 use Rattle.std.proofs.lemmas.Bool.{and_from, and_left, and_parts, leb-true, not-true}
 use Rattle.std.proofs.lemmas.Bool.Decides.{nat_tests}
-use Rattle.std.proofs.lemmas.List.{drop_at, flat_map_more, take_at, take-append-drop}
+use Rattle.std.proofs.lemmas.List.{drop_at, flat_map_more, length-drop, take_at, take_more, take-append-drop}
 use Rattle.std.proofs.lemmas.List.Folds.{list_all-append}
 use Rattle.std.proofs.lemmas.Str.{chars-encodes, IsUtf8-from_is_utf8, is_utf8-from_IsUtf8}
 use borrow.Author.Tests.{eq-eqb, ltb-false}
@@ -20,9 +20,9 @@ use Rattle.uefi_text.proofs.Surrogates.{lone_first, pair_first}
 use Rattle.uefi_field_texts.specs.FieldTexts.{is_escaped, shown_char, shown_units, until_nul, utf16_text}
 use Rattle.uefi_device_nodes.specs.Nodes.{Node, node_with}
 use Rattle.uefi_device_nodes.specs.NodeTexts.{irregular_text, node_text}
-use Rattle.uefi_node_reader.specs.Counted.{pushed_bytes}
+use Rattle.uefi_node_reader.specs.Counted.{pushed_byte, pushed_bytes}
 use Rattle.uefi_node_reader.specs.FieldReading.{read_if}
-use Rattle.uefi_node_reader.proofs.CountedBytes.{pushed_bytes-append}
+use Rattle.uefi_node_reader.proofs.CountedBytes.{counted, past, pushed_bytes-append}
 use Rattle.uefi_node_reader.proofs.Digits.{some_pair}
 use Rattle.uefi_node_reader.specs.NamedFiles.{begins_name, ends_name, is_after_node, is_name, is_name_char, IsNamedNode, name_bytes, name_data, name_read}
 
@@ -194,6 +194,36 @@ text_more state so_far c =
     sym (pushed_bytes-append state (unit_bytes (flat_map encode_utf16 so_far)) (unit_bytes (encode_utf16 c)))
     ∙ ap (pushed_bytes state) (sym (unit_bytes-append (flat_map encode_utf16 so_far) (encode_utf16 c))
     ∙ ap unit_bytes (flat_map_more encode_utf16 [] so_far c))
+
+-- a unit of a byte more
+pub byte_more : (state : List ℕ × ℕ) (text : List ℕ) (k : ℕ) → k < length text → slice_index text k < 256
+    → pushed_byte (pushed_byte (pushed_bytes state (unit_bytes (take k text))) (slice_index text k)) 0
+    ≡ pushed_bytes state (unit_bytes (take (k + 1) text))
+byte_more state text k l small =
+    let byte : ℕ = slice_index text k in
+    let low : byte % 256 ≡ byte = omega arith in
+    let high : byte / 256 ≡ 0 = omega arith in
+    sym ((λ i. pushed_bytes state (unit_bytes (take_more text k 0 l i)))
+    ∙ ap (pushed_bytes state) (unit_bytes-append (take k text) (byte ∷ []))
+    ∙ pushed_bytes-append state (unit_bytes (take k text)) (unit_bytes (byte ∷ []))
+    ∙ (λ i. pushed_bytes (pushed_bytes state (unit_bytes (take k text))) (low i ∷ high i ∷ [])))
+
+-- units of bytes for which there is no room are only counted
+pub bytes_counted : (state : List ℕ × ℕ) (text places : List ℕ) (k count : ℕ)
+    → (places, count) ≡ pushed_bytes state (unit_bytes (take k text)) → state.1 ≤ 2 ^ 64 - 1 → length places ≤ count
+    → k ≤ length text → (places, min (count + min ((length text - k) * 2) (2 ^ 64 - 1)) (2 ^ 64 - 1)) ≡ pushed_bytes state (unit_bytes text)
+bytes_counted state text places k count e small full l =
+    let front : List ℕ = unit_bytes (take k text) in
+    let rest : List ℕ = unit_bytes (drop k text) in
+    let few : count ≤ 2 ^ 64 - 1 = omega (arith, ap (λ (s : List ℕ × ℕ). s.1) e ∙ counted front state.0 state.1 small) in
+    let size : length rest ≡ 2 * (length text - k) = length-unit_bytes (drop k text) ∙ ap (λ (n : ℕ). 2 * n) (length-drop k text) in
+    let sum : min (count + length rest) (2 ^ 64 - 1) ≡ min (count + min ((length text - k) * 2) (2 ^ 64 - 1)) (2 ^ 64 - 1) = omega (arith, size) in
+    sym (ap (λ (x : List ℕ). pushed_bytes state (unit_bytes x)) (sym (take-append-drop k text))
+    ∙ ap (pushed_bytes state) (unit_bytes-append (take k text) (drop k text))
+    ∙ pushed_bytes-append state front rest
+    ∙ ap (λ (s : List ℕ × ℕ). pushed_bytes s rest) (sym e)
+    ∙ past rest places count full few
+    ∙ ap (λ (n : ℕ). (places, n)) sum)
 
 -- and the NUL after them
 pub text_end : (name : List ℕ) → unit_bytes (flat_map encode_utf16 name) ++ 0 ∷ 0 ∷ [] ≡ name_data name

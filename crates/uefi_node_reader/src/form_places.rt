@@ -2,8 +2,8 @@
 #![tactic(auto)]
 
 ghost use Rattle.std.specs.Option.{option_map};
-ghost use Rattle.std.specs.Prelude.{◌≡◌, Bool, map};
-ghost use Rattle.uefi_node_table.specs.Rows.{Form, as_form};
+ghost use Rattle.std.specs.Prelude.{◌≡◌, Bool, IsTrue, length, map, true};
+ghost use Rattle.uefi_node_table.specs.Rows.{Form, as_form, have_one_kind};
 ghost use Rattle.uefi_node_table.specs.Table.{forms};
 ghost use Rattle.uefi_node_reader.specs.NearNames.{start_at};
 ghost use Rattle.uefi_node_reader.specs.TableReading.{form_place};
@@ -18,12 +18,21 @@ pub(crate) trait FormTest {
     /// Whether a form passes it.
     fn passes(&self, row: &Row) -> bool
         ensures { result ≡ test self.now (as_form row.now) };
+
+    /// Whether these forms, which are for nodes of one type, can be passed over: none of them passes it.
+    fn passes_over(&self, rows: &[Row]) -> bool
+        requires { IsTrue (have_one_kind (map as_form rows.now)) }
+        ensures { result ≡ true → form_place (test self.now) (map as_form rows.now) ≡ length rows.now };
 }
 
 /// Where among forms the first stands that passes a test; their number where there is none.
 fn place_in<T: FormTest>(test: &T, rows: &[Row]) -> usize
+    requires { IsTrue (have_one_kind (map as_form rows.now)) }
     ensures { result ≡ form_place (T.test test.now) (map as_form rows.now) }
 {
+    if test.passes_over(rows) {
+        return rows.len();
+    }
     for (place, row) in rows.iter().enumerate() {
         if test.passes(row) {
             return place;

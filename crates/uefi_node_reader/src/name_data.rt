@@ -26,11 +26,30 @@ fn push_char(places: &mut [u8], len: usize, c: char) -> usize
     count
 }
 
+/// Writes bytes as units of UTF-16, as far as they fit, and returns how many bytes there are then.
+fn push_ascii(places: &mut [u8], len: usize, text: &[u8]) -> usize
+    ensures { (places.new, result) ≡ pushed_bytes (places.old, len) (unit_bytes text.now) }
+{
+    let mut count = len;
+    for place in 0..text.len() {
+        if places.len() <= count {
+            // Nothing else fits, so the rest is only counted.
+            return count.saturating_add((text.len() - place).saturating_mul(2));
+        }
+        count = push(places, count, text[place]);
+        count = push(places, count, 0);
+    }
+    count
+}
+
 /// Puts the bytes of a text in UTF-16.
 fn push_text(places: &mut [u8], len: usize, text: &str) -> usize
     ensures { (places.new, result)
         ≡ pushed_bytes (places.old, len) (unit_bytes (flat_map encode_utf16 (chars text.now))) }
 {
+    if text.is_ascii() {
+        return push_ascii(places, len, text.as_bytes());
+    }
     let mut count = len;
     for c in text.chars() {
         count = push_char(places, count, c);

@@ -53,7 +53,12 @@ pub(crate) fn name_len(text: &[u8]) -> usize
 fn is_name_char(c: char) -> bool
     ensures { result ≡ is_name_char c }
 {
-    !is_escaped(c) && c != '/' && c != ','
+    let is_shown = if c < '\u{7f}' {
+        ' ' <= c
+    } else {
+        !is_escaped(c)
+    };
+    is_shown && c != '/' && c != ','
 }
 
 /// Whether a text begins with a backslash.

@@ -71,6 +71,10 @@ impl FormTest for NearName<'_> {
     fn passes(&self, row: &Row) -> bool {
         is_near(row.start.as_bytes(), self.call)
     }
+
+    fn passes_over(&self, _rows: &[Row]) -> bool {
+        false
+    }
 }
 
 /// What is expected of a tidied call without the name of a form: a near one.

@@ -17,7 +17,7 @@ use crate::fields::after;
 use crate::form_places::{FormTest, form_place};
 use crate::node_tails::read_pieces;
 use crate::parsed_node::ParsedNode;
-use uefi_node_table::printing::matches;
+use uefi_node_table::printing::{begin_with_kind, matches};
 use uefi_node_table::rows::{Mode, Row};
 use uefi_node_table::table::{GROUPS, group};
 
@@ -123,14 +123,20 @@ impl FormTest for PrintedNode<'_> {
     fn passes(&self, row: &Row) -> bool {
         matches(row, false, self.kind, self.sub_kind, self.content)
     }
+
+    fn passes_over(&self, rows: &[Row]) -> bool {
+        !begin_with_kind(rows, self.kind)
+    }
 }
 
-/// Whether a text may begin with the start of a form, by the first bytes of both: most forms go no further.
+/// Whether a text may begin with the start of a form, by the first two bytes of both: most forms go no
+/// further.
+#[inline(always)]
 fn begin_alike(start: &[u8], text: &[u8]) -> bool
     ensures { result ≡ false → after start.now text.now ≡ None }
 {
     match (start, text) {
-        ([first, ..], [byte, ..]) => first == byte,
+        ([first, second, ..], [byte, next, ..]) => first == byte && second == next,
         _ => true,
     }
 }
@@ -142,9 +148,6 @@ fn read_kept<'a>(row: &Row, place: usize, text: &'a [u8]) -> Option<(ParsedNode<
     ensures { option_map (λ x. (parsed_node x.0, x.1.now)) result
         ≡ kept forms place (as_form row.now) (form_read (as_form row.now) text.now) }
 {
-    if !begin_alike(row.start.as_bytes(), text) {
-        return None;
-    }
     let (node, rest) = read_row(row, text)?;
     let printed = PrintedNode {
         kind: row.kind,
@@ -166,8 +169,10 @@ fn read_group<'a>(rows: &[Row], before: usize, text: &'a [u8]) -> Option<(Parsed
         ≡ forms_read forms before (map as_form rows.now) text.now }
 {
     for (place, row) in rows.iter().enumerate() {
-        if let Some(read) = read_kept(row, before + place, text) {
-            return Some(read);
+        if begin_alike(row.start.as_bytes(), text) {
+            if let Some(read) = read_kept(row, before + place, text) {
+                return Some(read);
+            }
         }
     }
     None

@@ -221,7 +221,7 @@ fn find_row<'a>(
 }
 
 /// Whether the first of these forms is for nodes of a type.
-fn begin_with_kind(rows: &[Row], kind: u8) -> bool
+pub fn begin_with_kind(rows: &[Row], kind: u8) -> bool
     ensures { result ≡ begin_with_kind kind (map as_form rows.now) }
 {
     match rows {

@@ -1,12 +1,12 @@
 -- Upper and lower case of units and of strings, and lists compared unit by unit.
-use Rattle.std.proofs.Common.{◌≡◌, ◌∙◌, ◌+◌, ◌-◌, ◌<◌, ◌^◌, ◌↔◌, ℕ, Bool, IsTrue, List, [], ◌∷◌, ◌++◌, map, ap, sym, subst, refl, suc, drop, get_or, length, arith, add-one, min, length-drop}
-use Rattle.std.proofs.Math.Seq.{drop-cons}
+use Rattle.std.proofs.Common.{◌≡◌, ◌∙◌, ◌+◌, ◌-◌, ◌<◌, ◌≤◌, ◌^◌, ◌↔◌, ℕ, Bool, IsTrue, List, [], ◌∷◌, ◌++◌, map, ap, sym, subst, refl, zero, suc, drop, take, get_or, length, arith, add-one, min, length-drop}
+use Rattle.std.proofs.Math.Seq.{drop-cons, take-add}
 use Rattle.std.proofs.lemmas.Bool.Decides.{nat_tests}
 use Rattle.std.proofs.lemmas.Cmp.{nat_list_cmp_total, tied_itself}
 use Rattle.std.proofs.lemmas.List.{map-append}
 use Rattle.std.proofs.lemmas.List.Elements.{All-map, All-weaker}
 use Rattle.std.specs.Char.{to_ascii_lowercase, to_ascii_uppercase}
-use Rattle.std.specs.Cmp.{Equal-is}
+use Rattle.std.specs.Cmp.{Equal-is, nat_cmp_is}
 use Rattle.std.specs.Cmp.Lexicographic.{slice_cmp}
 use Rattle.std.specs.FinMap.{nat_cmp-IsAntisymmetric, slice_cmp-IsAntisymmetric}
 use Rattle.std.specs.Ordering.{is_eq, nat_cmp}
@@ -50,6 +50,26 @@ ended (x ∷ xs) (y ∷ ys) m n i first second end = absurd (omega arith)
 pub ends : (units others : List ℕ) (i : ℕ) → i ≡ min (length units) (length others)
     → nat_cmp (length units) (length others) ≡ slice_cmp nat_cmp (uppers (drop i units)) (uppers (drop i others))
 ends units others i end = ended (drop i units) (drop i others) (length units) (length others) i (length-drop i units) (length-drop i others) end
+
+-- lists that are the same up to a place, and then in a block
+pub alike_more : (xs ys : List ℕ) (n k : ℕ) → uppers (take n xs) ≡ uppers (take n ys) → uppers (take k (drop n xs)) ≡ uppers (take k (drop n ys))
+    → uppers (take (n + k) xs) ≡ uppers (take (n + k) ys)
+alike_more xs ys n k front block = parts xs ∙ (λ i. front i ++ block i) ∙ sym (parts ys)
+  where
+    parts : (us : List ℕ) → uppers (take (n + k) us) ≡ uppers (take n us) ++ uppers (take k (drop n us))
+    parts us = ap uppers (take-add n k us) ∙ map-append upper (take n us) (take k (drop n us))
+
+-- what is left decides
+pub left_decides : (k : ℕ) (xs ys : List ℕ) → k ≤ length xs → k ≤ length ys → uppers (take k xs) ≡ uppers (take k ys)
+    → slice_cmp nat_cmp (uppers (drop k xs)) (uppers (drop k ys)) ≡ slice_cmp nat_cmp (uppers xs) (uppers ys)
+left_decides zero xs ys l m e = refl
+left_decides (suc k) [] ys l m e = absurd (omega (arith, l))
+left_decides (suc k) (x ∷ xs) [] l m e = absurd (omega (arith, m))
+left_decides (suc k) (x ∷ xs) (y ∷ ys) l m e =
+    let first : upper x ≡ upper y = cc in
+    let rest : uppers (take k xs) ≡ uppers (take k ys) = cc in
+    let tie : nat_cmp (upper x) (upper y) ≡ Equal = sym (nat_cmp_is (upper x) (upper y) Equal first) in
+    left_decides k xs ys (omega (arith, l)) (omega (arith, m)) rest ∙ sym (rw tie refl)
 
 -- lists tie exactly where they are the same
 pub ties : (xs ys : List ℕ) → (slice_cmp nat_cmp xs ys ≡ Equal) ↔ (xs ≡ ys)

@@ -1,15 +1,15 @@
 -- The units of a text that is read character by character, and written part by part.
-use Rattle.std.proofs.Common.{inl, inr, map, min, replicate, ◌≡◌, ℕ, ◌+◌, ◌-◌, ◌/◌, ◌%◌, ◌<◌, ◌≤◌, ◌^◌, set, take, drop, get_or, List, [], ◌∷◌, ◌++◌, length, append_assoc, length-append, ap, sym, subst, ◌∙◌, arith}
+use Rattle.std.proofs.Common.{inl, inr, refl, suc, map, min, replicate, ◌≡◌, ℕ, ◌+◌, ◌-◌, ◌/◌, ◌%◌, ◌<◌, ◌≤◌, ◌^◌, set, take, drop, get_or, List, [], ◌∷◌, ◌++◌, length, append_assoc, length-append, ap, sym, subst, ◌∙◌, arith}
 use Rattle.std.proofs.lemmas.Grind.{common_steps, flat_map-append}
 use Rattle.std.proofs.Math.Seq.{take-append-add}
-use Rattle.std.proofs.lemmas.Bool.{cases_lt}
+use Rattle.std.proofs.lemmas.Bool.{cases_lt, lt-ltb}
 use Rattle.std.proofs.lemmas.List.{append-nil, drop_all, drop_at, drop-drop, drop-replicate, length-replicate, map-append, take-append-drop, take-append-le, take_all, take_at, take_more, take_more_set}
-use Rattle.std.proofs.lemmas.Str.{chars-append, chars-nil, chars_past_char, IsUtf8-encode}
+use Rattle.std.proofs.lemmas.Str.{chars-append, chars-IsAscii, chars-nil, chars_past_char, IsUtf8-encode}
 use Rattle.std.specs.Char.{IsScalar}
 use Rattle.std.specs.Char.Escape.{encode_utf16}
 use Rattle.std.specs.List.{flat_map}
 use Rattle.std.specs.Prelude.{encode_utf8}
-use Rattle.std.specs.Str.{chars, IsUtf8}
+use Rattle.std.specs.Str.{chars, IsAscii, IsUtf8}
 use Rattle.uefi_text.proofs.TextsInBuffers.{counted_fits, text_ended}
 use Rattle.uefi_text.specs.UnalignedCStr16.{with_prefix}
 use Rattle.uefi_text.specs.Units.{nul_terminated, replaced}
@@ -48,6 +48,16 @@ unfolding utf16_units
 units_one c scalar =
     let one = chars_past_char (encode_utf8 c) [] c (IsUtf8-encode c scalar) (sym (append-nil (encode_utf8 c))) in
     ap (λ (cs : List ℕ). flat_map encode_utf16 cs) (one ∙ ap (λ (cs : List ℕ). c ∷ cs) chars-nil) ∙ append-nil (encode_utf16 c)
+
+-- the units of ASCII
+pub encoded_ascii : (text : List ℕ) → IsAscii text → flat_map encode_utf16 (chars text) ≡ text
+encoded_ascii text ascii = ap (flat_map encode_utf16) (chars-IsAscii text ascii) ∙ each text ascii
+  where
+    each : (us : List ℕ) → IsAscii us → flat_map encode_utf16 us ≡ us
+    each [] h = refl
+    each (u ∷ us) h =
+        let one : encode_utf16 u ≡ u ∷ [] = rw (lt-ltb u 0x1_0000 (omega (arith, h 0))) refl in
+        (λ i. one i ++ each us (λ n. h (suc n)) i)
 
 -- one unit more is copied, `replace` in place of `search`
 pub replaced_more : (search replace : ℕ) (places us : List ℕ) (i : ℕ) → i < length places → i < length us

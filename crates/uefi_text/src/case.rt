@@ -8,7 +8,7 @@
 //! The letters that have a case are `a` to `z` and the small letters of Latin-1, U+00E0 to U+00FE
 //! except the division sign U+00F7. The upper case of a letter is 32 below it. Any other character
 //! is its own upper case and its own lower case. `specs/Case.antt` has the definitions.
-ghost use Rattle.std.specs.Prelude.{◌≡◌, ◌↔◌, IsTrue, map};
+ghost use Rattle.std.specs.Prelude.{◌≡◌, ◌≤◌, ◌↔◌, IsTrue, length, map, min, take};
 ghost use Rattle.uefi_text.specs.Case.{caseless_order, in_case, is_lowercase, lower, lowers, upper, uppers};
 ghost use Rattle.uefi_text.specs.Views.{text_of, units_of};
 
@@ -21,7 +21,8 @@ use std::cmp::Ordering;
 fn is_lowercase(unit: u16) -> bool
     ensures { result ≡ is_lowercase unit }
 {
-    matches!(unit, 0x61..=0x7a | 0xe0..=0xf6 | 0xf8..=0xfe)
+    // Without branches, so that a loop over units becomes vector code.
+    (0x61 <= unit) & (unit <= 0x7a) | (0xe0 <= unit) & (unit <= 0xfe) & (unit != 0xf7)
 }
 
 /// Returns a unit in upper case.
@@ -107,6 +108,40 @@ pub fn make_lowercase(units: &mut [u16])
     set_case(units, Case::Lower);
 }
 
+/// The number of units that are compared together. Without an early exit among them, the comparison
+/// becomes vector code.
+const BLOCK: usize = 8;
+
+/// Returns whether two blocks of the same length are the same without case.
+#[inline(always)]
+fn are_blocks_alike(block: &[u16], other: &[u16]) -> bool
+    requires { length block.now ≡ length other.now }
+    ensures { IsTrue result ↔ (uppers block.now ≡ uppers other.now) }
+{
+    let mut alike = true;
+    for i in 0..block.len() {
+        alike &= upper(block[i]) == upper(other[i]);
+    }
+    alike
+}
+
+/// Returns an index before which both lists are the same without case. Compares the units in
+/// blocks, up to a block that differs, or to less than a block.
+#[inline(always)]
+fn alike_blocks_end(units: &[u16], others: &[u16]) -> usize
+    ensures within { result ≤ min (length units.now) (length others.now) }
+    ensures alike { uppers (take result units.now) ≡ uppers (take result others.now) }
+{
+    let len = units.len().min(others.len());
+    let mut end = 0;
+    while BLOCK <= len - end
+        && are_blocks_alike(&units[end..end + BLOCK], &others[end..end + BLOCK])
+    {
+        end += BLOCK;
+    }
+    end
+}
+
 /// Compares two lists of units without case. The first units that differ in upper case decide. If
 /// one list is a prefix of the other, the shorter list is less.
 ///
@@ -116,7 +151,7 @@ pub fn make_lowercase(units: &mut [u16])
 pub fn cmp_ignore_case(units: &[u16], others: &[u16]) -> Ordering
     ensures { result ≡ caseless_order units.now others.now }
 {
-    for i in 0..units.len().min(others.len()) {
+    for i in alike_blocks_end(units, others)..units.len().min(others.len()) {
         let order = upper(units[i]).cmp(&upper(others[i]));
         if order != Ordering::Equal {
             return order;

@@ -1,7 +1,7 @@
 //! Texts that are written to a caller's buffer as UTF-16.
 #![tactic(auto, using(crate::proofs::Puts::puts))]
 
-ghost use Rattle.std.specs.Prelude.{◌≡◌, ℕ, ◌∷◌, ◌++◌, ◌+◌, ◌≤◌, [], List, length, map, take, Some};
+ghost use Rattle.std.specs.Prelude.{◌≡◌, ℕ, ◌∷◌, ◌++◌, ◌+◌, ◌-◌, ◌≤◌, [], List, length, map, min, take, Some};
 ghost use Rattle.std.specs.Char.Escape.{encode_utf16};
 ghost use Rattle.uefi_text.specs.UnalignedCStr16.{with_prefix};
 ghost use Rattle.uefi_text.specs.UnitTexts.{AreSunk, utf16_units, written_len, buffer_too_small_text};
@@ -58,6 +58,16 @@ pub fn sink_unit(buffer: &mut [u16], len: usize, unit: u16) -> usize
     len.saturating_add(1)
 }
 
+/// Returns from where to where a buffer that was given `len` units before takes `count` more, as many
+/// as fit.
+fn places_of_part(room: usize, len: usize, count: usize) -> (usize, usize)
+    ensures start { result.0 ≡ min len room }
+    ensures end { result.1 ≡ result.0 + min count (room - result.0) }
+{
+    let start = len.min(room);
+    (start, start + count.min(room - start))
+}
+
 /// Copies the first of some units to `places`, with `replace` for each `search`.
 fn copy_replaced(places: &mut [u16], units: &[u16], search: u16, replace: u16)
     requires { length places.now ≤ length units.now }
@@ -80,10 +90,19 @@ pub fn sink_replaced(
     ensures { (before old : List ℕ) → AreSunk before old buffer.old len →
         AreSunk (before ++ map (replaced search replace) units.now) old buffer.new result }
 {
-    let start = len.min(buffer.len());
-    let end = start + units.len().min(buffer.len() - start);
+    let (start, end) = places_of_part(buffer.len(), len, units.len());
     copy_replaced(&mut buffer[start..end], units, search, replace);
     len.saturating_add(units.len())
+}
+
+/// Copies the first of some bytes to `places`, each as a unit.
+fn copy_bytes(places: &mut [u16], bytes: &[u8])
+    requires { length places.now ≤ length bytes.now }
+    ensures { places.new ≡ take (length places.old) bytes.now }
+{
+    for i in 0..places.len() {
+        places[i] = u16::from(bytes[i]);
+    }
 }
 
 /// A buffer, and how many units were written to it, whether it has room for them or not.
@@ -111,6 +130,17 @@ impl<'b> UnitSink<'b> {
         self.len = sink_unit(self.buffer, self.len, unit);
     }
 
+    /// Adds bytes, each as a unit.
+    fn add_bytes(&mut self, bytes: &[u8])
+        ensures same_reference { self.new.buffer.ghost_name ≡ self.old.buffer.ghost_name }
+        ensures sunk { (units old : List ℕ) → AreSunk units old self.old.buffer.now self.old.len →
+            AreSunk (units ++ bytes.now) old self.new.buffer.now self.new.len }
+    {
+        let (start, end) = places_of_part(self.buffer.len(), self.len, bytes.len());
+        copy_bytes(&mut self.buffer[start..end], bytes);
+        self.len = self.len.saturating_add(bytes.len());
+    }
+
     /// Adds the one or two units of a character.
     fn add_char(&mut self, character: char)
         ensures same_reference { self.new.buffer.ghost_name ≡ self.old.buffer.ghost_name }
@@ -134,6 +164,10 @@ impl<'b> TextSink for UnitSink<'b> {
         AreSunk (units ++ utf16_units text) start new.buffer.now new.len)) };
 
     fn put_str(&mut self, text: &str) {
+        if text.is_ascii() {
+            self.add_bytes(text.as_bytes());
+            return;
+        }
         for character in text.chars() {
             self.add_char(character);
         }

@@ -1,7 +1,9 @@
-use Rattle.std.proofs.Common.{map, arith}
+use Rattle.std.proofs.Common.{List, map, arith, subst, sym}
 use Rattle.std.proofs.lemmas.List.{length-map}
-use Rattle.uefi_node_table.specs.Rows.{as_form}
+use Rattle.std.specs.Prelude.{IsTrue}
+use Rattle.uefi_node_table.specs.Rows.{Form, as_form, have_one_kind}
 use Rattle.uefi_node_table.specs.Table.{forms}
+use Rattle.uefi_node_table.proofs.Groups.{one_kind}
 use Rattle.uefi_node_reader.specs.TableReading.{form_place}
 use Rattle.uefi_node_reader.proofs.Groups.{past_step, within_step}
 use Rattle.uefi_node_reader.proofs.form_places.form_place.Goals as goal
@@ -20,3 +22,8 @@ loop-index-preserved g c =
     let past = past_step c.loop-index.index c.loop-index-test.true (map as_form c.group-rows.result.now) c.group-rows.ensures.forms test
     c.loop-index.before c.place_in-place.result (form_place test forms) c.place_in-place.ensures (omega (arith, size)) c.loop-index.invariant.0 in
     (omega (arith, size, past), omega (arith, c.group-rows.ensures.few))
+
+pub place_in-place-requires : goal.place_in-place-requires
+place_in-place-requires g c =
+    subst (λ (group : List Form). IsTrue (have_one_kind group)) (sym c.group-rows.ensures.forms)
+    (one_kind c.loop-index.index c.loop-index-test.true)

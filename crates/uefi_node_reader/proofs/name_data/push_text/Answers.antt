@@ -4,11 +4,18 @@ use Rattle.std.proofs.lemmas.Iterator.Consumers.{YieldsList-end}
 use Rattle.std.proofs.lemmas.List.{map-id}
 use Rattle.std.specs.Char.Escape.{encode_utf16}
 use Rattle.std.specs.List.{flat_map}
-use Rattle.std.specs.Str.{chars}
+use Rattle.std.specs.Str.{chars, IsAscii}
+use Rattle.uefi_text.proofs.SunkUnits.{encoded_ascii}
 use Rattle.uefi_text.specs.UnitBytes.{unit_bytes}
 use Rattle.uefi_node_reader.specs.Counted.{pushed_bytes}
 use Rattle.uefi_node_reader.proofs.NamedFiles.{text_more}
 use Rattle.uefi_node_reader.proofs.name_data.push_text.Goals as goal
+
+pub returns-then-is_ascii : goal.returns-then-is_ascii
+returns-then-is_ascii c =
+    let ascii : IsAscii c.args.text.now = rw c.if-is_ascii.true at c.is_ascii.ensures.cases in
+    let same = c.as_bytes.ensures.value ∙ sym (encoded_ascii c.args.text.now ascii) in
+    c.push_ascii.ensures ∙ ap (λ (x : List ℕ). pushed_bytes (c.args.places.now, c.args.len) (unit_bytes x)) same
 
 pub loop-c-preserved : goal.loop-c-preserved
 loop-c-preserved c =

@@ -14,12 +14,6 @@ use Rattle.uefi_node_reader.proofs.Heads.{place_shown}
 use Rattle.uefi_node_reader.proofs.ParsedNodes.{kept-fitting}
 use Rattle.uefi_node_reader.proofs.table_reader.read_kept.Goals as goal
 
-pub returns-then-not-begin_alike : goal.returns-then-not-begin_alike
-returns-then-not-begin_alike c =
-    let form : Form = as_form c.args.row.now in
-    ap (λ (o : Option (List ℕ × List ℕ)). kept forms c.args.place form o) (sym (form_unread form c.args.text.now
-    (ap (λ (l : List ℕ). after l c.args.text.now) (sym c.as_bytes.ensures.value) ∙ c.begin_alike.ensures c.if-not-begin_alike.true)))
-
 pub returns-in_err-node : goal.returns-in_err-node
 returns-in_err-node c =
     let form : Form = as_form c.args.row.now in
