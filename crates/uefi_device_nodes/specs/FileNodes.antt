@@ -11,13 +11,13 @@ pub record IsFilePath (node : Node) : Type 0 where
   pub sub_type : node.sub_type ≡ FILE_PATH
   pub whole : length node.content % 2 ≡ 0
 
--- why a node names no file, or none
+-- why a node does not name a file, or none
 abbrev pub file_path_refusal : Node → Option NodeConversionError
 file_path_refusal node =
     if (node.device_type == MEDIA_TYPE) && (node.sub_type == FILE_PATH)
     then (if length node.content % 2 == 0 then None else Some InvalidLength)
     else Some DifferentType
 
--- the test for the type and the sub-type of a node that names a file
+-- whether a node has the type and the sub-type of a file node
 abbrev pub is_file : Node → Bool
 is_file node = (node.device_type == MEDIA_TYPE) && (node.sub_type == FILE_PATH)

@@ -1,4 +1,4 @@
--- Nodes by their kinds.
+-- The kinds of nodes.
 use Rattle.std.specs.Prelude.{◌≡◌, ℕ, ◌==◌, nat_lt, if◌then◌else◌, List, [], ◌∷◌, ◌++◌, length, Option, Some, None}
 use Rattle.uefi_device_nodes.specs.Nodes.{Node}
 use Rattle.uefi_device_nodes.specs.NodeViews.{data_of, file_node}
@@ -12,12 +12,12 @@ use Rattle.uefi_device_nodes.specs.declared.node_enum.DevicePathNodeEnum.{Device
 use Rattle.uefi_device_nodes.specs.declared.node_enum.DevicePathNodeEnum.TheVariants as view
 
 module _ {kind sub_kind least : ℕ} where
-  -- the view shows this node: it is of the kind of the view, and the view has its data
+  -- a view shows a node: the node is of the view's kind, and the view has its data
   pub record Shows (shown : TypedNode kind sub_kind least) (node : Node) : Type 0 where
     pub of_kind : IsOfKind kind sub_kind least node
     pub same_data : data_of shown ≡ node.content
 
--- the view is that of the kind of this node, and shows it
+-- a view belongs to the kind of a node, and shows the node
 abbrev pub IsNodeOf : DevicePathNodeEnum → Node → Type 0
 IsNodeOf (view.HardwarePci shown) node = Shows shown node
 IsNodeOf (view.HardwarePccard shown) node = Shows shown node
@@ -72,25 +72,25 @@ IsNodeOf (view.MediaRelativeOffsetRange shown) node = Shows shown node
 IsNodeOf (view.MediaRamDisk shown) node = Shows shown node
 IsNodeOf (view.BiosBootSpecBootSpecification shown) node = Shows shown node
 
--- the kinds of type Hardware whose nodes have fields: the sub-type of each, and how many bytes of data
--- a node has at least
+-- the kinds of type Hardware whose nodes have fields: the sub-type of each, and the least number of bytes of
+-- data
 abbrev pub hardware_kinds : List (ℕ × ℕ)
 hardware_kinds = (PCI, PCI_LEAST) ∷ (PCCARD, PCCARD_LEAST) ∷ (MEMORY_MAPPED, MEMORY_MAPPED_LEAST) ∷
     (HARDWARE_VENDOR, HARDWARE_VENDOR_LEAST) ∷ (CONTROLLER, CONTROLLER_LEAST) ∷ (BMC, BMC_LEAST) ∷
     []
 
--- those of type ACPI
+-- the kinds of type ACPI
 abbrev pub acpi_kinds : List (ℕ × ℕ)
 acpi_kinds = (ACPI, ACPI_LEAST) ∷ (EXPANDED, EXPANDED_LEAST) ∷ (ADR, ADR_LEAST) ∷
     (NVDIMM, NVDIMM_LEAST) ∷ []
 
--- those of type Messaging that are devices on buses, serial ports and vendors' own
+-- the kinds of type Messaging for devices on buses, serial ports and vendor-defined nodes
 abbrev pub bus_kinds : List (ℕ × ℕ)
 bus_kinds = (IEEE1394, IEEE1394_LEAST) ∷ (USB, USB_LEAST) ∷ (I2O, I2O_LEAST) ∷
     (MESSAGING_VENDOR, MESSAGING_VENDOR_LEAST) ∷ (UART, UART_LEAST) ∷ (USB_CLASS, USB_CLASS_LEAST) ∷
     (USB_WWID, USB_WWID_LEAST) ∷ []
 
--- those that are storage
+-- the kinds of type Messaging for storage
 abbrev pub storage_kinds : List (ℕ × ℕ)
 storage_kinds = (ATAPI, ATAPI_LEAST) ∷ (SCSI, SCSI_LEAST) ∷ (FIBRE_CHANNEL, FIBRE_CHANNEL_LEAST) ∷
     (DEVICE_LOGICAL_UNIT, DEVICE_LOGICAL_UNIT_LEAST) ∷ (SATA, SATA_LEAST) ∷
@@ -98,7 +98,7 @@ storage_kinds = (ATAPI, ATAPI_LEAST) ∷ (SCSI, SCSI_LEAST) ∷ (FIBRE_CHANNEL, 
     (NVME_NAMESPACE, NVME_NAMESPACE_LEAST) ∷ (UFS, UFS_LEAST) ∷ (SD, SD_LEAST) ∷
     (EMMC, EMMC_LEAST) ∷ (NVDIMM_NAMESPACE, NVDIMM_NAMESPACE_LEAST) ∷ []
 
--- those that name networks, and what is reached over them
+-- the kinds of type Messaging for networks, and for what is reached over them
 abbrev pub network_kinds : List (ℕ × ℕ)
 network_kinds = (INFINIBAND, INFINIBAND_LEAST) ∷ (MAC_ADDRESS, MAC_ADDRESS_LEAST) ∷
     (IPV4, IPV4_LEAST) ∷ (IPV6, IPV6_LEAST) ∷ (ISCSI, ISCSI_LEAST) ∷ (VLAN, VLAN_LEAST) ∷
@@ -106,22 +106,22 @@ network_kinds = (INFINIBAND, INFINIBAND_LEAST) ∷ (MAC_ADDRESS, MAC_ADDRESS_LEA
     (BLUETOOTH_LE, BLUETOOTH_LE_LEAST) ∷ (DNS, DNS_LEAST) ∷ (REST_SERVICE, REST_SERVICE_LEAST) ∷
     (NVME_OF_NAMESPACE, NVME_OF_NAMESPACE_LEAST) ∷ []
 
--- all of type Messaging
+-- all kinds of type Messaging
 abbrev pub messaging_kinds : List (ℕ × ℕ)
 messaging_kinds = bus_kinds ++ (storage_kinds ++ network_kinds)
 
--- those of type Media
+-- the kinds of type Media, except files
 abbrev pub media_kinds : List (ℕ × ℕ)
 media_kinds = (HARD_DRIVE, HARD_DRIVE_LEAST) ∷ (CD_ROM, CD_ROM_LEAST) ∷
     (MEDIA_VENDOR, MEDIA_VENDOR_LEAST) ∷ (PROTOCOL, PROTOCOL_LEAST) ∷
     (FIRMWARE_FILE, FIRMWARE_FILE_LEAST) ∷ (FIRMWARE_VOLUME, FIRMWARE_VOLUME_LEAST) ∷
     (RELATIVE_OFFSET_RANGE, RELATIVE_OFFSET_RANGE_LEAST) ∷ (RAM_DISK, RAM_DISK_LEAST) ∷ []
 
--- those of type BIOS Boot Specification
+-- the kinds of type BIOS Boot Specification
 abbrev pub bios_boot_spec_kinds : List (ℕ × ℕ)
 bios_boot_spec_kinds = (BOOT_SPECIFICATION, BOOT_SPECIFICATION_LEAST) ∷ []
 
--- why a node is of none of these kinds, or none
+-- why a node is of no kind in a list of kinds of its type, or none
 abbrev pub refusal_among : List (ℕ × ℕ) → Node → Option NodeConversionError
 refusal_among [] node = Some UnsupportedType
 refusal_among (kind ∷ kinds) node = if node.sub_type == kind.0

@@ -1,11 +1,11 @@
--- What is printed where no node stands at a place, and where a node is not of a kind.
+-- The texts of the errors of nodes.
 use Rattle.std.specs.Prelude.{ℕ, List, codes}
 use Rattle.uefi_device_nodes.specs.declared.errors.NodeError.{NodeError}
 use Rattle.uefi_device_nodes.specs.declared.errors.NodeError.TheVariants as node
 use Rattle.uefi_device_nodes.specs.declared.errors.NodeConversionError.{NodeConversionError}
 use Rattle.uefi_device_nodes.specs.declared.errors.NodeConversionError.TheVariants as conversion
 
--- what is printed of the cause for which no node stands at a place
+-- the text of an error for bytes that begin with no node
 abbrev pub node_error_text : NodeError → List ℕ
 node_error_text node.Missing = codes "no end node ends the device path"
 node_error_text node.TruncatedHeader = codes "the bytes end in a node's header"
@@ -14,7 +14,7 @@ node_error_text node.LengthBelowHeader = codes "a node is shorter than its heade
 node_error_text node.EndWithData = codes "an end node has data"
 node_error_text node.BeyondEnd = codes "a node is longer than the bytes that are left"
 
--- what is printed where a node is not of a kind
+-- the text of an error for a node that is not of a kind
 abbrev pub node_conversion_error_text : NodeConversionError → List ℕ
 node_conversion_error_text conversion.DifferentType = codes "the node is of another type or sub-type"
 node_conversion_error_text conversion.InvalidLength = codes "no node of this kind has this length"

@@ -4,14 +4,14 @@ use Rattle.uefi_device_nodes.specs.Nodes.{stated_length}
 use Rattle.uefi_device_nodes.specs.declared.errors.NodeError.{NodeError}
 use Rattle.uefi_device_nodes.specs.declared.errors.NodeError.TheVariants.{Missing, TruncatedHeader, UnknownEnd, LengthBelowHeader, EndWithData, BeyondEnd}
 
--- the tests for a header that states the type of an end node, and a sub-type of one
+-- whether a header states the type End, and a sub-type of an end node
 abbrev pub is_type_end : List ℕ → Bool
 is_type_end bytes = slice_index bytes 0 == 0x7f
 
 abbrev pub is_sub_type_end : List ℕ → Bool
 is_sub_type_end bytes = (slice_index bytes 1 == 0x01) || (slice_index bytes 1 == 0xff)
 
--- why no node begins at these bytes: the first of these that holds, or none
+-- why no node begins at these bytes: the first reason that holds, or none
 abbrev pub node_fault : List ℕ → Option NodeError
 node_fault bytes =
     if length bytes == 0 then Some Missing
@@ -22,7 +22,7 @@ node_fault bytes =
     else if nat_lt (length bytes) (stated_length bytes) then Some BeyondEnd
     else None
 
--- where in a node the bytes begin that are at fault: with it, with its sub-type, or with its length
+-- where in a node the faulty bytes begin: at its start, at its sub-type or at its length
 abbrev pub fault_place : NodeError → ℕ
 fault_place Missing = 0
 fault_place TruncatedHeader = 0

@@ -1,4 +1,4 @@
--- Nodes by their fields: the data that has them, and what data has in them.
+-- The fields of nodes: how data is made from values, and what it contains afterwards.
 use Rattle.std.specs.Prelude.{◌≡◌, ℕ, ◌<◌, ◌^◌, nat_le, Bool, ◌&&◌, List, [], ◌∷◌, ◌++◌, take, drop, length}
 use Rattle.std.proofs.Math.ListN.{replicate}
 use Rattle.std.specs.Int.{bytes_low_first}
@@ -17,7 +17,7 @@ abbrev pub field_of : FieldValue → Field
 field_of (number field n) = field
 field_of (bytes field bs) = field
 
--- the bytes of a value: of a number the low byte first
+-- the bytes of a value; those of a number with the low byte first
 abbrev pub bytes_of_value : FieldValue → List ℕ
 bytes_of_value (number field n) = bytes_low_first 0 field.width n
 bytes_of_value (bytes field bs) = bs
@@ -27,23 +27,23 @@ abbrev pub FitsField : FieldValue → Type 0
 FitsField (number field n) = n < 256 ^ field.width
 FitsField (bytes field bs) = length bs ≡ field.width
 
--- data that has a value in its field
+-- data contains a value in the value's field
 abbrev pub HasValue : List ℕ → FieldValue → Type 0
 HasValue content (number field n) = number_in field content ≡ n
 HasValue content (bytes field bs) = bytes_in field content ≡ bs
 
--- data with a value put into its field
+-- data with a value put into the value's field
 unfoldable pub with_value : FieldValue → List ℕ → List ℕ
 with_value value content = take (field_of value).place content
     ++ (bytes_of_value value ++ drop (field_of value).width (drop (field_of value).place content))
 
--- data with each of these values put into its field
+-- data with each value put into its field
 abbrev pub with_values : List FieldValue → List ℕ → List ℕ
 with_values [] content = content
 with_values (value ∷ values) content = with_values values (with_value value content)
 
--- the test for fields that begin at a place or after it, each after the end of the one before, and end
--- within a length
+-- whether fields do not overlap: each begins at or after the end of the one before it, the first at or after
+-- a place, and the last ends within a length
 abbrev pub lie_apart : ℕ → List FieldValue → ℕ → Bool
 lie_apart from [] len = nat_le from len
 lie_apart from (value ∷ values) len =
@@ -54,11 +54,11 @@ abbrev pub AllFit : List FieldValue → Type 0
 AllFit [] = Unit {0}
 AllFit (value ∷ values) = FitsField value × AllFit values
 
--- data that has each of these values in its field
+-- data contains each value in its field
 abbrev pub HasValues : List ℕ → List FieldValue → Type 0
 HasValues content [] = Unit {0}
 HasValues content (value ∷ values) = HasValue content value × HasValues content values
 
--- the data of a node: zeros with its fields put into them, and the bytes after them
+-- the data of a node: zeros with the fields put into them, and then the bytes after the fields
 abbrev pub content_of : ℕ → List FieldValue → List ℕ → List ℕ
 content_of size values tail = with_values values (replicate size 0 ++ tail)

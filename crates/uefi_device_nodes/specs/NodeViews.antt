@@ -1,4 +1,4 @@
--- What a borrowed node shows. Other crates see these words alone, and no field.
+-- What contracts see of borrowed nodes. Other crates use only these words, and no field.
 use Rattle.std.specs.Prelude.{ℕ, List}
 use Rattle.uefi_device_nodes.specs.Nodes.{Node, first_node}
 use Rattle.uefi_device_nodes.specs.NodeTexts.{node_text}
@@ -11,11 +11,11 @@ use Rattle.uefi_device_nodes.specs.declared.media.FilePath.{FilePath}
 unfoldable pub node_of : DevicePathNode → Node
 node_of node = first_node node.bytes.now
 
--- what is printed of a node, in the form that was asked for
+-- the text of a node, in the requested form
 unfoldable pub printed_node : NodeText → List ℕ
 printed_node text = node_text text.display_only text.allow_shortcuts (node_of text.node)
 
--- the node that names a file
+-- the node of a file
 unfoldable pub file_node : FilePath → Node
 file_node path = node_of path.node
 

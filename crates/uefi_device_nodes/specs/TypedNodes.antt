@@ -1,4 +1,4 @@
--- Nodes whose data have fields at fixed places.
+-- Nodes whose data has fields at fixed offsets.
 use Rattle.std.specs.Prelude.{◌≡◌, ℕ, ◌+◌, ◌≤◌, ◌==◌, ◌&&◌, nat_le, nat_lt, Bool, if◌then◌else◌, List, drop, length, slice_range, Option, Some, None}
 use Rattle.uefi_text.specs.Packed.{little_endian}
 use Rattle.uefi_node_table.specs.declared.layouts.Field.{Field}
@@ -12,7 +12,7 @@ pub record IsOfKind (kind sub_kind least : ℕ) (node : Node) : Type 0 where
   pub sub_type : node.sub_type ≡ sub_kind
   pub long : least ≤ length node.content
 
--- the test for such a node
+-- whether a node is of a kind
 abbrev pub is_kind : ℕ → ℕ → ℕ → Node → Bool
 is_kind kind sub_kind least node =
     (node.device_type == kind) && ((node.sub_type == sub_kind) && nat_le least (length node.content))
@@ -24,7 +24,7 @@ kind_refusal kind sub_kind least node =
     then (if nat_lt (length node.content) least then Some InvalidLength else None)
     else Some DifferentType
 
--- the number that `size` bytes of data encode, from a place on, the low byte first
+-- the number that `size` bytes of data from a place on encode, the low byte first
 abbrev pub number_at : ℕ → ℕ → List ℕ → ℕ
 number_at place size content = little_endian (slice_range content place (place + size))
 
@@ -40,6 +40,6 @@ number_in field content = number_at field.place field.width content
 abbrev pub bytes_in : Field → List ℕ → List ℕ
 bytes_in field content = slice_range content field.place (end_of field)
 
--- the bytes of data from where a field begins
+-- the bytes of data from the start of a field
 abbrev pub bytes_from : Field → List ℕ → List ℕ
 bytes_from field content = drop field.place content

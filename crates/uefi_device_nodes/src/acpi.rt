@@ -27,14 +27,14 @@ use uefi_text::UnalignedSlice;
 pub type Acpi<'a> = TypedNode<'a, ACPI_TYPE, ACPI, ACPI_LEAST>;
 
 impl<'a> Acpi<'a> {
-    /// The number of its hardware ID, `_HID`.
+    /// Returns the number of its hardware ID, `_HID`.
     pub fn hid(&self) -> u32
         ensures { result ≡ number_in ACPI_HID (data_of self.now) }
     {
         self.number(ACPI_HID)
     }
 
-    /// The number of its unique ID, `_UID`.
+    /// Returns the number of its unique ID, `_UID`.
     pub fn uid(&self) -> u32
         ensures { result ≡ number_in ACPI_UID (data_of self.now) }
     {
@@ -55,49 +55,50 @@ impl<'a> Acpi<'a> {
 pub type Expanded<'a> = TypedNode<'a, ACPI_TYPE, EXPANDED, EXPANDED_LEAST>;
 
 impl<'a> Expanded<'a> {
-    /// The number of its hardware ID, `_HID`.
+    /// Returns the number of its hardware ID, `_HID`.
     pub fn hid(&self) -> u32
         ensures { result ≡ number_in EXPANDED_HID (data_of self.now) }
     {
         self.number(EXPANDED_HID)
     }
 
-    /// The number of its unique ID, `_UID`.
+    /// Returns the number of its unique ID, `_UID`.
     pub fn uid(&self) -> u32
         ensures { result ≡ number_in EXPANDED_UID (data_of self.now) }
     {
         self.number(EXPANDED_UID)
     }
 
-    /// The number of its compatible ID, `_CID`.
+    /// Returns the number of its compatible ID, `_CID`.
     pub fn cid(&self) -> u32
         ensures { result ≡ number_in EXPANDED_CID (data_of self.now) }
     {
         self.number(EXPANDED_CID)
     }
 
-    /// The three strings of its IDs, each up to a NUL: those of `_HID`, `_UID` and `_CID`.
+    /// Returns the bytes of the strings of `_HID`, `_UID` and `_CID`, in this order. A NUL ends
+    /// each string.
     pub fn id_strings(&self) -> &'a [u8]
         ensures { result.now ≡ bytes_from EXPANDED_ID_STRINGS (data_of self.now) }
     {
         self.tail(EXPANDED_ID_STRINGS)
     }
 
-    /// The string of `_HID`, without its NUL.
+    /// Returns the string of `_HID`, without its NUL.
     pub fn hid_str(&self) -> &'a [u8]
         ensures { result.now ≡ hid_string (bytes_from EXPANDED_ID_STRINGS (data_of self.now)) }
     {
         id_strings(self.id_strings()).hid
     }
 
-    /// The string of `_UID`, without its NUL; empty where the data ends before it.
+    /// Returns the string of `_UID`, without its NUL. It is empty if the data ends before it.
     pub fn uid_str(&self) -> &'a [u8]
         ensures { result.now ≡ uid_string (bytes_from EXPANDED_ID_STRINGS (data_of self.now)) }
     {
         id_strings(self.id_strings()).uid
     }
 
-    /// The string of `_CID`, without its NUL; empty where the data ends before it.
+    /// Returns the string of `_CID`, without its NUL. It is empty if the data ends before it.
     pub fn cid_str(&self) -> &'a [u8]
         ensures { result.now ≡ cid_string (bytes_from EXPANDED_ID_STRINGS (data_of self.now)) }
     {
@@ -116,7 +117,8 @@ impl<'a> Expanded<'a> {
 pub type Adr<'a> = TypedNode<'a, ACPI_TYPE, ADR, ADR_LEAST>;
 
 impl<'a> Adr<'a> {
-    /// The `_ADR` values of the outputs, one or more. Bytes after the last whole one are left out.
+    /// Returns the `_ADR` values of the outputs, at least one. Bytes after the last whole value are
+    /// ignored.
     pub fn adr(&self) -> UnalignedSlice<'a, u32>
         ensures { items_of result
             ≡ packed_items ADR_ADR.width (length (data_of self.now) / ADR_ADR.width) (data_of self.now) }
@@ -136,7 +138,7 @@ impl<'a> Adr<'a> {
 pub type Nvdimm<'a> = TypedNode<'a, ACPI_TYPE, NVDIMM, NVDIMM_LEAST>;
 
 impl<'a> Nvdimm<'a> {
-    /// The handle of the module in the table NFIT.
+    /// Returns the module's handle in the NFIT table.
     pub fn nfit_device_handle(&self) -> u32
         ensures { result ≡ number_in NVDIMM_NFIT_DEVICE_HANDLE (data_of self.now) }
     {

@@ -27,21 +27,21 @@ pub type BootSpecification<'a> = TypedNode<
 >;
 
 impl<'a> BootSpecification<'a> {
-    /// The type of the device, by the BIOS Boot Specification.
+    /// Returns the type of the device, as the BIOS Boot Specification numbers it.
     pub fn device_type(&self) -> u16
         ensures { result ≡ number_in BOOT_SPECIFICATION_DEVICE_TYPE (data_of self.now) }
     {
         self.number(BOOT_SPECIFICATION_DEVICE_TYPE)
     }
 
-    /// Its flags, by the BIOS Boot Specification.
+    /// Returns the flags that the BIOS Boot Specification defines.
     pub fn status_flag(&self) -> u16
         ensures { result ≡ number_in BOOT_SPECIFICATION_STATUS_FLAG (data_of self.now) }
     {
         self.number(BOOT_SPECIFICATION_STATUS_FLAG)
     }
 
-    /// The bytes of its description, with their NUL.
+    /// Returns the bytes of its description, including the NUL.
     pub fn description_string(&self) -> &'a [u8]
         ensures { result.now ≡ bytes_from BOOT_SPECIFICATION_DESCRIPTION_STRING (data_of self.now) }
     {

@@ -1,4 +1,4 @@
-//! What can be added to a device path as a node.
+//! Nodes that can be added to a device path.
 #![tactic(auto)]
 
 ghost use Rattle.std.specs.Prelude.{◌≡◌, length};
@@ -23,23 +23,23 @@ pub trait BuildNode {
     /// The node, as contracts see it.
     ghost node: { Self → Node };
 
-    /// The type and the sub-type.
+    /// Returns the type and the sub-type.
     fn full_type(&self) -> (DeviceType, DeviceSubType)
         ensures device_type { result.0.0 ≡ (node self.now).device_type }
         ensures sub_type { result.1.0 ≡ (node self.now).sub_type };
 
-    /// How many bytes of data the node has.
+    /// Returns the number of bytes of data.
     fn data_len(&self) -> usize
         ensures { result ≡ length (node self.now).content };
 
-    /// Writes the data to bytes, which are as many as [`BuildNode::data_len`] says.
+    /// Writes the data to bytes, whose number is [`BuildNode::data_len`].
     fn write_data(&self, bytes: &mut [u8])
         requires { length bytes.old ≡ length (node self.now).content }
         ensures { bytes.new ≡ (node self.now).content };
 }
 
-/// Copies bytes one by one. `copy_from_slice` is a call of `memmove`, which firmware lacks: so it is public
-/// for what C calls.
+/// Copies bytes one by one, to as many bytes. Public only for the exports to C, because `copy_from_slice`
+/// calls `memmove`, which firmware lacks.
 #[doc(hidden)]
 pub fn copy_bytes(dest: &mut [u8], bytes: &[u8])
     requires { length dest.now ≡ length bytes.now }
@@ -50,7 +50,7 @@ pub fn copy_bytes(dest: &mut [u8], bytes: &[u8])
     }
 }
 
-/// A node that was read, or that another path has.
+/// A node that was read, or a node of another path.
 impl BuildNode for DevicePathNode<'_> {
     ghost node = { node_of };
 
@@ -67,7 +67,7 @@ impl BuildNode for DevicePathNode<'_> {
     }
 }
 
-/// A node of any type, by its data.
+/// A node of any type, with any data.
 ///
 /// ```rust
 /// let mut path = DevicePathBuf::new(rt.alloc())?;
@@ -86,7 +86,7 @@ pub struct RawNode<'a> {
     pub content: &'a [u8],
 }
 
-/// The node of these.
+/// Builds the node from its type, its sub-type and its data.
 impl BuildNode for RawNode<'_> {
     ghost node = { raw_node };
 

@@ -31,7 +31,7 @@ pub struct Acpi {
     pub uid: u32,
 }
 
-/// The node of these fields.
+/// Builds the node from its fields.
 impl Fields for Acpi {
     type Layout = acpi::Acpi<'static>;
 
@@ -65,11 +65,11 @@ pub struct Expanded<'a> {
     pub uid: u32,
     /// The number of its compatible ID, `_CID`.
     pub cid: u32,
-    /// The three strings of its IDs, each with its NUL: those of `_HID`, `_UID` and `_CID`.
+    /// The strings of `_HID`, `_UID` and `_CID`, in this order, each with its NUL.
     pub id_strings: &'a [u8],
 }
 
-/// The node of these fields.
+/// Builds the node from its fields.
 impl<'a> Fields for Expanded<'a> {
     type Layout = TypedNode<'static, ACPI_TYPE, EXPANDED, EXPANDED_FIXED>;
 
@@ -101,11 +101,11 @@ impl<'a> Fields for Expanded<'a> {
 /// ```
 #[derive(Clone, Copy)]
 pub struct Adr<'a> {
-    /// The `_ADR` values of the outputs, one or more.
+    /// The `_ADR` values of the outputs, at least one.
     pub adr: &'a [u32],
 }
 
-/// The node of these fields.
+/// Builds the node from its fields.
 impl<'a> Fields for Adr<'a> {
     type Layout = TypedNode<'static, ACPI_TYPE, ADR, 0>;
 
@@ -132,11 +132,11 @@ impl<'a> Fields for Adr<'a> {
 /// ```
 #[derive(Clone, Copy)]
 pub struct Nvdimm {
-    /// The handle of the module in the table NFIT.
+    /// The module's handle in the NFIT table.
     pub nfit_device_handle: u32,
 }
 
-/// The node of these fields.
+/// Builds the node from its fields.
 impl Fields for Nvdimm {
     type Layout = acpi::Nvdimm<'static>;
 

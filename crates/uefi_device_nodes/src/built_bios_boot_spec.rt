@@ -24,15 +24,15 @@ use uefi_node_table::layouts::{
 /// ```
 #[derive(Clone, Copy)]
 pub struct BootSpecification<'a> {
-    /// The type of the device, by the BIOS Boot Specification.
+    /// The type of the device, as the BIOS Boot Specification numbers it.
     pub device_type: u16,
-    /// Its flags, by the BIOS Boot Specification.
+    /// The flags that the BIOS Boot Specification defines.
     pub status_flag: u16,
-    /// The bytes of its description, with their NUL.
+    /// The bytes of its description, including the NUL.
     pub description_string: &'a [u8],
 }
 
-/// The node of these fields.
+/// Builds the node from its fields.
 impl<'a> Fields for BootSpecification<'a> {
     type Layout = TypedNode<
         'static,

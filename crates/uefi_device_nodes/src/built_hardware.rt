@@ -30,7 +30,7 @@ pub struct Pci {
     pub device: u8,
 }
 
-/// The node of these fields.
+/// Builds the node from its fields.
 impl Fields for Pci {
     type Layout = hardware::Pci<'static>;
 
@@ -56,11 +56,11 @@ impl Fields for Pci {
 /// ```
 #[derive(Clone, Copy)]
 pub struct Pccard {
-    /// The number of the function, from 0 on.
+    /// The number of the function, counted from 0.
     pub function: u8,
 }
 
-/// The node of these fields.
+/// Builds the node from its fields.
 impl Fields for Pccard {
     type Layout = hardware::Pccard<'static>;
 
@@ -87,7 +87,7 @@ impl Fields for Pccard {
 /// ```
 #[derive(Clone, Copy)]
 pub struct MemoryMapped {
-    /// The type of the memory, as in the memory map of the firmware.
+    /// The type of the memory, as in the firmware's memory map.
     pub memory_type: u32,
     /// The address of its first byte.
     pub starting_address: u64,
@@ -95,7 +95,7 @@ pub struct MemoryMapped {
     pub ending_address: u64,
 }
 
-/// The node of these fields.
+/// Builds the node from its fields.
 impl Fields for MemoryMapped {
     type Layout = hardware::MemoryMapped<'static>;
 
@@ -118,7 +118,7 @@ impl Fields for MemoryMapped {
     }
 }
 
-/// A node of a vendor's own, named by a GUID.
+/// A vendor-defined node, identified by a GUID.
 ///
 /// ```rust
 /// let mut path = DevicePathBuf::new(rt.alloc())?;
@@ -136,7 +136,7 @@ pub struct Vendor<'a> {
     pub vendor_defined_data: &'a [u8],
 }
 
-/// The node of these fields.
+/// Builds the node from its fields.
 impl<'a> Fields for Vendor<'a> {
     type Layout = hardware::HardwareVendor<'static>;
 
@@ -174,7 +174,7 @@ pub struct Controller {
     pub controller_number: u32,
 }
 
-/// The node of these fields.
+/// Builds the node from its fields.
 impl Fields for Controller {
     type Layout = hardware::Controller<'static>;
 
@@ -203,13 +203,13 @@ impl Fields for Controller {
 /// ```
 #[derive(Clone, Copy)]
 pub struct Bmc {
-    /// The type of the interface: 0 unknown, 1 KCS, 2 SMIC, 3 BT.
+    /// The type of the interface: 0 is unknown, 1 KCS, 2 SMIC, 3 BT.
     pub interface_type: u8,
-    /// The base address of the interface; its lowest bit is set for I/O ports, and clear for memory.
+    /// The base address of the interface. Its lowest bit is set for I/O ports, and clear for memory.
     pub base_address: u64,
 }
 
-/// The node of these fields.
+/// Builds the node from its fields.
 impl Fields for Bmc {
     type Layout = hardware::Bmc<'static>;
 

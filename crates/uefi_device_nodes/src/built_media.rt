@@ -35,21 +35,21 @@ use uefi_text::CStr16;
 /// ```
 #[derive(Clone, Copy)]
 pub struct HardDrive {
-    /// The number of the partition, from 1 on; 0 is the whole drive.
+    /// The number of the partition, counted from 1, or 0 for the whole drive.
     pub partition_number: u32,
     /// The first block of the partition.
     pub partition_start: u64,
-    /// How many blocks it has.
+    /// The number of its blocks.
     pub partition_size: u64,
-    /// Its signature, of the type that `signature_type` says.
+    /// The signature, whose type is `signature_type`.
     pub partition_signature: [u8; 16],
-    /// The format of the table: 1 is MBR, 2 is GPT.
+    /// The format of the partition table: 1 is MBR, 2 is GPT.
     pub partition_format: u8,
-    /// The type of the signature: 0 is none, 1 is that of an MBR, 2 is a GUID.
+    /// The type of the signature: 0 is none, 1 an MBR signature, 2 a GUID.
     pub signature_type: u8,
 }
 
-/// The node of these fields.
+/// Builds the node from its fields.
 impl Fields for HardDrive {
     type Layout = media::HardDrive<'static>;
 
@@ -92,11 +92,11 @@ pub struct CdRom {
     pub boot_entry: u32,
     /// The first block.
     pub partition_start: u64,
-    /// How many blocks it has.
+    /// The number of its blocks.
     pub partition_size: u64,
 }
 
-/// The node of these fields.
+/// Builds the node from its fields.
 impl Fields for CdRom {
     type Layout = media::CdRom<'static>;
 
@@ -115,7 +115,7 @@ impl Fields for CdRom {
     }
 }
 
-/// A node of a vendor's own, named by a GUID.
+/// A vendor-defined node, identified by a GUID.
 ///
 /// ```rust
 /// let mut path = DevicePathBuf::new(rt.alloc())?;
@@ -133,7 +133,7 @@ pub struct Vendor<'a> {
     pub vendor_defined_data: &'a [u8],
 }
 
-/// The node of these fields.
+/// Builds the node from its fields.
 impl<'a> Fields for Vendor<'a> {
     type Layout = media::MediaVendor<'static>;
 
@@ -168,11 +168,11 @@ impl<'a> Fields for Vendor<'a> {
 /// ```
 #[derive(Clone, Copy)]
 pub struct FilePath<'a> {
-    /// Its name, which the node has with its NUL.
+    /// The name. The node contains it with its NUL.
     pub path_name: CStr16<'a>,
 }
 
-/// The node of these fields.
+/// Builds the node from its fields.
 impl<'a> Fields for FilePath<'a> {
     type Layout = TypedNode<'static, MEDIA_TYPE, FILE_PATH, 0>;
 
@@ -203,7 +203,7 @@ pub struct Protocol {
     pub protocol_guid: Guid,
 }
 
-/// The node of these fields.
+/// Builds the node from its fields.
 impl Fields for Protocol {
     type Layout = media::Protocol<'static>;
 
@@ -238,7 +238,7 @@ pub struct PiwgFirmwareFile {
     pub file_name: Guid,
 }
 
-/// The node of these fields.
+/// Builds the node from its fields.
 impl Fields for PiwgFirmwareFile {
     type Layout = media::FirmwareFile<'static>;
 
@@ -269,7 +269,7 @@ pub struct PiwgFirmwareVolume {
     pub volume_name: Guid,
 }
 
-/// The node of these fields.
+/// Builds the node from its fields.
 impl Fields for PiwgFirmwareVolume {
     type Layout = media::FirmwareVolume<'static>;
 
@@ -300,13 +300,13 @@ impl Fields for PiwgFirmwareVolume {
 /// ```
 #[derive(Clone, Copy)]
 pub struct RelativeOffsetRange {
-    /// Where its first byte lies.
+    /// The offset of its first byte.
     pub starting_offset: u64,
-    /// Where its last byte lies.
+    /// The offset of its last byte.
     pub ending_offset: u64,
 }
 
-/// The node of these fields.
+/// Builds the node from its fields.
 impl Fields for RelativeOffsetRange {
     type Layout = media::RelativeOffsetRange<'static>;
 
@@ -353,7 +353,7 @@ pub struct RamDisk {
     pub disk_instance: u16,
 }
 
-/// The node of these fields.
+/// Builds the node from its fields.
 impl Fields for RamDisk {
     type Layout = media::RamDisk<'static>;
 

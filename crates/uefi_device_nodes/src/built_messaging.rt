@@ -1,5 +1,5 @@
-//! Nodes of type Messaging that are built (UEFI Specification 2.10, section 10.3.4). Those of networks
-//! are in `built_network`.
+//! Nodes of type Messaging that are built (UEFI Specification 2.10, section 10.3.4). `built_network`
+//! contains the nodes of networks.
 #![tactic(auto)]
 
 ghost use Rattle.std.specs.Prelude.{◌∷◌, []};
@@ -42,15 +42,15 @@ use uefi_node_table::layouts::{
 /// ```
 #[derive(Clone, Copy)]
 pub struct Atapi {
-    /// The bus: 0 is the primary one, 1 the secondary one.
+    /// The bus: 0 is primary, 1 secondary.
     pub primary_secondary: u8,
-    /// The drive on the bus: 0 is the master, 1 the slave.
+    /// The drive on the bus: 0 is master, 1 slave.
     pub master_slave: u8,
     /// The logical unit number.
     pub logical_unit_number: u16,
 }
 
-/// The node of these fields.
+/// Builds the node from its fields.
 impl Fields for Atapi {
     type Layout = messaging::Atapi<'static>;
 
@@ -85,7 +85,7 @@ pub struct Scsi {
     pub logical_unit_number: u16,
 }
 
-/// The node of these fields.
+/// Builds the node from its fields.
 impl Fields for Scsi {
     type Layout = messaging::Scsi<'static>;
 
@@ -120,7 +120,7 @@ pub struct FibreChannel {
     pub logical_unit_number: u64,
 }
 
-/// The node of these fields.
+/// Builds the node from its fields.
 impl Fields for FibreChannel {
     type Layout = messaging::FibreChannel<'static>;
 
@@ -141,7 +141,7 @@ impl Fields for FibreChannel {
     }
 }
 
-/// A device on Fibre Channel, by bytes in the order of the bus.
+/// A device on Fibre Channel, with its numbers as bytes in the order of the bus.
 ///
 /// ```rust
 /// let mut path = DevicePathBuf::new(rt.alloc())?;
@@ -159,7 +159,7 @@ pub struct FibreChannelEx {
     pub logical_unit_number: [u8; 8],
 }
 
-/// The node of these fields.
+/// Builds the node from its fields.
 impl Fields for FibreChannelEx {
     type Layout = messaging::FibreChannelEx<'static>;
 
@@ -194,11 +194,11 @@ impl Fields for FibreChannelEx {
 /// ```
 #[derive(Clone, Copy)]
 pub struct Ieee1394 {
-    /// The bytes of its GUID, of eight bytes.
+    /// The eight bytes of its GUID.
     pub guid: [u8; 8],
 }
 
-/// The node of these fields.
+/// Builds the node from its fields.
 impl Fields for Ieee1394 {
     type Layout = messaging::Ieee1394<'static>;
 
@@ -223,13 +223,13 @@ impl Fields for Ieee1394 {
 /// ```
 #[derive(Clone, Copy)]
 pub struct Usb {
-    /// The number of the port of its hub.
+    /// The number of the port on its hub.
     pub parent_port_number: u8,
     /// The number of its interface.
     pub interface: u8,
 }
 
-/// The node of these fields.
+/// Builds the node from its fields.
 impl Fields for Usb {
     type Layout = messaging::Usb<'static>;
 
@@ -246,7 +246,7 @@ impl Fields for Usb {
     }
 }
 
-/// A USB device by its serial number.
+/// A USB device, identified by its serial number.
 ///
 /// ```rust
 /// let mut path = DevicePathBuf::new(rt.alloc())?;
@@ -268,7 +268,7 @@ pub struct UsbWwid<'a> {
     pub serial_number: &'a [u16],
 }
 
-/// The node of these fields.
+/// Builds the node from its fields.
 impl<'a> Fields for UsbWwid<'a> {
     type Layout = messaging::UsbWwid<'static>;
 
@@ -291,7 +291,7 @@ impl<'a> Fields for UsbWwid<'a> {
     }
 }
 
-/// Each USB device of a class.
+/// All USB devices of a class.
 ///
 /// ```rust
 /// let mut path = DevicePathBuf::new(rt.alloc())?;
@@ -315,7 +315,7 @@ pub struct UsbClass {
     pub device_protocol: u8,
 }
 
-/// The node of these fields.
+/// Builds the node from its fields.
 impl Fields for UsbClass {
     type Layout = messaging::UsbClass<'static>;
 
@@ -351,7 +351,7 @@ pub struct DeviceLogicalUnit {
     pub logical_unit_number: u8,
 }
 
-/// The node of these fields.
+/// Builds the node from its fields.
 impl Fields for DeviceLogicalUnit {
     type Layout = messaging::DeviceLogicalUnit<'static>;
 
@@ -385,7 +385,7 @@ pub struct I2o {
     pub target_id: u32,
 }
 
-/// The node of these fields.
+/// Builds the node from its fields.
 impl Fields for I2o {
     type Layout = messaging::I2o<'static>;
 
@@ -414,13 +414,13 @@ impl Fields for I2o {
 pub struct Sata {
     /// The number of the port of the host bus adapter.
     pub hba_port_number: u16,
-    /// The number of the port of a port multiplier; 0xffff where there is none.
+    /// The port number of the port multiplier, or 0xffff if there is none.
     pub port_multiplier_port_number: u16,
     /// The logical unit number.
     pub logical_unit_number: u16,
 }
 
-/// The node of these fields.
+/// Builds the node from its fields.
 impl Fields for Sata {
     type Layout = messaging::Sata<'static>;
 
@@ -459,13 +459,13 @@ pub struct SasEx {
     pub sas_address: [u8; 8],
     /// The bytes of the logical unit number.
     pub logical_unit_number: [u8; 8],
-    /// What is known of the device and of how it is attached.
+    /// Information about the device and its topology.
     pub info: u16,
     /// The relative target port.
     pub relative_target_port: u16,
 }
 
-/// The node of these fields.
+/// Builds the node from its fields.
 impl Fields for SasEx {
     type Layout = messaging::SasEx<'static>;
 
@@ -503,17 +503,17 @@ impl Fields for SasEx {
 /// ```
 #[derive(Clone, Copy)]
 pub struct Uart {
-    /// The baud rate; 0 is the default of the device.
+    /// The baud rate; 0 is the device's default.
     pub baud_rate: u64,
-    /// How many data bits; 0 is the default of the device.
+    /// The number of data bits; 0 is the device's default.
     pub data_bits: u8,
-    /// The parity: 0 default, 1 none, 2 even, 3 odd, 4 mark, 5 space.
+    /// The parity: 0 is the default, 1 none, 2 even, 3 odd, 4 mark, 5 space.
     pub parity: u8,
-    /// The stop bits: 0 default, 1 one, 2 one and a half, 3 two.
+    /// The stop bits: 0 is the default, 1 one, 2 one and a half, 3 two.
     pub stop_bits: u8,
 }
 
-/// The node of these fields.
+/// Builds the node from its fields.
 impl Fields for Uart {
     type Layout = messaging::Uart<'static>;
 
@@ -532,7 +532,7 @@ impl Fields for Uart {
     }
 }
 
-/// A node of a vendor's own, named by a GUID.
+/// A vendor-defined node, identified by a GUID.
 ///
 /// ```rust
 /// let mut path = DevicePathBuf::new(rt.alloc())?;
@@ -550,7 +550,7 @@ pub struct Vendor<'a> {
     pub vendor_defined_data: &'a [u8],
 }
 
-/// The node of these fields.
+/// Builds the node from its fields.
 impl<'a> Fields for Vendor<'a> {
     type Layout = messaging::MessagingVendor<'static>;
 
@@ -592,7 +592,7 @@ pub struct NvmeNamespace {
     pub ieee_extended_unique_identifier: u64,
 }
 
-/// The node of these fields.
+/// Builds the node from its fields.
 impl Fields for NvmeNamespace {
     type Layout = messaging::NvmeNamespace<'static>;
 
@@ -634,7 +634,7 @@ pub struct Ufs {
     pub logical_unit_number: u8,
 }
 
-/// The node of these fields.
+/// Builds the node from its fields.
 impl Fields for Ufs {
     type Layout = messaging::Ufs<'static>;
 
@@ -665,7 +665,7 @@ pub struct Sd {
     pub slot_number: u8,
 }
 
-/// The node of these fields.
+/// Builds the node from its fields.
 impl Fields for Sd {
     type Layout = messaging::Sd<'static>;
 
@@ -694,7 +694,7 @@ pub struct Emmc {
     pub slot_number: u8,
 }
 
-/// The node of these fields.
+/// Builds the node from its fields.
 impl Fields for Emmc {
     type Layout = messaging::Emmc<'static>;
 
@@ -723,7 +723,7 @@ pub struct NvdimmNamespace {
     pub uuid: Guid,
 }
 
-/// The node of these fields.
+/// Builds the node from its fields.
 impl Fields for NvdimmNamespace {
     type Layout = messaging::NvdimmNamespace<'static>;
 

@@ -35,13 +35,13 @@ use uefi_node_table::layouts::{
 /// ```
 #[derive(Clone, Copy)]
 pub struct MacAddress {
-    /// The address, filled up with zeros.
+    /// The address, padded with zeros.
     pub mac_address: [u8; 32],
-    /// The type of the interface, by RFC 3232.
+    /// The type of the interface (RFC 3232).
     pub interface_type: u8,
 }
 
-/// The node of these fields.
+/// Builds the node from its fields.
 impl Fields for MacAddress {
     type Layout = messaging::MacAddress<'static>;
 
@@ -78,9 +78,9 @@ pub struct Ipv4 {
     pub local_port: u16,
     /// The remote port.
     pub remote_port: u16,
-    /// The protocol over IP, as that of UDP or TCP.
+    /// The number of the protocol over IP, such as UDP or TCP.
     pub protocol: u16,
-    /// Zero where the local address came by DHCP.
+    /// The origin of the local address; 0 is DHCP.
     pub ip_address_origin: u8,
     /// The address of the gateway.
     pub gateway_ip_address: [u8; 4],
@@ -88,7 +88,7 @@ pub struct Ipv4 {
     pub subnet_mask: [u8; 4],
 }
 
-/// The node of these fields.
+/// Builds the node from its fields.
 impl Fields for Ipv4 {
     type Layout = TypedNode<'static, MESSAGING_TYPE, IPV4, IPV4_WHOLE>;
 
@@ -135,17 +135,17 @@ pub struct Ipv6 {
     pub local_port: u16,
     /// The remote port.
     pub remote_port: u16,
-    /// The protocol over IP, as that of UDP or TCP.
+    /// The number of the protocol over IP, such as UDP or TCP.
     pub protocol: u16,
-    /// How the local address was set: 0 by hand, 1 automatically without state, 2 automatically with state.
+    /// The origin of the local address: 0 is manual, 1 stateless and 2 stateful autoconfiguration.
     pub ip_address_origin: u8,
-    /// How many bits the prefix has.
+    /// The number of bits of the prefix.
     pub prefix_length: u8,
     /// The address of the gateway.
     pub gateway_ip_address: [u8; 16],
 }
 
-/// The node of these fields.
+/// Builds the node from its fields.
 impl Fields for Ipv6 {
     type Layout = messaging::Ipv6<'static>;
 
@@ -186,7 +186,7 @@ pub struct Vlan {
     pub vlan_id: u16,
 }
 
-/// The node of these fields.
+/// Builds the node from its fields.
 impl Fields for Vlan {
     type Layout = messaging::Vlan<'static>;
 
@@ -213,8 +213,8 @@ impl Fields for Vlan {
 /// ```
 #[derive(Clone, Copy)]
 pub struct Infiniband {
-    /// What the node names, in bits: 0 an I/O controller or a service, 1 an extension of the boot
-    /// environment, 2 a console, 3 storage, 4 a network.
+    /// Flags of the resource. Bit 0 is clear for an I/O controller and set for a service. Bits 1 to 4 mean
+    /// an extension of the boot environment, a console, storage and a network.
     pub resource_flags: u32,
     /// The bytes of the global identifier of the remote fabric port.
     pub port_gid: [u8; 16],
@@ -226,7 +226,7 @@ pub struct Infiniband {
     pub device_id: u64,
 }
 
-/// The node of these fields.
+/// Builds the node from its fields.
 impl Fields for Infiniband {
     type Layout = messaging::Infiniband<'static>;
 
@@ -267,17 +267,17 @@ impl Fields for Infiniband {
 pub struct Iscsi<'a> {
     /// The protocol: 0 is TCP.
     pub protocol: u16,
-    /// The options of the login: bits for digests and authentication.
+    /// The login options, with bits for digests and authentication.
     pub options: u16,
     /// The bytes of the logical unit number.
     pub logical_unit_number: [u8; 8],
-    /// The tag of the portal group of the target.
+    /// The portal group tag of the target.
     pub target_portal_group_tag: u16,
     /// The bytes of the name of the target.
     pub iscsi_target_name: &'a [u8],
 }
 
-/// The node of these fields.
+/// Builds the node from its fields.
 impl<'a> Fields for Iscsi<'a> {
     type Layout = messaging::Iscsi<'static>;
 
@@ -309,7 +309,7 @@ impl<'a> Fields for Iscsi<'a> {
     }
 }
 
-/// What a URI names.
+/// A resource that a URI identifies.
 ///
 /// ```rust
 /// let mut path = DevicePathBuf::new(rt.alloc())?;
@@ -323,7 +323,7 @@ pub struct Uri<'a> {
     pub value: &'a [u8],
 }
 
-/// The node of these fields.
+/// Builds the node from its fields.
 impl<'a> Fields for Uri<'a> {
     type Layout = messaging::Uri<'static>;
 
@@ -354,7 +354,7 @@ pub struct Bluetooth {
     pub device_address: [u8; 6],
 }
 
-/// The node of these fields.
+/// Builds the node from its fields.
 impl Fields for Bluetooth {
     type Layout = messaging::Bluetooth<'static>;
 
@@ -387,7 +387,7 @@ pub struct BluetoothLe {
     pub address_type: u8,
 }
 
-/// The node of these fields.
+/// Builds the node from its fields.
 impl Fields for BluetoothLe {
     type Layout = messaging::BluetoothLe<'static>;
 
@@ -416,11 +416,11 @@ impl Fields for BluetoothLe {
 /// ```
 #[derive(Clone, Copy)]
 pub struct Wifi {
-    /// The name of the network, its SSID, filled up with zeros.
+    /// The SSID of the network, padded with zeros.
     pub ssid: [u8; 32],
 }
 
-/// The node of these fields.
+/// Builds the node from its fields.
 impl Fields for Wifi {
     type Layout = messaging::Wifi<'static>;
 
@@ -435,7 +435,7 @@ impl Fields for Wifi {
     }
 }
 
-/// Name servers.
+/// The addresses of name servers.
 ///
 /// ```rust
 /// let mut path = DevicePathBuf::new(rt.alloc())?;
@@ -449,11 +449,11 @@ impl Fields for Wifi {
 pub struct Dns<'a> {
     /// The type of the addresses: 0 is IP version 4, 1 is version 6.
     pub address_type: u8,
-    /// The bytes of the addresses, 16 each. One of IP version 4 fills the first four.
+    /// The bytes of the addresses, 16 for each address. An IP version 4 address fills the first four.
     pub addresses: &'a [u8],
 }
 
-/// The node of these fields.
+/// Builds the node from its fields.
 impl<'a> Fields for Dns<'a> {
     type Layout = messaging::Dns<'static>;
 
@@ -484,17 +484,17 @@ impl<'a> Fields for Dns<'a> {
 /// ```
 #[derive(Clone, Copy)]
 pub struct RestService<'a> {
-    /// The service: 1 Redfish, 2 OData, 0xff that of a vendor.
+    /// The type of the service: 1 is Redfish, 2 OData, 0xff a vendor's.
     pub service_type: u8,
-    /// How it is reached: 1 in band, 2 out of band.
+    /// The access mode: 1 is in band, 2 out of band.
     pub access_mode: u8,
     /// The GUID of a vendor's service, whose type is 0xff.
     pub vendor_guid: Option<Guid>,
-    /// The bytes after it: those that the vendor defines.
+    /// The bytes after the GUID, which the vendor defines.
     pub vendor_defined_data: &'a [u8],
 }
 
-/// The node of these fields.
+/// Builds the node from its fields.
 impl<'a> Fields for RestService<'a> {
     type Layout = messaging::RestService<'static>;
 
@@ -527,7 +527,7 @@ impl<'a> Fields for RestService<'a> {
 /// ```
 #[derive(Clone, Copy)]
 pub struct NvmeOfNamespace<'a> {
-    /// The type of the identifier: 1 EUI-64, 2 NGUID, 3 UUID.
+    /// The type of the identifier: 1 is EUI-64, 2 NGUID, 3 UUID.
     pub nidt: u8,
     /// The bytes of the identifier.
     pub nid: [u8; 16],
@@ -535,7 +535,7 @@ pub struct NvmeOfNamespace<'a> {
     pub subsystem_nqn: &'a [u8],
 }
 
-/// The node of these fields.
+/// Builds the node from its fields.
 impl<'a> Fields for NvmeOfNamespace<'a> {
     type Layout = messaging::NvmeOfNamespace<'static>;
 

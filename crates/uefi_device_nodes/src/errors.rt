@@ -1,4 +1,4 @@
-//! Why no node stands at a place, and why a node is not of a kind.
+//! Why bytes begin with no node, and why a node is not of a kind.
 ghost use Rattle.uefi_device_nodes.specs.NodeErrorTexts.{node_error_text, node_conversion_error_text};
 ghost use Rattle.std.specs.Prelude.{Some};
 
@@ -6,16 +6,16 @@ use std::error::Error;
 use std::fmt;
 use uefi_text::text_sink::{Printed, TextSink, print};
 
-/// Why no node of a device path stands at a place.
+/// The reason why bytes do not begin with a node of a device path.
 #[derive(Clone, Copy, Debug, PartialEq, Eq)]
 pub enum NodeError {
-    /// The bytes end where a node has to begin: no end node ends the path.
+    /// No bytes are left, although no end node has ended the path.
     Missing,
     /// The bytes end within the four bytes of a header.
     TruncatedHeader,
     /// A node of type End has a sub-type that ends neither a path nor an instance.
     UnknownEnd,
-    /// The header states a length below four, that of the header itself.
+    /// The header states a length below four, which is the length of the header itself.
     LengthBelowHeader,
     /// The header of a node of type End states a length above four.
     EndWithData,
@@ -39,7 +39,7 @@ impl Printed for NodeError {
     }
 }
 
-/// Prints the same.
+/// Prints the same text.
 impl fmt::Display for NodeError {
     ghost output = { λ error. Some (node_error_text error) };
 
@@ -50,14 +50,14 @@ impl fmt::Display for NodeError {
 
 impl Error for NodeError {}
 
-/// Why a node is not of a kind.
+/// The reason why a node is not of a kind.
 #[derive(Clone, Copy, Debug, PartialEq, Eq)]
 pub enum NodeConversionError {
-    /// Its type or its sub-type is another.
+    /// The node has another type or sub-type.
     DifferentType,
-    /// Its data has a length that none of its kind has.
+    /// No node of the kind has data of this length.
     InvalidLength,
-    /// No kind that has a view has its type and its sub-type.
+    /// There is no view for the node's type and sub-type.
     UnsupportedType,
 }
 
@@ -74,7 +74,7 @@ impl Printed for NodeConversionError {
     }
 }
 
-/// Prints the same.
+/// Prints the same text.
 impl fmt::Display for NodeConversionError {
     ghost output = { λ error. Some (node_conversion_error_text error) };
 

@@ -14,7 +14,7 @@ use crate::typed_node::Kind;
 use uefi_node_table::layouts::Field;
 use uefi_text::Packed;
 
-/// A number that is written to bytes, the low byte first.
+/// A number that can be written to bytes, the low byte first.
 ///
 /// ```rust
 /// use uefi_device_nodes::fields::WriteLe;
@@ -23,7 +23,7 @@ use uefi_text::Packed;
 /// assert_eq!(rt; bytes, [0x34, 0x12]);
 /// ```
 pub trait WriteLe: Packed {
-    /// Encodes in as many bytes as the number takes.
+    /// Writes the number to bytes, whose number is the size of its type.
     fn write_le(self, bytes: &mut [u8])
         requires { length bytes.old ≡ Self.SIZE }
         ensures { bytes.new ≡ bytes_low_first 0 Self.SIZE (Self.number self) };
@@ -57,7 +57,7 @@ impl WriteLe for u64 {
     }
 }
 
-/// Puts a number in its field.
+/// Writes a number to its field.
 #[tactic(auto, unfolding(crate::specs::NodeFields::with_value))]
 pub(crate) fn put<T: WriteLe>(content: &mut [u8], field: Field, value: T)
     requires size { field.width ≡ T.SIZE }
@@ -67,7 +67,7 @@ pub(crate) fn put<T: WriteLe>(content: &mut [u8], field: Field, value: T)
     value.write_le(&mut content[field.place..field.place + field.width]);
 }
 
-/// Puts bytes in their field.
+/// Writes bytes to their field.
 #[tactic(auto, unfolding(crate::specs::NodeFields::with_value))]
 pub(crate) fn put_bytes(content: &mut [u8], field: Field, value: &[u8])
     requires size { length value.now ≡ field.width }
@@ -77,7 +77,7 @@ pub(crate) fn put_bytes(content: &mut [u8], field: Field, value: &[u8])
     content[field.place..field.place + field.width].copy_from_slice(value);
 }
 
-/// A node by its fields and what follows them. All bytes of the node that are in no field are zero.
+/// A node that is built from its fields and the data after them. All other bytes are zero.
 ///
 /// ```rust
 /// let node = messaging::Uri { value: b"http://a" };
@@ -87,32 +87,33 @@ pub(crate) fn put_bytes(content: &mut [u8], field: Field, value: &[u8])
 /// assert_eq!(rt; data, [2, 0x1f]);
 /// ```
 pub trait Fields: Copy {
-    /// Its type, its sub-type and how many bytes its fields take.
+    /// The kind of the node: its type, its sub-type, and how many bytes its fields take.
     type Layout: Kind;
 
-    /// The type of what follows the fields.
+    /// The type of the data after the fields.
     type Tail: TailBytes;
 
-    /// The fields, as contracts see them, in the order of their places.
+    /// The fields, as contracts see them, in the order of their offsets.
     ghost fields: { Self → List FieldValue };
 
-    /// The bytes after them, as contracts see them.
+    /// The bytes after the fields, as contracts see them.
     ghost after: { Self → List ℕ } = { λ _. [] };
 
-    /// What follows the fields. The fields lie apart and within their bytes, and each value fits its field.
+    /// Returns the data after the fields. Its contract also states that fields do not overlap, that they
+    /// end within the kind's length, and that each value fits its field.
     fn tail(self) -> Self::Tail
         ensures tail { Self.Tail.tail_bytes result ≡ after self }
         ensures apart { IsTrue (lie_apart 0 (fields self) Self.Layout.LEAST) }
         ensures fit { AllFit (fields self) }
         ensures small { Self.Layout.LEAST ≤ 65535 };
 
-    /// Puts the fields into data.
+    /// Writes the fields to the data of a node.
     fn put(&self, content: &mut [u8])
         requires { Self.Layout.LEAST ≤ length content.old }
         ensures { content.new ≡ with_values (fields self.now) content.old };
 }
 
-/// The node of these fields.
+/// Builds the node from its fields.
 impl<T: Fields> BuildNode for T {
     ghost node = { λ n. node_with T.Layout.DEVICE_TYPE T.Layout.SUB_TYPE
         (content_of T.Layout.LEAST (T.fields n) (T.after n)) };

@@ -26,14 +26,14 @@ use uefi_node_table::layouts::{
 pub type Pci<'a> = TypedNode<'a, HARDWARE_TYPE, PCI, PCI_LEAST>;
 
 impl<'a> Pci<'a> {
-    /// The number of the function.
+    /// Returns the number of the function.
     pub fn function(&self) -> u8
         ensures { result ≡ number_in PCI_FUNCTION (data_of self.now) }
     {
         self.number(PCI_FUNCTION)
     }
 
-    /// The number of the device on its bus.
+    /// Returns the number of the device on its bus.
     pub fn device(&self) -> u8
         ensures { result ≡ number_in PCI_DEVICE (data_of self.now) }
     {
@@ -51,7 +51,7 @@ impl<'a> Pci<'a> {
 pub type Pccard<'a> = TypedNode<'a, HARDWARE_TYPE, PCCARD, PCCARD_LEAST>;
 
 impl<'a> Pccard<'a> {
-    /// The number of the function, from 0 on.
+    /// Returns the number of the function, counted from 0.
     pub fn function(&self) -> u8
         ensures { result ≡ number_in PCCARD_FUNCTION (data_of self.now) }
     {
@@ -72,21 +72,21 @@ impl<'a> Pccard<'a> {
 pub type MemoryMapped<'a> = TypedNode<'a, HARDWARE_TYPE, MEMORY_MAPPED, MEMORY_MAPPED_LEAST>;
 
 impl<'a> MemoryMapped<'a> {
-    /// The type of the memory, as in the memory map of the firmware.
+    /// Returns the type of the memory, as in the firmware's memory map.
     pub fn memory_type(&self) -> u32
         ensures { result ≡ number_in MEMORY_MAPPED_MEMORY_TYPE (data_of self.now) }
     {
         self.number(MEMORY_MAPPED_MEMORY_TYPE)
     }
 
-    /// The address of its first byte.
+    /// Returns the address of its first byte.
     pub fn starting_address(&self) -> u64
         ensures { result ≡ number_in MEMORY_MAPPED_STARTING_ADDRESS (data_of self.now) }
     {
         self.number(MEMORY_MAPPED_STARTING_ADDRESS)
     }
 
-    /// The address of its last byte.
+    /// Returns the address of its last byte.
     pub fn ending_address(&self) -> u64
         ensures { result ≡ number_in MEMORY_MAPPED_ENDING_ADDRESS (data_of self.now) }
     {
@@ -94,7 +94,7 @@ impl<'a> MemoryMapped<'a> {
     }
 }
 
-/// A node of a vendor's own, named by a GUID.
+/// A vendor-defined node, identified by a GUID.
 ///
 /// ```rust
 /// let (node, _) = DevicePathNode::split_first(b"\x01\x04\x16\0abcdefghijklmnop\x01\x02")?;
@@ -104,18 +104,18 @@ impl<'a> MemoryMapped<'a> {
 /// ```
 pub type HardwareVendor<'a> = TypedNode<'a, HARDWARE_TYPE, HARDWARE_VENDOR, HARDWARE_VENDOR_LEAST>;
 
-/// The same, as the Rust crate `uefi` names it.
+/// [`HardwareVendor`], under its name in the Rust crate `uefi`.
 pub type Vendor<'a> = HardwareVendor<'a>;
 
 impl<'a> HardwareVendor<'a> {
-    /// The GUID that names the vendor.
+    /// Returns the GUID that names the vendor.
     pub fn vendor_guid(&self) -> Guid
         ensures { result ≡ bytes_in HARDWARE_VENDOR_VENDOR_GUID (data_of self.now) }
     {
         self.guid_in(HARDWARE_VENDOR_VENDOR_GUID)
     }
 
-    /// The data that the vendor defines.
+    /// Returns the data that the vendor defines.
     pub fn vendor_defined_data(&self) -> &'a [u8]
         ensures { result.now ≡ bytes_from HARDWARE_VENDOR_VENDOR_DEFINED_DATA (data_of self.now) }
     {
@@ -133,7 +133,7 @@ impl<'a> HardwareVendor<'a> {
 pub type Controller<'a> = TypedNode<'a, HARDWARE_TYPE, CONTROLLER, CONTROLLER_LEAST>;
 
 impl<'a> Controller<'a> {
-    /// The number of the controller.
+    /// Returns the number of the controller.
     pub fn controller_number(&self) -> u32
         ensures { result ≡ number_in CONTROLLER_CONTROLLER_NUMBER (data_of self.now) }
     {
@@ -151,14 +151,15 @@ impl<'a> Controller<'a> {
 pub type Bmc<'a> = TypedNode<'a, HARDWARE_TYPE, BMC, BMC_LEAST>;
 
 impl<'a> Bmc<'a> {
-    /// The type of the interface: 0 unknown, 1 KCS, 2 SMIC, 3 BT.
+    /// Returns the type of the interface: 0 is unknown, 1 KCS, 2 SMIC, 3 BT.
     pub fn interface_type(&self) -> u8
         ensures { result ≡ number_in BMC_INTERFACE_TYPE (data_of self.now) }
     {
         self.number(BMC_INTERFACE_TYPE)
     }
 
-    /// The base address of the interface; its lowest bit is set for I/O ports, and clear for memory.
+    /// Returns the base address of the interface. Its lowest bit is set for I/O ports, and clear for
+    /// memory.
     pub fn base_address(&self) -> u64
         ensures { result ≡ number_in BMC_BASE_ADDRESS (data_of self.now) }
     {

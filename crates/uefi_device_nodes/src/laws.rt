@@ -1,4 +1,4 @@
-//! Laws of what is printed of nodes, and of nodes that are built.
+//! Laws about the texts of nodes, and about nodes that are built.
 #![tactic(auto)]
 
 ghost use Rattle.std.specs.Prelude.{◌≡◌, ◌+◌, drop, length};
@@ -15,7 +15,8 @@ use uefi_field_texts::laws::fields_are_shown;
 use uefi_node_table::laws::table_is_shown;
 use uefi_node_table::layouts::{FILE_PATH, MEDIA_TYPE};
 
-/// No text of a node holds a character that texts escape.
+/// No text of a node contains a character for which
+/// [`is_escaped`](uefi_field_texts::shown_texts::is_escaped) holds.
 pub fn nodes_are_shown()
     ensures { NodesShown }
 {
@@ -23,7 +24,7 @@ pub fn nodes_are_shown()
     table_is_shown();
 }
 
-/// A view of a built node has each of its fields, and what follows them: for all kinds.
+/// The view of a built node of any kind contains each of its fields, and the data after them.
 pub fn view_of_built<T: Fields>(node: &T)
     ensures of_kind { IsOfKind T.Layout.DEVICE_TYPE T.Layout.SUB_TYPE T.Layout.LEAST
         (node_with T.Layout.DEVICE_TYPE T.Layout.SUB_TYPE
@@ -38,8 +39,8 @@ pub fn view_of_built<T: Fields>(node: &T)
     let _tail = (*node).tail();
 }
 
-/// Code units that are written to bytes are read from them, and the bytes are whole units: for the name of a
-/// file and a serial number.
+/// Code units are read back from the bytes that they are written to, and those bytes are whole units. The
+/// name of a file and a serial number need this law.
 pub fn units_in_bytes(units: &[u16])
     ensures read { units_of_bytes (unit_bytes units.now) ≡ units.now }
     ensures file { IsFilePath (node_with MEDIA_TYPE FILE_PATH (unit_bytes units.now)) }

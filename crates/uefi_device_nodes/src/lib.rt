@@ -1,13 +1,12 @@
 //! The layer of `uefi_device_path` below device paths: one node of a path, and the kinds of nodes.
 //!
-//! Callers use `uefi_device_path`, which re-exports what they need: [`DevicePathNode`], the numbers of its
-//! type and its sub-type, the modules of kinds, the structs of nodes that are built, and the reasons for
-//! which bytes are no node, and a node is of no kind. Two calls are public for the layer above alone, and
-//! hidden from the documentation.
+//! Callers use `uefi_device_path`, which re-exports what they need: [`DevicePathNode`], the numbers of
+//! types and sub-types, the modules of kinds, the structs of nodes that are built, and the errors. Two
+//! calls are public only for that crate, and hidden from the documentation.
 //!
-//! Contracts here speak of one node, a record of its type, its sub-type and its data, which a view shows as
-//! `node_of` it, and of data of a node of a kind, `data_of` it. A struct of a node that is built is seen as
-//! its fields (`Fields`) and as its node (`BuildNode`). No call takes memory.
+//! A contract sees a node as `node_of` it, a record of its type, its sub-type and its data, and a node of a
+//! known kind as `data_of` it, its data. It sees a node that is built as its fields (`Fields`) and as a
+//! node (`BuildNode`). No call allocates.
 #![tactic(auto)]
 
 pub mod acpi;

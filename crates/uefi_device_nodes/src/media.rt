@@ -37,8 +37,8 @@ pub struct FilePath<'a> {
 impl<'a> FilePath<'a> {
     ghost use Rattle.uefi_device_nodes.specs.NodeViews.{node_of, file_node};
 
-    /// The node as one that names a file. Refused as `DifferentType` where its type or its sub-type is
-    /// another, and then as `InvalidLength` where its data are odd in number.
+    /// Views a node as a node that names a file. Fails with `DifferentType` if its type or its
+    /// sub-type is another, and otherwise with `InvalidLength` if its data has an odd number of bytes.
     ///
     /// ```rust
     /// let (node, _) = DevicePathNode::split_first(b"\x04\x04\x0a\0\\\0a\0\0\0")?;
@@ -63,14 +63,15 @@ impl<'a> FilePath<'a> {
         Ok(FilePath { node })
     }
 
-    /// The bytes of the name.
+    /// Returns the bytes of the name.
     pub(crate) fn data(&self) -> &'a [u8]
         ensures { result.now ≡ (file_node self.now).content }
     {
         self.node.data()
     }
 
-    /// The code units of the name, wherever they lie. They may be no string: its calls say so.
+    /// Returns the code units of the name, at any address. [`UnalignedSlice::to_cstr16`] and similar
+    /// calls check whether they are a string.
     ///
     /// See [`FilePath::from_node`].
     pub fn path_name(&self) -> UnalignedSlice<'a, u16>
@@ -81,7 +82,7 @@ impl<'a> FilePath<'a> {
     }
 }
 
-/// The view that [`FilePath::from_node`] gives, or its refusal.
+/// Converts a node as [`FilePath::from_node`] does.
 impl<'a> TryFrom<DevicePathNode<'a>> for FilePath<'a> {
     ghost use Rattle.uefi_device_nodes.specs.NodeViews.{node_of, file_node};
 
@@ -110,42 +111,42 @@ pub type HardDrive<'a> = TypedNode<'a, MEDIA_TYPE, HARD_DRIVE, HARD_DRIVE_LEAST>
 impl<'a> HardDrive<'a> {
     ghost use Rattle.uefi_device_nodes.specs.NodeViews.{data_of};
 
-    /// The number of the partition, from 1 on; 0 is the whole drive.
+    /// Returns the number of the partition, counted from 1, or 0 for the whole drive.
     pub fn partition_number(&self) -> u32
         ensures { result ≡ number_in HARD_DRIVE_PARTITION_NUMBER (data_of self.now) }
     {
         self.number(HARD_DRIVE_PARTITION_NUMBER)
     }
 
-    /// The first block of the partition.
+    /// Returns the first block of the partition.
     pub fn partition_start(&self) -> u64
         ensures { result ≡ number_in HARD_DRIVE_PARTITION_START (data_of self.now) }
     {
         self.number(HARD_DRIVE_PARTITION_START)
     }
 
-    /// How many blocks it has.
+    /// Returns the number of its blocks.
     pub fn partition_size(&self) -> u64
         ensures { result ≡ number_in HARD_DRIVE_PARTITION_SIZE (data_of self.now) }
     {
         self.number(HARD_DRIVE_PARTITION_SIZE)
     }
 
-    /// Its signature, of the type that [`HardDrive::signature_type`] says.
+    /// Returns the signature, whose type is [`HardDrive::signature_type`].
     pub fn partition_signature(&self) -> [u8; 16]
         ensures { result ≡ bytes_in HARD_DRIVE_PARTITION_SIGNATURE (data_of self.now) }
     {
         self.bytes(HARD_DRIVE_PARTITION_SIGNATURE)
     }
 
-    /// The format of the table: 1 is MBR, 2 is GPT.
+    /// Returns the format of the partition table: 1 is MBR, 2 is GPT.
     pub fn partition_format(&self) -> u8
         ensures { result ≡ number_in HARD_DRIVE_PARTITION_FORMAT (data_of self.now) }
     {
         self.number(HARD_DRIVE_PARTITION_FORMAT)
     }
 
-    /// The type of the signature: 0 is none, 1 is that of an MBR, 2 is a GUID.
+    /// Returns the type of the signature: 0 is none, 1 an MBR signature, 2 a GUID.
     pub fn signature_type(&self) -> u8
         ensures { result ≡ number_in HARD_DRIVE_SIGNATURE_TYPE (data_of self.now) }
     {
@@ -189,21 +190,21 @@ pub type CdRom<'a> = TypedNode<'a, MEDIA_TYPE, CD_ROM, CD_ROM_LEAST>;
 impl<'a> CdRom<'a> {
     ghost use Rattle.uefi_device_nodes.specs.NodeViews.{data_of};
 
-    /// The number of the entry in the boot catalog.
+    /// Returns the number of the entry in the boot catalog.
     pub fn boot_entry(&self) -> u32
         ensures { result ≡ number_in CD_ROM_BOOT_ENTRY (data_of self.now) }
     {
         self.number(CD_ROM_BOOT_ENTRY)
     }
 
-    /// The first block.
+    /// Returns the first block.
     pub fn partition_start(&self) -> u64
         ensures { result ≡ number_in CD_ROM_PARTITION_START (data_of self.now) }
     {
         self.number(CD_ROM_PARTITION_START)
     }
 
-    /// How many blocks it has.
+    /// Returns the number of its blocks.
     pub fn partition_size(&self) -> u64
         ensures { result ≡ number_in CD_ROM_PARTITION_SIZE (data_of self.now) }
     {
@@ -211,7 +212,7 @@ impl<'a> CdRom<'a> {
     }
 }
 
-/// A node of a vendor's own, named by a GUID.
+/// A vendor-defined node, identified by a GUID.
 ///
 /// ```rust
 /// let (node, _) = DevicePathNode::split_first(b"\x04\x03\x16\0abcdefghijklmnop\x01\x02")?;
@@ -221,20 +222,20 @@ impl<'a> CdRom<'a> {
 /// ```
 pub type MediaVendor<'a> = TypedNode<'a, MEDIA_TYPE, MEDIA_VENDOR, MEDIA_VENDOR_LEAST>;
 
-/// The same, as the Rust crate `uefi` names it.
+/// [`MediaVendor`], under its name in the Rust crate `uefi`.
 pub type Vendor<'a> = MediaVendor<'a>;
 
 impl<'a> MediaVendor<'a> {
     ghost use Rattle.uefi_device_nodes.specs.NodeViews.{data_of};
 
-    /// The GUID that names the vendor.
+    /// Returns the GUID that names the vendor.
     pub fn vendor_guid(&self) -> Guid
         ensures { result ≡ bytes_in MEDIA_VENDOR_VENDOR_GUID (data_of self.now) }
     {
         self.guid_in(MEDIA_VENDOR_VENDOR_GUID)
     }
 
-    /// The data that the vendor defines.
+    /// Returns the data that the vendor defines.
     pub fn vendor_defined_data(&self) -> &'a [u8]
         ensures { result.now ≡ bytes_from MEDIA_VENDOR_VENDOR_DEFINED_DATA (data_of self.now) }
     {
@@ -254,7 +255,7 @@ pub type Protocol<'a> = TypedNode<'a, MEDIA_TYPE, PROTOCOL, PROTOCOL_LEAST>;
 impl<'a> Protocol<'a> {
     ghost use Rattle.uefi_device_nodes.specs.NodeViews.{data_of};
 
-    /// The GUID that names the protocol.
+    /// Returns the GUID that names the protocol.
     pub fn protocol_guid(&self) -> Guid
         ensures { result ≡ bytes_in PROTOCOL_PROTOCOL_GUID (data_of self.now) }
     {
@@ -271,13 +272,13 @@ impl<'a> Protocol<'a> {
 /// ```
 pub type FirmwareFile<'a> = TypedNode<'a, MEDIA_TYPE, FIRMWARE_FILE, FIRMWARE_FILE_LEAST>;
 
-/// The same, as the Rust crate `uefi` names it.
+/// [`FirmwareFile`], under its name in the Rust crate `uefi`.
 pub type PiwgFirmwareFile<'a> = FirmwareFile<'a>;
 
 impl<'a> FirmwareFile<'a> {
     ghost use Rattle.uefi_device_nodes.specs.NodeViews.{data_of};
 
-    /// The GUID that names the file.
+    /// Returns the GUID that names the file.
     pub fn file_name(&self) -> Guid
         ensures { result ≡ bytes_in FIRMWARE_FILE_FILE_NAME (data_of self.now) }
     {
@@ -294,13 +295,13 @@ impl<'a> FirmwareFile<'a> {
 /// ```
 pub type FirmwareVolume<'a> = TypedNode<'a, MEDIA_TYPE, FIRMWARE_VOLUME, FIRMWARE_VOLUME_LEAST>;
 
-/// The same, as the Rust crate `uefi` names it.
+/// [`FirmwareVolume`], under its name in the Rust crate `uefi`.
 pub type PiwgFirmwareVolume<'a> = FirmwareVolume<'a>;
 
 impl<'a> FirmwareVolume<'a> {
     ghost use Rattle.uefi_device_nodes.specs.NodeViews.{data_of};
 
-    /// The GUID that names the volume.
+    /// Returns the GUID that names the volume.
     pub fn volume_name(&self) -> Guid
         ensures { result ≡ bytes_in FIRMWARE_VOLUME_VOLUME_NAME (data_of self.now) }
     {
@@ -326,14 +327,14 @@ pub type RelativeOffsetRange<'a> = TypedNode<
 impl<'a> RelativeOffsetRange<'a> {
     ghost use Rattle.uefi_device_nodes.specs.NodeViews.{data_of};
 
-    /// Where its first byte lies.
+    /// Returns the offset of its first byte.
     pub fn starting_offset(&self) -> u64
         ensures { result ≡ number_in RELATIVE_OFFSET_RANGE_STARTING_OFFSET (data_of self.now) }
     {
         self.number(RELATIVE_OFFSET_RANGE_STARTING_OFFSET)
     }
 
-    /// Where its last byte lies.
+    /// Returns the offset of its last byte.
     pub fn ending_offset(&self) -> u64
         ensures { result ≡ number_in RELATIVE_OFFSET_RANGE_ENDING_OFFSET (data_of self.now) }
     {
@@ -355,28 +356,28 @@ pub type RamDisk<'a> = TypedNode<'a, MEDIA_TYPE, RAM_DISK, RAM_DISK_LEAST>;
 impl<'a> RamDisk<'a> {
     ghost use Rattle.uefi_device_nodes.specs.NodeViews.{data_of};
 
-    /// The address of its first byte.
+    /// Returns the address of its first byte.
     pub fn starting_address(&self) -> u64
         ensures { result ≡ number_in RAM_DISK_STARTING_ADDRESS (data_of self.now) }
     {
         self.number(RAM_DISK_STARTING_ADDRESS)
     }
 
-    /// The address of its last byte.
+    /// Returns the address of its last byte.
     pub fn ending_address(&self) -> u64
         ensures { result ≡ number_in RAM_DISK_ENDING_ADDRESS (data_of self.now) }
     {
         self.number(RAM_DISK_ENDING_ADDRESS)
     }
 
-    /// The GUID of its type.
+    /// Returns the GUID of its type.
     pub fn disk_type(&self) -> Guid
         ensures { result ≡ bytes_in RAM_DISK_DISK_TYPE (data_of self.now) }
     {
         self.guid_in(RAM_DISK_DISK_TYPE)
     }
 
-    /// The number of the disk.
+    /// Returns the number of the disk.
     pub fn disk_instance(&self) -> u16
         ensures { result ≡ number_in RAM_DISK_DISK_INSTANCE (data_of self.now) }
     {

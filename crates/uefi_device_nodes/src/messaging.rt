@@ -1,4 +1,5 @@
-//! Nodes of type Messaging (UEFI Specification 2.10, section 10.3.4). Those of networks stand in `network`.
+//! Nodes of type Messaging (UEFI Specification 2.10, section 10.3.4). `network` contains the nodes of
+//! networks.
 #![tactic(auto)]
 
 ghost use Rattle.std.specs.Prelude.{◌≡◌, ◌%◌, ◌↔◌, IfSome, IsSome, drop, length, slice_range};
@@ -47,21 +48,21 @@ use uefi_text::UnalignedSlice;
 pub type Atapi<'a> = TypedNode<'a, MESSAGING_TYPE, ATAPI, ATAPI_LEAST>;
 
 impl<'a> Atapi<'a> {
-    /// The bus: 0 is the primary one, 1 the secondary one.
+    /// Returns the bus: 0 is primary, 1 secondary.
     pub fn primary_secondary(&self) -> u8
         ensures { result ≡ number_in ATAPI_PRIMARY_SECONDARY (data_of self.now) }
     {
         self.number(ATAPI_PRIMARY_SECONDARY)
     }
 
-    /// The drive on the bus: 0 is the master, 1 the slave.
+    /// Returns the drive on the bus: 0 is master, 1 slave.
     pub fn master_slave(&self) -> u8
         ensures { result ≡ number_in ATAPI_MASTER_SLAVE (data_of self.now) }
     {
         self.number(ATAPI_MASTER_SLAVE)
     }
 
-    /// The logical unit number.
+    /// Returns the logical unit number.
     pub fn logical_unit_number(&self) -> u16
         ensures { result ≡ number_in ATAPI_LOGICAL_UNIT_NUMBER (data_of self.now) }
     {
@@ -79,14 +80,14 @@ impl<'a> Atapi<'a> {
 pub type Scsi<'a> = TypedNode<'a, MESSAGING_TYPE, SCSI, SCSI_LEAST>;
 
 impl<'a> Scsi<'a> {
-    /// The number of the target on its bus.
+    /// Returns the number of the target on its bus.
     pub fn target_id(&self) -> u16
         ensures { result ≡ number_in SCSI_TARGET_ID (data_of self.now) }
     {
         self.number(SCSI_TARGET_ID)
     }
 
-    /// The logical unit number.
+    /// Returns the logical unit number.
     pub fn logical_unit_number(&self) -> u16
         ensures { result ≡ number_in SCSI_LOGICAL_UNIT_NUMBER (data_of self.now) }
     {
@@ -106,14 +107,14 @@ impl<'a> Scsi<'a> {
 pub type FibreChannel<'a> = TypedNode<'a, MESSAGING_TYPE, FIBRE_CHANNEL, FIBRE_CHANNEL_LEAST>;
 
 impl<'a> FibreChannel<'a> {
-    /// The world wide name.
+    /// Returns the world wide name.
     pub fn world_wide_name(&self) -> u64
         ensures { result ≡ number_in FIBRE_CHANNEL_WORLD_WIDE_NAME (data_of self.now) }
     {
         self.number(FIBRE_CHANNEL_WORLD_WIDE_NAME)
     }
 
-    /// The logical unit number.
+    /// Returns the logical unit number.
     pub fn logical_unit_number(&self) -> u64
         ensures { result ≡ number_in FIBRE_CHANNEL_LOGICAL_UNIT_NUMBER (data_of self.now) }
     {
@@ -121,7 +122,7 @@ impl<'a> FibreChannel<'a> {
     }
 }
 
-/// A device on Fibre Channel, by bytes in the order of the bus.
+/// A device on Fibre Channel, with its numbers as bytes in the order of the bus.
 ///
 /// ```rust
 /// let (node, _) = DevicePathNode::split_first(b"\x03\x15\x18\0\0\0\0\0worldwid\0\x01\0\0\0\0\0\0")?;
@@ -137,14 +138,14 @@ pub type FibreChannelEx<'a> = TypedNode<
 >;
 
 impl<'a> FibreChannelEx<'a> {
-    /// The bytes of the world wide name.
+    /// Returns the bytes of the world wide name.
     pub fn world_wide_name(&self) -> [u8; 8]
         ensures { result ≡ bytes_in FIBRE_CHANNEL_EX_WORLD_WIDE_NAME (data_of self.now) }
     {
         self.bytes(FIBRE_CHANNEL_EX_WORLD_WIDE_NAME)
     }
 
-    /// The bytes of the logical unit number.
+    /// Returns the bytes of the logical unit number.
     pub fn logical_unit_number(&self) -> [u8; 8]
         ensures { result ≡ bytes_in FIBRE_CHANNEL_EX_LOGICAL_UNIT_NUMBER (data_of self.now) }
     {
@@ -162,7 +163,7 @@ impl<'a> FibreChannelEx<'a> {
 pub type Ieee1394<'a> = TypedNode<'a, MESSAGING_TYPE, IEEE1394, IEEE1394_LEAST>;
 
 impl<'a> Ieee1394<'a> {
-    /// The bytes of its GUID, of eight bytes.
+    /// Returns the eight bytes of its GUID.
     pub fn guid(&self) -> [u8; 8]
         ensures { result ≡ bytes_in IEEE1394_GUID (data_of self.now) }
     {
@@ -180,14 +181,14 @@ impl<'a> Ieee1394<'a> {
 pub type Usb<'a> = TypedNode<'a, MESSAGING_TYPE, USB, USB_LEAST>;
 
 impl<'a> Usb<'a> {
-    /// The number of the port of its hub.
+    /// Returns the number of the port on its hub.
     pub fn parent_port_number(&self) -> u8
         ensures { result ≡ number_in USB_PARENT_PORT_NUMBER (data_of self.now) }
     {
         self.number(USB_PARENT_PORT_NUMBER)
     }
 
-    /// The number of its interface.
+    /// Returns the number of its interface.
     pub fn interface(&self) -> u8
         ensures { result ≡ number_in USB_INTERFACE (data_of self.now) }
     {
@@ -195,7 +196,7 @@ impl<'a> Usb<'a> {
     }
 }
 
-/// A USB device by its serial number.
+/// A USB device, identified by its serial number.
 ///
 /// ```rust
 /// let (node, _) = DevicePathNode::split_first(b"\x03\x10\x0e\0\x01\0m\x04\x25\x08A\0\x37\0")?;
@@ -207,29 +208,29 @@ impl<'a> Usb<'a> {
 pub type UsbWwid<'a> = TypedNode<'a, MESSAGING_TYPE, USB_WWID, USB_WWID_LEAST>;
 
 impl<'a> UsbWwid<'a> {
-    /// The number of its interface.
+    /// Returns the number of its interface.
     pub fn interface_number(&self) -> u16
         ensures { result ≡ number_in USB_WWID_INTERFACE_NUMBER (data_of self.now) }
     {
         self.number(USB_WWID_INTERFACE_NUMBER)
     }
 
-    /// The ID of its vendor.
+    /// Returns the ID of its vendor.
     pub fn device_vendor_id(&self) -> u16
         ensures { result ≡ number_in USB_WWID_DEVICE_VENDOR_ID (data_of self.now) }
     {
         self.number(USB_WWID_DEVICE_VENDOR_ID)
     }
 
-    /// The ID of the product.
+    /// Returns the ID of the product.
     pub fn device_product_id(&self) -> u16
         ensures { result ≡ number_in USB_WWID_DEVICE_PRODUCT_ID (data_of self.now) }
     {
         self.number(USB_WWID_DEVICE_PRODUCT_ID)
     }
 
-    /// The code units of the last 64 or fewer characters of the serial number, without a NUL, or `None`
-    /// where half a unit is left.
+    /// Returns the code units of the last 64 or fewer characters of the serial number, without a NUL, or
+    /// `None` if their number of bytes is odd.
     pub fn serial_number(&self) -> Option<UnalignedSlice<'a, u16>>
         ensures some { IsSome result
             ↔ (length (bytes_from USB_WWID_SERIAL_NUMBER (data_of self.now)) % 2 ≡ 0) }
@@ -240,7 +241,7 @@ impl<'a> UsbWwid<'a> {
     }
 }
 
-/// Each USB device of a class.
+/// All USB devices of a class.
 ///
 /// ```rust
 /// let (node, _) = DevicePathNode::split_first(&[3, 0xf, 0xb, 0, 0xff, 0xff, 0x25, 8, 3, 1, 2])?;
@@ -252,35 +253,35 @@ impl<'a> UsbWwid<'a> {
 pub type UsbClass<'a> = TypedNode<'a, MESSAGING_TYPE, USB_CLASS, USB_CLASS_LEAST>;
 
 impl<'a> UsbClass<'a> {
-    /// The ID of the vendor; 0xffff is any.
+    /// Returns the ID of the vendor; 0xffff is any.
     pub fn vendor_id(&self) -> u16
         ensures { result ≡ number_in USB_CLASS_VENDOR_ID (data_of self.now) }
     {
         self.number(USB_CLASS_VENDOR_ID)
     }
 
-    /// The ID of the product; 0xffff is any.
+    /// Returns the ID of the product; 0xffff is any.
     pub fn product_id(&self) -> u16
         ensures { result ≡ number_in USB_CLASS_PRODUCT_ID (data_of self.now) }
     {
         self.number(USB_CLASS_PRODUCT_ID)
     }
 
-    /// The class; 0xff is any.
+    /// Returns the class; 0xff is any.
     pub fn device_class(&self) -> u8
         ensures { result ≡ number_in USB_CLASS_DEVICE_CLASS (data_of self.now) }
     {
         self.number(USB_CLASS_DEVICE_CLASS)
     }
 
-    /// The subclass; 0xff is any.
+    /// Returns the subclass; 0xff is any.
     pub fn device_subclass(&self) -> u8
         ensures { result ≡ number_in USB_CLASS_DEVICE_SUBCLASS (data_of self.now) }
     {
         self.number(USB_CLASS_DEVICE_SUBCLASS)
     }
 
-    /// The protocol; 0xff is any.
+    /// Returns the protocol; 0xff is any.
     pub fn device_protocol(&self) -> u8
         ensures { result ≡ number_in USB_CLASS_DEVICE_PROTOCOL (data_of self.now) }
     {
@@ -303,7 +304,7 @@ pub type DeviceLogicalUnit<'a> = TypedNode<
 >;
 
 impl<'a> DeviceLogicalUnit<'a> {
-    /// The logical unit number.
+    /// Returns the logical unit number.
     pub fn logical_unit_number(&self) -> u8
         ensures { result ≡ number_in DEVICE_LOGICAL_UNIT_LOGICAL_UNIT_NUMBER (data_of self.now) }
     {
@@ -321,7 +322,7 @@ impl<'a> DeviceLogicalUnit<'a> {
 pub type I2o<'a> = TypedNode<'a, MESSAGING_TYPE, I2O, I2O_LEAST>;
 
 impl<'a> I2o<'a> {
-    /// The number of the target on its bus.
+    /// Returns the number of the target on its bus.
     pub fn target_id(&self) -> u32
         ensures { result ≡ number_in I2O_TARGET_ID (data_of self.now) }
     {
@@ -341,21 +342,21 @@ impl<'a> I2o<'a> {
 pub type Sata<'a> = TypedNode<'a, MESSAGING_TYPE, SATA, SATA_LEAST>;
 
 impl<'a> Sata<'a> {
-    /// The number of the port of the host bus adapter.
+    /// Returns the number of the port of the host bus adapter.
     pub fn hba_port_number(&self) -> u16
         ensures { result ≡ number_in SATA_HBA_PORT_NUMBER (data_of self.now) }
     {
         self.number(SATA_HBA_PORT_NUMBER)
     }
 
-    /// The number of the port of a port multiplier; 0xffff where there is none.
+    /// Returns the port number of the port multiplier, or 0xffff if there is none.
     pub fn port_multiplier_port_number(&self) -> u16
         ensures { result ≡ number_in SATA_PORT_MULTIPLIER_PORT_NUMBER (data_of self.now) }
     {
         self.number(SATA_PORT_MULTIPLIER_PORT_NUMBER)
     }
 
-    /// The logical unit number.
+    /// Returns the logical unit number.
     pub fn logical_unit_number(&self) -> u16
         ensures { result ≡ number_in SATA_LOGICAL_UNIT_NUMBER (data_of self.now) }
     {
@@ -375,28 +376,28 @@ impl<'a> Sata<'a> {
 pub type SasEx<'a> = TypedNode<'a, MESSAGING_TYPE, SAS_EX, SAS_EX_LEAST>;
 
 impl<'a> SasEx<'a> {
-    /// The bytes of the SAS address.
+    /// Returns the bytes of the SAS address.
     pub fn sas_address(&self) -> [u8; 8]
         ensures { result ≡ bytes_in SAS_EX_SAS_ADDRESS (data_of self.now) }
     {
         self.bytes(SAS_EX_SAS_ADDRESS)
     }
 
-    /// The bytes of the logical unit number.
+    /// Returns the bytes of the logical unit number.
     pub fn logical_unit_number(&self) -> [u8; 8]
         ensures { result ≡ bytes_in SAS_EX_LOGICAL_UNIT_NUMBER (data_of self.now) }
     {
         self.bytes(SAS_EX_LOGICAL_UNIT_NUMBER)
     }
 
-    /// What is known of the device and of how it is attached.
+    /// Returns information about the device and its topology.
     pub fn info(&self) -> u16
         ensures { result ≡ number_in SAS_EX_INFO (data_of self.now) }
     {
         self.number(SAS_EX_INFO)
     }
 
-    /// The relative target port.
+    /// Returns the relative target port.
     pub fn relative_target_port(&self) -> u16
         ensures { result ≡ number_in SAS_EX_RELATIVE_TARGET_PORT (data_of self.now) }
     {
@@ -416,28 +417,28 @@ impl<'a> SasEx<'a> {
 pub type Uart<'a> = TypedNode<'a, MESSAGING_TYPE, UART, UART_LEAST>;
 
 impl<'a> Uart<'a> {
-    /// The baud rate; 0 is the default of the device.
+    /// Returns the baud rate; 0 is the device's default.
     pub fn baud_rate(&self) -> u64
         ensures { result ≡ number_in UART_BAUD_RATE (data_of self.now) }
     {
         self.number(UART_BAUD_RATE)
     }
 
-    /// How many data bits; 0 is the default of the device.
+    /// Returns the number of data bits; 0 is the device's default.
     pub fn data_bits(&self) -> u8
         ensures { result ≡ number_in UART_DATA_BITS (data_of self.now) }
     {
         self.number(UART_DATA_BITS)
     }
 
-    /// The parity: 0 default, 1 none, 2 even, 3 odd, 4 mark, 5 space.
+    /// Returns the parity: 0 is the default, 1 none, 2 even, 3 odd, 4 mark, 5 space.
     pub fn parity(&self) -> u8
         ensures { result ≡ number_in UART_PARITY (data_of self.now) }
     {
         self.number(UART_PARITY)
     }
 
-    /// The stop bits: 0 default, 1 one, 2 one and a half, 3 two.
+    /// Returns the stop bits: 0 is the default, 1 one, 2 one and a half, 3 two.
     pub fn stop_bits(&self) -> u8
         ensures { result ≡ number_in UART_STOP_BITS (data_of self.now) }
     {
@@ -445,7 +446,7 @@ impl<'a> Uart<'a> {
     }
 }
 
-/// A node of a vendor's own, named by a GUID.
+/// A vendor-defined node, identified by a GUID.
 ///
 /// ```rust
 /// let (node, _) = DevicePathNode::split_first(b"\x03\x0a\x15\0abcdefghijklmnop\x01")?;
@@ -460,18 +461,18 @@ pub type MessagingVendor<'a> = TypedNode<
     MESSAGING_VENDOR_LEAST,
 >;
 
-/// The same, as the Rust crate `uefi` names it.
+/// [`MessagingVendor`], under its name in the Rust crate `uefi`.
 pub type Vendor<'a> = MessagingVendor<'a>;
 
 impl<'a> MessagingVendor<'a> {
-    /// The GUID that names the vendor.
+    /// Returns the GUID that names the vendor.
     pub fn vendor_guid(&self) -> Guid
         ensures { result ≡ bytes_in MESSAGING_VENDOR_VENDOR_GUID (data_of self.now) }
     {
         self.guid_in(MESSAGING_VENDOR_VENDOR_GUID)
     }
 
-    /// The data that the vendor defines.
+    /// Returns the data that the vendor defines.
     pub fn vendor_defined_data(&self) -> &'a [u8]
         ensures { result.now ≡ bytes_from MESSAGING_VENDOR_VENDOR_DEFINED_DATA (data_of self.now) }
     {
@@ -490,14 +491,14 @@ impl<'a> MessagingVendor<'a> {
 pub type NvmeNamespace<'a> = TypedNode<'a, MESSAGING_TYPE, NVME_NAMESPACE, NVME_NAMESPACE_LEAST>;
 
 impl<'a> NvmeNamespace<'a> {
-    /// The number of the namespace.
+    /// Returns the number of the namespace.
     pub fn namespace_identifier(&self) -> u32
         ensures { result ≡ number_in NVME_NAMESPACE_NAMESPACE_IDENTIFIER (data_of self.now) }
     {
         self.number(NVME_NAMESPACE_NAMESPACE_IDENTIFIER)
     }
 
-    /// The extended unique identifier, EUI-64.
+    /// Returns the extended unique identifier, EUI-64.
     pub fn ieee_extended_unique_identifier(&self) -> u64
         ensures { result ≡ number_in NVME_NAMESPACE_IEEE_EXTENDED_UNIQUE_IDENTIFIER (data_of self.now) }
     {
@@ -515,14 +516,14 @@ impl<'a> NvmeNamespace<'a> {
 pub type Ufs<'a> = TypedNode<'a, MESSAGING_TYPE, UFS, UFS_LEAST>;
 
 impl<'a> Ufs<'a> {
-    /// The number of the target on its bus.
+    /// Returns the number of the target on its bus.
     pub fn target_id(&self) -> u8
         ensures { result ≡ number_in UFS_TARGET_ID (data_of self.now) }
     {
         self.number(UFS_TARGET_ID)
     }
 
-    /// The logical unit number.
+    /// Returns the logical unit number.
     pub fn logical_unit_number(&self) -> u8
         ensures { result ≡ number_in UFS_LOGICAL_UNIT_NUMBER (data_of self.now) }
     {
@@ -540,7 +541,7 @@ impl<'a> Ufs<'a> {
 pub type Sd<'a> = TypedNode<'a, MESSAGING_TYPE, SD, SD_LEAST>;
 
 impl<'a> Sd<'a> {
-    /// The number of the slot.
+    /// Returns the number of the slot.
     pub fn slot_number(&self) -> u8
         ensures { result ≡ number_in SD_SLOT_NUMBER (data_of self.now) }
     {
@@ -558,7 +559,7 @@ impl<'a> Sd<'a> {
 pub type Emmc<'a> = TypedNode<'a, MESSAGING_TYPE, EMMC, EMMC_LEAST>;
 
 impl<'a> Emmc<'a> {
-    /// The number of the slot.
+    /// Returns the number of the slot.
     pub fn slot_number(&self) -> u8
         ensures { result ≡ number_in EMMC_SLOT_NUMBER (data_of self.now) }
     {
@@ -581,7 +582,7 @@ pub type NvdimmNamespace<'a> = TypedNode<
 >;
 
 impl<'a> NvdimmNamespace<'a> {
-    /// The UUID that labels the namespace.
+    /// Returns the UUID that labels the namespace.
     pub fn uuid(&self) -> Guid
         ensures { result ≡ bytes_in NVDIMM_NAMESPACE_UUID (data_of self.now) }
     {

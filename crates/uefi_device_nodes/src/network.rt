@@ -1,5 +1,5 @@
-//! Nodes of type Messaging that name networks, and what is reached over them (UEFI Specification 2.10,
-//! section 10.3.4).
+//! Nodes of type Messaging that name networks, or devices and services that are reached over networks (UEFI
+//! Specification 2.10, section 10.3.4).
 #![tactic(auto)]
 
 ghost use Rattle.std.specs.Prelude.{◌≡◌, ◌+◌, ◌*◌, ◌/◌, ◌<◌, ◌≤◌, ◌↔◌, IfSome, IsSome, drop, length, slice_range};
@@ -39,14 +39,14 @@ use uefi_node_table::layouts::{
 pub type MacAddress<'a> = TypedNode<'a, MESSAGING_TYPE, MAC_ADDRESS, MAC_ADDRESS_LEAST>;
 
 impl<'a> MacAddress<'a> {
-    /// The address, filled up with zeros.
+    /// Returns the address, padded with zeros.
     pub fn mac_address(&self) -> [u8; 32]
         ensures { result ≡ bytes_in MAC_ADDRESS_MAC_ADDRESS (data_of self.now) }
     {
         self.bytes(MAC_ADDRESS_MAC_ADDRESS)
     }
 
-    /// The type of the interface, by RFC 3232.
+    /// Returns the type of the interface (RFC 3232).
     pub fn interface_type(&self) -> u8
         ensures { result ≡ number_in MAC_ADDRESS_INTERFACE_TYPE (data_of self.now) }
     {
@@ -67,50 +67,50 @@ impl<'a> MacAddress<'a> {
 pub type Ipv4<'a> = TypedNode<'a, MESSAGING_TYPE, IPV4, IPV4_LEAST>;
 
 impl<'a> Ipv4<'a> {
-    /// The local address.
+    /// Returns the local address.
     pub fn local_ip_address(&self) -> [u8; 4]
         ensures { result ≡ bytes_in IPV4_LOCAL_IP_ADDRESS (data_of self.now) }
     {
         self.bytes(IPV4_LOCAL_IP_ADDRESS)
     }
 
-    /// The remote address.
+    /// Returns the remote address.
     pub fn remote_ip_address(&self) -> [u8; 4]
         ensures { result ≡ bytes_in IPV4_REMOTE_IP_ADDRESS (data_of self.now) }
     {
         self.bytes(IPV4_REMOTE_IP_ADDRESS)
     }
 
-    /// The local port.
+    /// Returns the local port.
     pub fn local_port(&self) -> u16
         ensures { result ≡ number_in IPV4_LOCAL_PORT (data_of self.now) }
     {
         self.number(IPV4_LOCAL_PORT)
     }
 
-    /// The remote port.
+    /// Returns the remote port.
     pub fn remote_port(&self) -> u16
         ensures { result ≡ number_in IPV4_REMOTE_PORT (data_of self.now) }
     {
         self.number(IPV4_REMOTE_PORT)
     }
 
-    /// The protocol over IP, as that of UDP or TCP.
+    /// Returns the number of the protocol over IP, such as UDP or TCP.
     pub fn protocol(&self) -> u16
         ensures { result ≡ number_in IPV4_PROTOCOL (data_of self.now) }
     {
         self.number(IPV4_PROTOCOL)
     }
 
-    /// Zero where the local address came by DHCP.
+    /// Returns the origin of the local address; 0 is DHCP.
     pub fn ip_address_origin(&self) -> u8
         ensures { result ≡ number_in IPV4_IP_ADDRESS_ORIGIN (data_of self.now) }
     {
         self.number(IPV4_IP_ADDRESS_ORIGIN)
     }
 
-    /// The address of the gateway, or `None` where the node ends before it: nodes of 19 bytes, from before
-    /// the standard had this field, have none.
+    /// Returns the address of the gateway, or `None` if the node ends before the end of this field. A node
+    /// of 19 bytes, from before the standard had the field, does not contain it.
     pub fn gateway_ip_address(&self) -> Option<[u8; 4]>
         ensures some { IsSome result ↔ (end_of IPV4_GATEWAY_IP_ADDRESS ≤ length (data_of self.now)) }
         ensures bytes { IfSome result (λ bytes. bytes ≡ bytes_in IPV4_GATEWAY_IP_ADDRESS (data_of self.now)) }
@@ -118,8 +118,8 @@ impl<'a> Ipv4<'a> {
         self.later_bytes(IPV4_GATEWAY_IP_ADDRESS)
     }
 
-    /// The mask of the subnet, or `None` where the node ends before it, as [`Ipv4::gateway_ip_address`]
-    /// says.
+    /// Returns the mask of the subnet, or `None` if the node ends before the end of this field, as for
+    /// [`Ipv4::gateway_ip_address`].
     pub fn subnet_mask(&self) -> Option<[u8; 4]>
         ensures some { IsSome result ↔ (end_of IPV4_SUBNET_MASK ≤ length (data_of self.now)) }
         ensures bytes { IfSome result (λ bytes. bytes ≡ bytes_in IPV4_SUBNET_MASK (data_of self.now)) }
@@ -141,56 +141,56 @@ impl<'a> Ipv4<'a> {
 pub type Ipv6<'a> = TypedNode<'a, MESSAGING_TYPE, IPV6, IPV6_LEAST>;
 
 impl<'a> Ipv6<'a> {
-    /// The local address.
+    /// Returns the local address.
     pub fn local_ip_address(&self) -> [u8; 16]
         ensures { result ≡ bytes_in IPV6_LOCAL_IP_ADDRESS (data_of self.now) }
     {
         self.bytes(IPV6_LOCAL_IP_ADDRESS)
     }
 
-    /// The remote address.
+    /// Returns the remote address.
     pub fn remote_ip_address(&self) -> [u8; 16]
         ensures { result ≡ bytes_in IPV6_REMOTE_IP_ADDRESS (data_of self.now) }
     {
         self.bytes(IPV6_REMOTE_IP_ADDRESS)
     }
 
-    /// The local port.
+    /// Returns the local port.
     pub fn local_port(&self) -> u16
         ensures { result ≡ number_in IPV6_LOCAL_PORT (data_of self.now) }
     {
         self.number(IPV6_LOCAL_PORT)
     }
 
-    /// The remote port.
+    /// Returns the remote port.
     pub fn remote_port(&self) -> u16
         ensures { result ≡ number_in IPV6_REMOTE_PORT (data_of self.now) }
     {
         self.number(IPV6_REMOTE_PORT)
     }
 
-    /// The protocol over IP, as that of UDP or TCP.
+    /// Returns the number of the protocol over IP, such as UDP or TCP.
     pub fn protocol(&self) -> u16
         ensures { result ≡ number_in IPV6_PROTOCOL (data_of self.now) }
     {
         self.number(IPV6_PROTOCOL)
     }
 
-    /// How the local address was set: 0 by hand, 1 automatically without state, 2 automatically with state.
+    /// Returns the origin of the local address: 0 is manual, 1 stateless and 2 stateful autoconfiguration.
     pub fn ip_address_origin(&self) -> u8
         ensures { result ≡ number_in IPV6_IP_ADDRESS_ORIGIN (data_of self.now) }
     {
         self.number(IPV6_IP_ADDRESS_ORIGIN)
     }
 
-    /// How many bits the prefix has.
+    /// Returns the number of bits of the prefix.
     pub fn prefix_length(&self) -> u8
         ensures { result ≡ number_in IPV6_PREFIX_LENGTH (data_of self.now) }
     {
         self.number(IPV6_PREFIX_LENGTH)
     }
 
-    /// The address of the gateway.
+    /// Returns the address of the gateway.
     pub fn gateway_ip_address(&self) -> [u8; 16]
         ensures { result ≡ bytes_in IPV6_GATEWAY_IP_ADDRESS (data_of self.now) }
     {
@@ -208,7 +208,7 @@ impl<'a> Ipv6<'a> {
 pub type Vlan<'a> = TypedNode<'a, MESSAGING_TYPE, VLAN, VLAN_LEAST>;
 
 impl<'a> Vlan<'a> {
-    /// The number of the network, from 0 to 4094.
+    /// Returns the number of the network, from 0 to 4094.
     pub fn vlan_id(&self) -> u16
         ensures { result ≡ number_in VLAN_VLAN_ID (data_of self.now) }
     {
@@ -229,36 +229,36 @@ impl<'a> Vlan<'a> {
 pub type Infiniband<'a> = TypedNode<'a, MESSAGING_TYPE, INFINIBAND, INFINIBAND_LEAST>;
 
 impl<'a> Infiniband<'a> {
-    /// What the node names, in bits: 0 an I/O controller or a service, 1 an extension of the boot
-    /// environment, 2 a console, 3 storage, 4 a network.
+    /// Returns flags of the resource. Bit 0 is clear for an I/O controller and set for a service. Bits 1 to
+    /// 4 mean an extension of the boot environment, a console, storage and a network.
     pub fn resource_flags(&self) -> u32
         ensures { result ≡ number_in INFINIBAND_RESOURCE_FLAGS (data_of self.now) }
     {
         self.number(INFINIBAND_RESOURCE_FLAGS)
     }
 
-    /// The bytes of the global identifier of the remote fabric port.
+    /// Returns the bytes of the global identifier of the remote fabric port.
     pub fn port_gid(&self) -> [u8; 16]
         ensures { result ≡ bytes_in INFINIBAND_PORT_GID (data_of self.now) }
     {
         self.bytes(INFINIBAND_PORT_GID)
     }
 
-    /// The GUID of the I/O controller, or the identifier of the service.
+    /// Returns the GUID of the I/O controller, or the identifier of the service.
     pub fn ioc_guid_or_service_id(&self) -> u64
         ensures { result ≡ number_in INFINIBAND_IOC_GUID_OR_SERVICE_ID (data_of self.now) }
     {
         self.number(INFINIBAND_IOC_GUID_OR_SERVICE_ID)
     }
 
-    /// The persistent identifier of the remote port.
+    /// Returns the persistent identifier of the remote port.
     pub fn target_port_id(&self) -> u64
         ensures { result ≡ number_in INFINIBAND_TARGET_PORT_ID (data_of self.now) }
     {
         self.number(INFINIBAND_TARGET_PORT_ID)
     }
 
-    /// The persistent identifier of the remote device.
+    /// Returns the persistent identifier of the remote device.
     pub fn device_id(&self) -> u64
         ensures { result ≡ number_in INFINIBAND_DEVICE_ID (data_of self.now) }
     {
@@ -279,35 +279,35 @@ impl<'a> Infiniband<'a> {
 pub type Iscsi<'a> = TypedNode<'a, MESSAGING_TYPE, ISCSI, ISCSI_LEAST>;
 
 impl<'a> Iscsi<'a> {
-    /// The protocol: 0 is TCP.
+    /// Returns the protocol: 0 is TCP.
     pub fn protocol(&self) -> u16
         ensures { result ≡ number_in ISCSI_PROTOCOL (data_of self.now) }
     {
         self.number(ISCSI_PROTOCOL)
     }
 
-    /// The options of the login: bits for digests and authentication.
+    /// Returns the login options, with bits for digests and authentication.
     pub fn options(&self) -> u16
         ensures { result ≡ number_in ISCSI_OPTIONS (data_of self.now) }
     {
         self.number(ISCSI_OPTIONS)
     }
 
-    /// The bytes of the logical unit number.
+    /// Returns the bytes of the logical unit number.
     pub fn logical_unit_number(&self) -> [u8; 8]
         ensures { result ≡ bytes_in ISCSI_LOGICAL_UNIT_NUMBER (data_of self.now) }
     {
         self.bytes(ISCSI_LOGICAL_UNIT_NUMBER)
     }
 
-    /// The tag of the portal group of the target.
+    /// Returns the portal group tag of the target.
     pub fn target_portal_group_tag(&self) -> u16
         ensures { result ≡ number_in ISCSI_TARGET_PORTAL_GROUP_TAG (data_of self.now) }
     {
         self.number(ISCSI_TARGET_PORTAL_GROUP_TAG)
     }
 
-    /// The bytes of the name of the target.
+    /// Returns the bytes of the name of the target.
     pub fn iscsi_target_name(&self) -> &'a [u8]
         ensures { result.now ≡ bytes_from ISCSI_ISCSI_TARGET_NAME (data_of self.now) }
     {
@@ -315,7 +315,7 @@ impl<'a> Iscsi<'a> {
     }
 }
 
-/// What a URI names.
+/// A resource that a URI identifies.
 ///
 /// ```rust
 /// let (node, _) = DevicePathNode::split_first(b"\x03\x18\x12\0http://a/b.efi")?;
@@ -325,7 +325,7 @@ impl<'a> Iscsi<'a> {
 pub type Uri<'a> = TypedNode<'a, MESSAGING_TYPE, URI, URI_LEAST>;
 
 impl<'a> Uri<'a> {
-    /// The bytes of the URI.
+    /// Returns the bytes of the URI.
     pub fn value(&self) -> &'a [u8]
         ensures { result.now ≡ bytes_from URI_VALUE (data_of self.now) }
     {
@@ -343,7 +343,7 @@ impl<'a> Uri<'a> {
 pub type Bluetooth<'a> = TypedNode<'a, MESSAGING_TYPE, BLUETOOTH, BLUETOOTH_LEAST>;
 
 impl<'a> Bluetooth<'a> {
-    /// The bytes of its address.
+    /// Returns the bytes of its address.
     pub fn device_address(&self) -> [u8; 6]
         ensures { result ≡ bytes_in BLUETOOTH_DEVICE_ADDRESS (data_of self.now) }
     {
@@ -362,14 +362,14 @@ impl<'a> Bluetooth<'a> {
 pub type BluetoothLe<'a> = TypedNode<'a, MESSAGING_TYPE, BLUETOOTH_LE, BLUETOOTH_LE_LEAST>;
 
 impl<'a> BluetoothLe<'a> {
-    /// The bytes of its address.
+    /// Returns the bytes of its address.
     pub fn device_address(&self) -> [u8; 6]
         ensures { result ≡ bytes_in BLUETOOTH_LE_DEVICE_ADDRESS (data_of self.now) }
     {
         self.bytes(BLUETOOTH_LE_DEVICE_ADDRESS)
     }
 
-    /// The type of the address: 0 is public, 1 is random.
+    /// Returns the type of the address: 0 is public, 1 is random.
     pub fn address_type(&self) -> u8
         ensures { result ≡ number_in BLUETOOTH_LE_ADDRESS_TYPE (data_of self.now) }
     {
@@ -388,7 +388,7 @@ impl<'a> BluetoothLe<'a> {
 pub type Wifi<'a> = TypedNode<'a, MESSAGING_TYPE, WIFI, WIFI_LEAST>;
 
 impl<'a> Wifi<'a> {
-    /// The name of the network, its SSID, filled up with zeros.
+    /// Returns the SSID of the network, padded with zeros.
     pub fn ssid(&self) -> [u8; 32]
         ensures { result ≡ bytes_in WIFI_SSID (data_of self.now) }
     {
@@ -396,7 +396,7 @@ impl<'a> Wifi<'a> {
     }
 }
 
-/// Name servers.
+/// The addresses of name servers.
 ///
 /// ```rust
 /// let bytes = b"\x03\x1f\x15\0\0\x09\x09\x09\x09\0\0\0\0\0\0\0\0\0\0\0\0";
@@ -409,22 +409,22 @@ impl<'a> Wifi<'a> {
 pub type Dns<'a> = TypedNode<'a, MESSAGING_TYPE, DNS, DNS_LEAST>;
 
 impl<'a> Dns<'a> {
-    /// The type of the addresses: 0 is IP version 4, 1 is version 6.
+    /// Returns the type of the addresses: 0 is IP version 4, 1 is version 6.
     pub fn address_type(&self) -> u8
         ensures { result ≡ number_in DNS_ADDRESS_TYPE (data_of self.now) }
     {
         self.number(DNS_ADDRESS_TYPE)
     }
 
-    /// How many addresses there are. Bytes after the last whole one are left out.
+    /// Returns the number of addresses. Bytes after the last whole address are ignored.
     pub fn address_count(&self) -> usize
         ensures { result ≡ length (bytes_from DNS_ADDRESS (data_of self.now)) / 16 }
     {
         self.tail(DNS_ADDRESS).len() / 16
     }
 
-    /// The bytes of the address at an index, or `None` from the count on. One of IP version 4 fills the
-    /// first four.
+    /// Returns the bytes of the address at an index, or `None` if the index is not below the number of
+    /// addresses. An IP version 4 address fills the first four.
     pub fn address(&self, index: usize) -> Option<[u8; 16]>
         ensures some { IsSome result ↔ (index < length (bytes_from DNS_ADDRESS (data_of self.now)) / 16) }
         ensures bytes { IfSome result (λ bytes.
@@ -451,22 +451,22 @@ impl<'a> Dns<'a> {
 pub type RestService<'a> = TypedNode<'a, MESSAGING_TYPE, REST_SERVICE, REST_SERVICE_LEAST>;
 
 impl<'a> RestService<'a> {
-    /// The service: 1 Redfish, 2 OData, 0xff that of a vendor.
+    /// Returns the type of the service: 1 is Redfish, 2 OData, 0xff a vendor's.
     pub fn service_type(&self) -> u8
         ensures { result ≡ number_in REST_SERVICE_SERVICE_TYPE (data_of self.now) }
     {
         self.number(REST_SERVICE_SERVICE_TYPE)
     }
 
-    /// How it is reached: 1 in band, 2 out of band.
+    /// Returns the access mode: 1 is in band, 2 out of band.
     pub fn access_mode(&self) -> u8
         ensures { result ≡ number_in REST_SERVICE_ACCESS_MODE (data_of self.now) }
     {
         self.number(REST_SERVICE_ACCESS_MODE)
     }
 
-    /// The GUID of a vendor's service, whose type is 0xff, and the vendor's data after it; `None` of
-    /// another service, and where the GUID is not whole.
+    /// Returns the GUID of a vendor's service and the vendor's data after it, or `None` if the type of the
+    /// service is not 0xff or the data ends within the GUID.
     pub fn vendor_guid_and_data(&self) -> Option<(Guid, &'a [u8])>
         ensures some { IsSome result
             ↔ ((number_in REST_SERVICE_SERVICE_TYPE (data_of self.now) ≡ 255)
@@ -502,21 +502,21 @@ pub type NvmeOfNamespace<'a> = TypedNode<
 >;
 
 impl<'a> NvmeOfNamespace<'a> {
-    /// The type of the identifier: 1 EUI-64, 2 NGUID, 3 UUID.
+    /// Returns the type of the identifier: 1 is EUI-64, 2 NGUID, 3 UUID.
     pub fn nidt(&self) -> u8
         ensures { result ≡ number_in NVME_OF_NAMESPACE_NIDT (data_of self.now) }
     {
         self.number(NVME_OF_NAMESPACE_NIDT)
     }
 
-    /// The bytes of the identifier.
+    /// Returns the bytes of the identifier.
     pub fn nid(&self) -> [u8; 16]
         ensures { result ≡ bytes_in NVME_OF_NAMESPACE_NID (data_of self.now) }
     {
         self.bytes(NVME_OF_NAMESPACE_NID)
     }
 
-    /// The qualified name of the subsystem, in UTF-8, with its NUL.
+    /// Returns the qualified name of the subsystem, in UTF-8, with its NUL.
     pub fn subsystem_nqn(&self) -> &'a [u8]
         ensures { result.now ≡ bytes_from NVME_OF_NAMESPACE_SUBSYSTEM_NQN (data_of self.now) }
     {

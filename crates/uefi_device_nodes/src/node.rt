@@ -30,26 +30,26 @@ pub struct DeviceType(
 );
 
 impl DeviceType {
-    /// A device that is in the system's address space, such as one on a PCI bus.
+    /// A device in the system's address space, such as a device on a PCI bus.
     pub const HARDWARE: DeviceType = DeviceType(HARDWARE_TYPE);
 
-    /// A device that ACPI names.
+    /// A device that the ACPI namespace describes.
     pub const ACPI: DeviceType = DeviceType(ACPI_TYPE);
 
-    /// A device that messages reach.
+    /// A device that is reached by messages, such as a device on a SCSI bus.
     pub const MESSAGING: DeviceType = DeviceType(MESSAGING_TYPE);
 
     /// A part of a medium, such as a partition or a file.
     pub const MEDIA: DeviceType = DeviceType(MEDIA_TYPE);
 
-    /// What a legacy BIOS can boot.
+    /// A device that a legacy BIOS can boot.
     pub const BIOS_BOOT_SPEC: DeviceType = DeviceType(BIOS_BOOT_SPEC_TYPE);
 
     /// The end of an instance or of a path.
     pub const END: DeviceType = DeviceType(0x7f);
 }
 
-/// The sub-type of a node, which says something together with its type alone.
+/// The sub-type of a node. Its meaning depends on the type.
 #[derive(Clone, Copy, Debug, PartialEq, Eq)]
 pub struct DeviceSubType(
     /// The number of the sub-type.
@@ -57,170 +57,171 @@ pub struct DeviceSubType(
 );
 
 impl DeviceSubType {
-    /// Of [`DeviceType::HARDWARE`]: a device on a PCI bus.
+    /// A device on a PCI bus ([`DeviceType::HARDWARE`]).
     pub const HARDWARE_PCI: DeviceSubType = DeviceSubType(PCI);
 
-    /// Of [`DeviceType::HARDWARE`]: a PC card.
+    /// A PC card ([`DeviceType::HARDWARE`]).
     pub const HARDWARE_PCCARD: DeviceSubType = DeviceSubType(PCCARD);
 
-    /// Of [`DeviceType::HARDWARE`]: memory.
+    /// Memory ([`DeviceType::HARDWARE`]).
     pub const HARDWARE_MEMORY_MAPPED: DeviceSubType = DeviceSubType(MEMORY_MAPPED);
 
-    /// Of [`DeviceType::HARDWARE`]: a vendor's own.
+    /// A vendor-defined node ([`DeviceType::HARDWARE`]).
     pub const HARDWARE_VENDOR: DeviceSubType = DeviceSubType(HARDWARE_VENDOR);
 
-    /// Of [`DeviceType::HARDWARE`]: a controller.
+    /// A controller ([`DeviceType::HARDWARE`]).
     pub const HARDWARE_CONTROLLER: DeviceSubType = DeviceSubType(CONTROLLER);
 
-    /// Of [`DeviceType::HARDWARE`]: the interface of a management controller.
+    /// The interface of a management controller ([`DeviceType::HARDWARE`]).
     pub const HARDWARE_BMC: DeviceSubType = DeviceSubType(BMC);
 
-    /// Of [`DeviceType::ACPI`]: a device with two numbers.
+    /// A device with two numbers ([`DeviceType::ACPI`]).
     pub const ACPI: DeviceSubType = DeviceSubType(ACPI);
 
-    /// Of [`DeviceType::ACPI`]: a device with numbers and strings.
+    /// A device with numbers and strings ([`DeviceType::ACPI`]).
     pub const ACPI_EXPANDED: DeviceSubType = DeviceSubType(EXPANDED);
 
-    /// Of [`DeviceType::ACPI`]: the outputs of a display adapter.
+    /// The outputs of a display adapter ([`DeviceType::ACPI`]).
     pub const ACPI_ADR: DeviceSubType = DeviceSubType(ADR);
 
-    /// Of [`DeviceType::ACPI`]: a persistent memory module.
+    /// A persistent memory module ([`DeviceType::ACPI`]).
     pub const ACPI_NVDIMM: DeviceSubType = DeviceSubType(NVDIMM);
 
-    /// Of [`DeviceType::MESSAGING`]: an ATAPI drive.
+    /// An ATAPI drive ([`DeviceType::MESSAGING`]).
     pub const MESSAGING_ATAPI: DeviceSubType = DeviceSubType(ATAPI);
 
-    /// Of [`DeviceType::MESSAGING`]: a SCSI device.
+    /// A SCSI device ([`DeviceType::MESSAGING`]).
     pub const MESSAGING_SCSI: DeviceSubType = DeviceSubType(SCSI);
 
-    /// Of [`DeviceType::MESSAGING`]: a device on Fibre Channel.
+    /// A device on Fibre Channel ([`DeviceType::MESSAGING`]).
     pub const MESSAGING_FIBRE_CHANNEL: DeviceSubType = DeviceSubType(FIBRE_CHANNEL);
 
-    /// Of [`DeviceType::MESSAGING`]: a FireWire device.
+    /// A FireWire device ([`DeviceType::MESSAGING`]).
     pub const MESSAGING_1394: DeviceSubType = DeviceSubType(IEEE1394);
 
-    /// Of [`DeviceType::MESSAGING`]: a device on a USB bus.
+    /// A device on a USB bus ([`DeviceType::MESSAGING`]).
     pub const MESSAGING_USB: DeviceSubType = DeviceSubType(USB);
 
-    /// Of [`DeviceType::MESSAGING`]: an I2O device.
+    /// An I2O device ([`DeviceType::MESSAGING`]).
     pub const MESSAGING_I2O: DeviceSubType = DeviceSubType(I2O);
 
-    /// Of [`DeviceType::MESSAGING`]: a device on InfiniBand.
+    /// A device on InfiniBand ([`DeviceType::MESSAGING`]).
     pub const MESSAGING_INFINIBAND: DeviceSubType = DeviceSubType(INFINIBAND);
 
-    /// Of [`DeviceType::MESSAGING`]: a vendor's own.
+    /// A vendor-defined node ([`DeviceType::MESSAGING`]).
     pub const MESSAGING_VENDOR: DeviceSubType = DeviceSubType(MESSAGING_VENDOR);
 
-    /// Of [`DeviceType::MESSAGING`]: a network interface.
+    /// A network interface ([`DeviceType::MESSAGING`]).
     pub const MESSAGING_MAC_ADDRESS: DeviceSubType = DeviceSubType(MAC_ADDRESS);
 
-    /// Of [`DeviceType::MESSAGING`]: a connection over IP version 4.
+    /// A connection over IP version 4 ([`DeviceType::MESSAGING`]).
     pub const MESSAGING_IPV4: DeviceSubType = DeviceSubType(IPV4);
 
-    /// Of [`DeviceType::MESSAGING`]: a connection over IP version 6.
+    /// A connection over IP version 6 ([`DeviceType::MESSAGING`]).
     pub const MESSAGING_IPV6: DeviceSubType = DeviceSubType(IPV6);
 
-    /// Of [`DeviceType::MESSAGING`]: a serial port.
+    /// A serial port ([`DeviceType::MESSAGING`]).
     pub const MESSAGING_UART: DeviceSubType = DeviceSubType(UART);
 
-    /// Of [`DeviceType::MESSAGING`]: a class of USB devices.
+    /// A class of USB devices ([`DeviceType::MESSAGING`]).
     pub const MESSAGING_USB_CLASS: DeviceSubType = DeviceSubType(USB_CLASS);
 
-    /// Of [`DeviceType::MESSAGING`]: a USB device by its serial number.
+    /// A USB device, identified by its serial number ([`DeviceType::MESSAGING`]).
     pub const MESSAGING_USB_WWID: DeviceSubType = DeviceSubType(USB_WWID);
 
-    /// Of [`DeviceType::MESSAGING`]: a logical unit.
+    /// A logical unit ([`DeviceType::MESSAGING`]).
     pub const MESSAGING_DEVICE_LOGICAL_UNIT: DeviceSubType = DeviceSubType(DEVICE_LOGICAL_UNIT);
 
-    /// Of [`DeviceType::MESSAGING`]: a device on SATA.
+    /// A device on SATA ([`DeviceType::MESSAGING`]).
     pub const MESSAGING_SATA: DeviceSubType = DeviceSubType(SATA);
 
-    /// Of [`DeviceType::MESSAGING`]: an iSCSI target.
+    /// An iSCSI target ([`DeviceType::MESSAGING`]).
     pub const MESSAGING_ISCSI: DeviceSubType = DeviceSubType(ISCSI);
 
-    /// Of [`DeviceType::MESSAGING`]: a virtual network.
+    /// A virtual network ([`DeviceType::MESSAGING`]).
     pub const MESSAGING_VLAN: DeviceSubType = DeviceSubType(VLAN);
 
-    /// Of [`DeviceType::MESSAGING`]: a device on Fibre Channel, with its bytes in order.
+    /// A device on Fibre Channel, with its numbers as bytes in the order of the bus
+    /// ([`DeviceType::MESSAGING`]).
     pub const MESSAGING_FIBRE_CHANNEL_EX: DeviceSubType = DeviceSubType(FIBRE_CHANNEL_EX);
 
-    /// Of [`DeviceType::MESSAGING`]: a device on SAS.
+    /// A device on SAS ([`DeviceType::MESSAGING`]).
     pub const MESSAGING_SCSI_SAS_EX: DeviceSubType = DeviceSubType(SAS_EX);
 
-    /// Of [`DeviceType::MESSAGING`]: a namespace of an NVMe drive.
+    /// A namespace of an NVMe drive ([`DeviceType::MESSAGING`]).
     pub const MESSAGING_NVME_NAMESPACE: DeviceSubType = DeviceSubType(NVME_NAMESPACE);
 
-    /// Of [`DeviceType::MESSAGING`]: a URI.
+    /// A URI ([`DeviceType::MESSAGING`]).
     pub const MESSAGING_URI: DeviceSubType = DeviceSubType(URI);
 
-    /// Of [`DeviceType::MESSAGING`]: a device on UFS.
+    /// A device on UFS ([`DeviceType::MESSAGING`]).
     pub const MESSAGING_UFS: DeviceSubType = DeviceSubType(UFS);
 
-    /// Of [`DeviceType::MESSAGING`]: an SD card.
+    /// An SD card ([`DeviceType::MESSAGING`]).
     pub const MESSAGING_SD: DeviceSubType = DeviceSubType(SD);
 
-    /// Of [`DeviceType::MESSAGING`]: a Bluetooth device.
+    /// A Bluetooth device ([`DeviceType::MESSAGING`]).
     pub const MESSAGING_BLUETOOTH: DeviceSubType = DeviceSubType(BLUETOOTH);
 
-    /// Of [`DeviceType::MESSAGING`]: a wireless network.
+    /// A wireless network ([`DeviceType::MESSAGING`]).
     pub const MESSAGING_WIFI: DeviceSubType = DeviceSubType(WIFI);
 
-    /// Of [`DeviceType::MESSAGING`]: an eMMC device.
+    /// An eMMC device ([`DeviceType::MESSAGING`]).
     pub const MESSAGING_EMMC: DeviceSubType = DeviceSubType(EMMC);
 
-    /// Of [`DeviceType::MESSAGING`]: a Bluetooth Low Energy device.
+    /// A Bluetooth Low Energy device ([`DeviceType::MESSAGING`]).
     pub const MESSAGING_BLUETOOTH_LE: DeviceSubType = DeviceSubType(BLUETOOTH_LE);
 
-    /// Of [`DeviceType::MESSAGING`]: name servers.
+    /// The addresses of name servers ([`DeviceType::MESSAGING`]).
     pub const MESSAGING_DNS: DeviceSubType = DeviceSubType(DNS);
 
-    /// Of [`DeviceType::MESSAGING`]: a namespace of a persistent memory module.
+    /// A namespace of a persistent memory module ([`DeviceType::MESSAGING`]).
     pub const MESSAGING_NVDIMM_NAMESPACE: DeviceSubType = DeviceSubType(NVDIMM_NAMESPACE);
 
-    /// Of [`DeviceType::MESSAGING`]: a REST service.
+    /// A REST service ([`DeviceType::MESSAGING`]).
     pub const MESSAGING_REST_SERVICE: DeviceSubType = DeviceSubType(REST_SERVICE);
 
-    /// Of [`DeviceType::MESSAGING`]: a namespace of an NVMe drive over a network.
+    /// A namespace of an NVMe drive over a network ([`DeviceType::MESSAGING`]).
     pub const MESSAGING_NVME_OF_NAMESPACE: DeviceSubType = DeviceSubType(NVME_OF_NAMESPACE);
 
-    /// Of [`DeviceType::MEDIA`]: a partition.
+    /// A partition ([`DeviceType::MEDIA`]).
     pub const MEDIA_HARD_DRIVE: DeviceSubType = DeviceSubType(HARD_DRIVE);
 
-    /// Of [`DeviceType::MEDIA`]: a boot entry of a CD-ROM.
+    /// A boot entry of a CD-ROM ([`DeviceType::MEDIA`]).
     pub const MEDIA_CD_ROM: DeviceSubType = DeviceSubType(CD_ROM);
 
-    /// Of [`DeviceType::MEDIA`]: a vendor's own.
+    /// A vendor-defined node ([`DeviceType::MEDIA`]).
     pub const MEDIA_VENDOR: DeviceSubType = DeviceSubType(MEDIA_VENDOR);
 
-    /// Of [`DeviceType::MEDIA`]: a file.
+    /// A file ([`DeviceType::MEDIA`]).
     pub const MEDIA_FILE_PATH: DeviceSubType = DeviceSubType(FILE_PATH);
 
-    /// Of [`DeviceType::MEDIA`]: a protocol.
+    /// A protocol ([`DeviceType::MEDIA`]).
     pub const MEDIA_PROTOCOL: DeviceSubType = DeviceSubType(PROTOCOL);
 
-    /// Of [`DeviceType::MEDIA`]: a file of a firmware volume.
+    /// A file of a firmware volume ([`DeviceType::MEDIA`]).
     pub const MEDIA_PIWG_FIRMWARE_FILE: DeviceSubType = DeviceSubType(FIRMWARE_FILE);
 
-    /// Of [`DeviceType::MEDIA`]: a firmware volume.
+    /// A firmware volume ([`DeviceType::MEDIA`]).
     pub const MEDIA_PIWG_FIRMWARE_VOLUME: DeviceSubType = DeviceSubType(FIRMWARE_VOLUME);
 
-    /// Of [`DeviceType::MEDIA`]: a range of bytes.
+    /// A range of bytes ([`DeviceType::MEDIA`]).
     pub const MEDIA_RELATIVE_OFFSET_RANGE: DeviceSubType = DeviceSubType(RELATIVE_OFFSET_RANGE);
 
-    /// Of [`DeviceType::MEDIA`]: a RAM disk.
+    /// A RAM disk ([`DeviceType::MEDIA`]).
     pub const MEDIA_RAM_DISK: DeviceSubType = DeviceSubType(RAM_DISK);
 
-    /// Of [`DeviceType::BIOS_BOOT_SPEC`]: what a legacy BIOS can boot.
+    /// A device that a legacy BIOS can boot ([`DeviceType::BIOS_BOOT_SPEC`]).
     pub const BIOS_BOOT_SPECIFICATION: DeviceSubType = DeviceSubType(BOOT_SPECIFICATION);
 
-    /// Of [`DeviceType::END`]: the end of an instance, after which another follows.
+    /// The end of an instance, after which another follows ([`DeviceType::END`]).
     pub const END_INSTANCE: DeviceSubType = DeviceSubType(0x01);
 
-    /// Of [`DeviceType::END`]: the end of the path.
+    /// The end of the path ([`DeviceType::END`]).
     pub const END_ENTIRE: DeviceSubType = DeviceSubType(0xff);
 }
 
-/// Where in a node the bytes begin that are at fault. For device paths alone.
+/// Returns where in a node the faulty bytes begin. Public only for `uefi_device_path`.
 #[doc(hidden)]
 pub fn fault_place(cause: NodeError) -> usize
     ensures place { result ≡ fault_place cause }
@@ -233,8 +234,7 @@ pub fn fault_place(cause: NodeError) -> usize
     }
 }
 
-/// A node that lies in borrowed bytes. A contract sees it as `node_of` it: its type, its sub-type and
-/// its data.
+/// A node in borrowed bytes. A contract sees it as `node_of` it: its type, its sub-type and its data.
 ///
 /// ```rust
 /// let (node, _) = DevicePathNode::split_first(&[1, 1, 6, 0, 2, 0x1f])?;
@@ -254,7 +254,7 @@ pub struct DevicePathNode<'a> {
 impl<'a> DevicePathNode<'a> {
     ghost use Rattle.uefi_device_nodes.specs.NodeViews.{node_of};
 
-    /// The node of this length that bytes begin with, and the bytes after it.
+    /// Cuts the node of this length from the start of bytes, and returns the bytes after it too.
     #[inline(always)]
     fn cut(bytes: &'a [u8], len: usize) -> (Self, &'a [u8])
         requires begins { node_fault bytes.now ≡ None }
@@ -266,9 +266,9 @@ impl<'a> DevicePathNode<'a> {
         (DevicePathNode { bytes: node }, rest)
     }
 
-    /// The node that bytes begin with, and the bytes after it, where a node begins. For device paths
-    /// alone, which prove of bytes that nodes begin there; all others have [`DevicePathNode::split_first`],
-    /// which looks.
+    /// Returns the node at the start of bytes, and the bytes after it, without a test. Public only for
+    /// `uefi_device_path`, which proves that a node begins there. Other callers use
+    /// [`DevicePathNode::split_first`].
     #[doc(hidden)]
     #[inline(always)]
     pub fn take_first(bytes: &'a [u8]) -> (Self, &'a [u8])
@@ -280,9 +280,9 @@ impl<'a> DevicePathNode<'a> {
         DevicePathNode::cut(bytes, length)
     }
 
-    /// Splits bytes into the node that they begin with and the bytes after it. The node may be one
-    /// that ends an instance or the path. Fails with the first cause that holds, in the order in
-    /// which [`NodeError`] lists them.
+    /// Splits bytes into the node at their start and the bytes after it. The node may be the end of an
+    /// instance or of the path. Fails with the first cause that holds, in the order of the variants of
+    /// [`NodeError`].
     ///
     /// ```rust
     /// let (node, rest) = DevicePathNode::split_first(&[1, 1, 6, 0, 2, 0x1f, 0x7f, 0xff, 4, 0])?;
@@ -313,7 +313,7 @@ impl<'a> DevicePathNode<'a> {
         Ok(DevicePathNode::cut(bytes, length))
     }
 
-    /// Why no node begins at bytes that are fewer than a header.
+    /// Returns why no node begins at bytes that are shorter than a header.
     #[cold]
     fn cut_fault(bytes: &[u8]) -> NodeError
         requires { length bytes.now < 4 }
@@ -325,7 +325,7 @@ impl<'a> DevicePathNode<'a> {
         NodeError::TruncatedHeader
     }
 
-    /// The same of bytes with the header of a node of type End, which states this length.
+    /// Splits bytes that begin with the header of a node of type End, which states this length.
     fn split_end(bytes: &'a [u8], len: usize) -> Result<(Self, &'a [u8]), NodeError>
         requires header { 4 ≤ length bytes.now }
         requires is_end { slice_index bytes.now 0 ≡ 0x7f }
@@ -346,28 +346,28 @@ impl<'a> DevicePathNode<'a> {
         Ok(DevicePathNode::cut(bytes, len))
     }
 
-    /// All bytes of the node.
+    /// Returns all bytes of the node.
     pub fn as_bytes(&self) -> &'a [u8]
         ensures { result.now ≡ node_bytes (node_of self.now) }
     {
         self.bytes
     }
 
-    /// The type.
+    /// Returns the type.
     pub fn device_type(&self) -> DeviceType
         ensures { result.0 ≡ (node_of self.now).device_type }
     {
         DeviceType(self.bytes[0])
     }
 
-    /// The sub-type.
+    /// Returns the sub-type.
     pub fn sub_type(&self) -> DeviceSubType
         ensures { result.0 ≡ (node_of self.now).sub_type }
     {
         DeviceSubType(self.bytes[1])
     }
 
-    /// The type and the sub-type.
+    /// Returns the type and the sub-type.
     pub fn full_type(&self) -> (DeviceType, DeviceSubType)
         ensures device_type { result.0.0 ≡ (node_of self.now).device_type }
         ensures sub_type { result.1.0 ≡ (node_of self.now).sub_type }
@@ -375,28 +375,28 @@ impl<'a> DevicePathNode<'a> {
         (self.device_type(), self.sub_type())
     }
 
-    /// How many bytes the node has, its header among them.
+    /// Returns the number of bytes of the node, including its header.
     pub fn length(&self) -> u16
         ensures { result ≡ node_length (node_of self.now) }
     {
         u16::from_le_bytes([self.bytes[2], self.bytes[3]])
     }
 
-    /// The bytes after the header.
+    /// Returns the bytes after the header.
     pub fn data(&self) -> &'a [u8]
         ensures { result.now ≡ (node_of self.now).content }
     {
         &self.bytes[4..]
     }
 
-    /// Whether this node ends the path.
+    /// Returns whether this node ends the path.
     pub fn is_end_entire(&self) -> bool
         ensures { IsTrue result ↔ (node_of self.now ≡ end_entire) }
     {
         self.bytes[0] == 0x7f && self.bytes[1] == 0xff
     }
 
-    /// Whether this node ends an instance.
+    /// Returns whether this node ends an instance.
     pub fn is_end_instance(&self) -> bool
         ensures { result ≡ is_end_instance (node_of self.now) }
     {

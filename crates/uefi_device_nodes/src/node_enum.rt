@@ -1,4 +1,4 @@
-//! Nodes by their kinds.
+//! The kinds of nodes.
 #![tactic(auto, unfolding(crate::specs::NodeViews::node_of))]
 
 ghost use Rattle.std.specs.Prelude.{◌≡◌, ◌++◌, IfOk};
@@ -20,7 +20,8 @@ use uefi_node_table::layouts::{
     REST_SERVICE, SAS_EX, SATA, SCSI, SD, UART, UFS, URI, USB, USB_CLASS, USB_WWID, VLAN, WIFI,
 };
 
-/// A node as the view of its kind. The variants are named by type and kind, as in the Rust crate `uefi`.
+/// The view of a node, by its kind. The name of a variant is the type and the kind, as in the Rust crate
+/// `uefi`.
 #[derive(Clone, Copy)]
 pub enum DevicePathNodeEnum<'a> {
     /// A device on a PCI bus.
@@ -29,7 +30,7 @@ pub enum DevicePathNodeEnum<'a> {
     HardwarePccard(hardware::Pccard<'a>),
     /// A range of memory.
     HardwareMemoryMapped(hardware::MemoryMapped<'a>),
-    /// A node of a vendor's own, named by a GUID.
+    /// A vendor-defined node, identified by a GUID.
     HardwareVendor(hardware::HardwareVendor<'a>),
     /// A controller.
     HardwareController(hardware::Controller<'a>),
@@ -57,7 +58,7 @@ pub enum DevicePathNodeEnum<'a> {
     MessagingI2o(messaging::I2o<'a>),
     /// A device on InfiniBand.
     MessagingInfiniband(messaging::Infiniband<'a>),
-    /// A node of a vendor's own, named by a GUID.
+    /// A vendor-defined node, identified by a GUID.
     MessagingVendor(messaging::MessagingVendor<'a>),
     /// A network interface.
     MessagingMacAddress(messaging::MacAddress<'a>),
@@ -67,9 +68,9 @@ pub enum DevicePathNodeEnum<'a> {
     MessagingIpv6(messaging::Ipv6<'a>),
     /// A serial port.
     MessagingUart(messaging::Uart<'a>),
-    /// Each USB device of a class.
+    /// All USB devices of a class.
     MessagingUsbClass(messaging::UsbClass<'a>),
-    /// A USB device by its serial number.
+    /// A USB device, identified by its serial number.
     MessagingUsbWwid(messaging::UsbWwid<'a>),
     /// A logical unit of the device before it.
     MessagingDeviceLogicalUnit(messaging::DeviceLogicalUnit<'a>),
@@ -79,13 +80,13 @@ pub enum DevicePathNodeEnum<'a> {
     MessagingIscsi(messaging::Iscsi<'a>),
     /// A virtual network.
     MessagingVlan(messaging::Vlan<'a>),
-    /// A device on Fibre Channel, by bytes in the order of the bus.
+    /// A device on Fibre Channel, with its numbers as bytes in the order of the bus.
     MessagingFibreChannelEx(messaging::FibreChannelEx<'a>),
     /// A device on SAS.
     MessagingSasEx(messaging::SasEx<'a>),
     /// A namespace of NVM Express.
     MessagingNvmeNamespace(messaging::NvmeNamespace<'a>),
-    /// What a URI names.
+    /// A resource that a URI identifies.
     MessagingUri(messaging::Uri<'a>),
     /// A device on UFS.
     MessagingUfs(messaging::Ufs<'a>),
@@ -99,7 +100,7 @@ pub enum DevicePathNodeEnum<'a> {
     MessagingEmmc(messaging::Emmc<'a>),
     /// A Bluetooth Low Energy device.
     MessagingBluetoothLe(messaging::BluetoothLe<'a>),
-    /// Name servers.
+    /// The addresses of name servers.
     MessagingDns(messaging::Dns<'a>),
     /// A namespace of a persistent memory module.
     MessagingNvdimmNamespace(messaging::NvdimmNamespace<'a>),
@@ -111,7 +112,7 @@ pub enum DevicePathNodeEnum<'a> {
     MediaHardDrive(media::HardDrive<'a>),
     /// A boot entry of a CD-ROM.
     MediaCdRom(media::CdRom<'a>),
-    /// A node of a vendor's own, named by a GUID.
+    /// A vendor-defined node, identified by a GUID.
     MediaVendor(media::MediaVendor<'a>),
     /// A file.
     MediaFilePath(FilePath<'a>),
@@ -129,7 +130,7 @@ pub enum DevicePathNodeEnum<'a> {
     BiosBootSpecBootSpecification(bios_boot_spec::BootSpecification<'a>),
 }
 
-/// The view of a node of type Hardware.
+/// Returns the view of a node of type Hardware.
 fn hardware_node(node: DevicePathNode<'_>) -> Result<DevicePathNodeEnum<'_>, NodeConversionError>
     requires { (node_of node).device_type ≡ HARDWARE_TYPE }
     ensures ok { IfOk result (λ view. IsNodeOf view (node_of node.entry)) }
@@ -152,7 +153,7 @@ fn hardware_node(node: DevicePathNode<'_>) -> Result<DevicePathNodeEnum<'_>, Nod
     })
 }
 
-/// The view of a node of type ACPI.
+/// Returns the view of a node of type ACPI.
 fn acpi_node(node: DevicePathNode<'_>) -> Result<DevicePathNodeEnum<'_>, NodeConversionError>
     requires { (node_of node).device_type ≡ ACPI_TYPE }
     ensures ok { IfOk result (λ view. IsNodeOf view (node_of node.entry)) }
@@ -167,7 +168,7 @@ fn acpi_node(node: DevicePathNode<'_>) -> Result<DevicePathNodeEnum<'_>, NodeCon
     })
 }
 
-/// The view of a node of type Messaging.
+/// Returns the view of a node of type Messaging.
 fn messaging_node(node: DevicePathNode<'_>) -> Result<DevicePathNodeEnum<'_>, NodeConversionError>
     requires { (node_of node).device_type ≡ MESSAGING_TYPE }
     ensures ok { IfOk result (λ view. IsNodeOf view (node_of node.entry)) }
@@ -187,7 +188,7 @@ fn messaging_node(node: DevicePathNode<'_>) -> Result<DevicePathNodeEnum<'_>, No
     })
 }
 
-/// The view of a node of type Messaging that is storage, or a network.
+/// Returns the view of a node of type Messaging, for storage and networks.
 fn storage_or_network_node(
     node: DevicePathNode<'_>,
 ) -> Result<DevicePathNodeEnum<'_>, NodeConversionError>
@@ -223,7 +224,7 @@ fn storage_or_network_node(
     })
 }
 
-/// The view of a node of type Messaging that names a network, or what is reached over one.
+/// Returns the view of a node of type Messaging, for networks and what is reached over them.
 fn network_node(node: DevicePathNode<'_>) -> Result<DevicePathNodeEnum<'_>, NodeConversionError>
     requires { (node_of node).device_type ≡ MESSAGING_TYPE }
     ensures ok { IfOk result (λ view. IsNodeOf view (node_of node.entry)) }
@@ -257,7 +258,7 @@ fn network_node(node: DevicePathNode<'_>) -> Result<DevicePathNodeEnum<'_>, Node
     })
 }
 
-/// The view of a node of type Media.
+/// Returns the view of a node of type Media, except a node that names a file.
 fn media_node(node: DevicePathNode<'_>) -> Result<DevicePathNodeEnum<'_>, NodeConversionError>
     requires { (node_of node).device_type ≡ MEDIA_TYPE }
     ensures ok { IfOk result (λ view. IsNodeOf view (node_of node.entry)) }
@@ -282,7 +283,7 @@ fn media_node(node: DevicePathNode<'_>) -> Result<DevicePathNodeEnum<'_>, NodeCo
     })
 }
 
-/// The view of a node of type BIOS Boot Specification.
+/// Returns the view of a node of type BIOS Boot Specification.
 fn bios_boot_spec_node(
     node: DevicePathNode<'_>,
 ) -> Result<DevicePathNodeEnum<'_>, NodeConversionError>
@@ -299,9 +300,8 @@ fn bios_boot_spec_node(
 }
 
 impl<'a> DevicePathNode<'a> {
-    /// The node as the view of its kind. Refused as `UnsupportedType` where its type and its sub-type are
-    /// those of no kind that has a view, and then as `InvalidLength` where its data have a length that none
-    /// of its kind has.
+    /// Returns the view of the node. Fails with `UnsupportedType` if there is no view for its type and
+    /// sub-type, and otherwise with `InvalidLength` if no node of its kind has data of this length.
     ///
     /// ```rust
     /// let (node, _) = DevicePathNode::split_first(&[1, 1, 6, 0, 2, 0x1f])?;
@@ -330,7 +330,7 @@ impl<'a> DevicePathNode<'a> {
     }
 }
 
-/// The view that [`DevicePathNode::as_enum`] gives, or its refusal.
+/// Converts a node as [`DevicePathNode::as_enum`] does.
 impl<'a> TryFrom<DevicePathNode<'a>> for DevicePathNodeEnum<'a> {
     type Error = NodeConversionError;
 

@@ -1,4 +1,4 @@
-//! Nodes as people read them: by the table, and those whose text no row of it can say.
+//! Nodes as text for people. The table of kinds describes most texts, and the calls here make the others.
 #![tactic(auto, using(uefi_text::proofs::Puts::puts), unfolding(crate::specs::NodeTexts::unknown_text, crate::specs::NodeTexts::irregular_text, crate::specs::NodeTexts::node_text, crate::specs::NodeViews::printed_node))]
 
 ghost use Rattle.std.specs.Fmt.{WritesInCalls};
@@ -30,7 +30,7 @@ use uefi_text::number_texts::put_decimal;
 use uefi_text::text_sink::{Printed, TextSink, print};
 use uefi_text::unit_sink::{BufferTooSmall, write_units};
 
-/// A node that is printed: its type, its sub-type and its data, and the form that is wanted.
+/// A node to print, as its type, its sub-type and its data, and the form of the text.
 #[derive(Clone, Copy)]
 struct Parts<'a> {
     device_type: u8,
@@ -40,7 +40,7 @@ struct Parts<'a> {
     allow_shortcuts: bool,
 }
 
-/// Puts a node of no kind: `Path(TYPE,SUBTYPE,BYTES)`.
+/// Puts `Path(TYPE,SUBTYPE,BYTES)`, the text of a node that the table does not describe.
 fn put_unknown<S: TextSink>(sink: &mut S, node: &Parts<'_>)
     ensures { WritesInCalls S.puts sink.old (unknown_text
         (node_with node.now.device_type node.now.sub_type node.now.data.now)) sink.new }
@@ -51,7 +51,7 @@ fn put_unknown<S: TextSink>(sink: &mut S, node: &Parts<'_>)
     sink.put_str(")");
 }
 
-/// Puts the shorter text of a device that ACPI names by the string of its `_UID` alone:
+/// Puts the shorter text of a device that ACPI names only by the string of its `_UID`:
 /// `AcpiExp(HID,CID,UIDSTR)`.
 fn put_expanded<S: TextSink>(sink: &mut S, node: &Expanded<'_>)
     ensures { WritesInCalls S.puts sink.old (expanded_text (data_of node.now)) sink.new }
@@ -62,8 +62,8 @@ fn put_expanded<S: TextSink>(sink: &mut S, node: &Expanded<'_>)
     sink.put_str(")");
 }
 
-/// The device that ACPI names by the string of its `_UID` alone, if the node is one and its shorter text is
-/// wanted.
+/// Returns the device that the node names only by the string of its `_UID`, if it does so and shorter texts
+/// are allowed.
 fn named_by_uid<'a>(node: &Parts<'a>) -> Option<Expanded<'a>>
     ensures some { is_some result ≡ has_uid_text node.now.allow_shortcuts
         (node_with node.now.device_type node.now.sub_type node.now.data.now) }
@@ -81,7 +81,7 @@ fn named_by_uid<'a>(node: &Parts<'a>) -> Option<Expanded<'a>>
     Some(device)
 }
 
-/// The shorter name of a vendor's node of messages without data, or an empty text.
+/// Returns the short name of a vendor-defined messaging node without data, or an empty text if it has none.
 fn short_name(node: &Parts<'_>) -> &'static str
     ensures { result.now ≡ short_name (node_with node.now.device_type node.now.sub_type node.now.data.now) }
 {
@@ -95,8 +95,8 @@ fn short_name(node: &Parts<'_>) -> &'static str
     vendor_name(u64::read_le(first), u64::read_le(second))
 }
 
-/// Puts a node whose text no row of the table can say. Returns whether it is one; puts nothing where
-/// it is not.
+/// Puts the text of a node if no row of the table can describe it, and returns whether that is so. Otherwise
+/// puts nothing.
 fn put_irregular<S: TextSink>(sink: &mut S, node: &Parts<'_>) -> bool
     ensures found { result ≡ is_irregular node.now.allow_shortcuts
         (node_with node.now.device_type node.now.sub_type node.now.data.now) }
@@ -124,7 +124,7 @@ fn put_irregular<S: TextSink>(sink: &mut S, node: &Parts<'_>) -> bool
     true
 }
 
-/// Puts any node.
+/// Puts the text of any node.
 fn put_node<S: TextSink>(sink: &mut S, node: &Parts<'_>)
     ensures { WritesInCalls S.puts sink.old (node_text node.now.display_only node.now.allow_shortcuts
         (node_with node.now.device_type node.now.sub_type node.now.data.now)) sink.new }
@@ -138,7 +138,7 @@ fn put_node<S: TextSink>(sink: &mut S, node: &Parts<'_>)
     }
 }
 
-/// What is printed of a node. A contract sees it as `printed_node` of it: the text, in UTF-8.
+/// A value that prints a node. A contract sees it as `printed_node` of it: the text, in UTF-8.
 #[derive(Clone, Copy)]
 pub struct NodeText<'a> {
     node: DevicePathNode<'a>,
@@ -147,10 +147,10 @@ pub struct NodeText<'a> {
 }
 
 impl<'a> DevicePathNode<'a> {
-    /// What is printed of the node, for a `{}` of a format (UEFI Specification 2.10, section 10.6.1):
-    /// the form of its kind, or `Path(TYPE,SUBTYPE,BYTES)` where it is of none, or too short for its
-    /// kind. No control character stands in it, and none that turns its direction or ends its line.
-    /// Takes no memory.
+    /// Returns a value that prints the node, for a `{}` of a format (UEFI Specification 2.10, section
+    /// 10.6.1). The text has the form of the node's kind. If the node is of no known kind, or too short for
+    /// its kind, the text is `Path(TYPE,SUBTYPE,BYTES)`. The text contains no control character, and no
+    /// character that changes its direction or ends its line. Does not allocate.
     ///
     /// ```rust
     /// let (node, _) = DevicePathNode::split_first(&[3, 1, 8, 0, 0, 1, 2, 0])?;
@@ -174,12 +174,11 @@ impl<'a> DevicePathNode<'a> {
         }
     }
 
-    /// Writes what is printed of the node, which [`DevicePathNode::display`] gives, to the start of a buffer
-    /// as UTF-16, with a NUL after it, and returns its length without the NUL. What follows the NUL is
-    /// unchanged.
+    /// Writes the text that [`DevicePathNode::display`] gives to the start of a buffer as UTF-16, with a NUL
+    /// after it, and returns its length without the NUL. The rest of the buffer is unchanged.
     ///
     /// Fails only if the buffer is too small, and then leaves it unchanged. Makes the text twice: once to
-    /// count its units, and once to write them. Takes no memory.
+    /// count its units, and once to write them. Does not allocate.
     ///
     /// ```rust
     /// let (node, _) = DevicePathNode::split_first(&[3, 0x1a, 5, 0, 1])?;
@@ -204,7 +203,7 @@ impl<'a> DevicePathNode<'a> {
     }
 }
 
-/// The text.
+/// Puts the text.
 impl<'a> Printed for NodeText<'a> {
     ghost printed = { printed_node };
 
@@ -229,7 +228,7 @@ impl<'a> fmt::Display for NodeText<'a> {
     }
 }
 
-/// Prints the text that may be read back, without shorter names.
+/// Prints the text that can be read back, without short names.
 impl<'a> fmt::Display for DevicePathNode<'a> {
     ghost output = { λ node. Some (node_text false false (node_of node)) };
 
@@ -238,7 +237,7 @@ impl<'a> fmt::Display for DevicePathNode<'a> {
     }
 }
 
-/// The text that may be read back, without shorter names.
+/// Puts the text that can be read back, without short names.
 impl<'a, const DEVICE_TYPE: u8, const SUB_TYPE: u8, const LEAST: usize> Printed
     for TypedNode<'a, DEVICE_TYPE, SUB_TYPE, LEAST> {
     ghost printed = { λ node. node_text false false (node_with DEVICE_TYPE SUB_TYPE (data_of node)) };
@@ -255,7 +254,7 @@ impl<'a, const DEVICE_TYPE: u8, const SUB_TYPE: u8, const LEAST: usize> Printed
     }
 }
 
-/// Prints that text.
+/// Prints the text that can be read back, without short names.
 impl<'a, const DEVICE_TYPE: u8, const SUB_TYPE: u8, const LEAST: usize> fmt::Display
     for TypedNode<'a, DEVICE_TYPE, SUB_TYPE, LEAST> {
     ghost output = { λ node. Some (node_text false false
@@ -266,8 +265,8 @@ impl<'a, const DEVICE_TYPE: u8, const SUB_TYPE: u8, const LEAST: usize> fmt::Dis
     }
 }
 
-/// The name up to its NUL: U+FFFD for each surrogate that has no partner, and each control character as
-/// `\u{HEX}`.
+/// Puts the name up to its NUL, with U+FFFD for each unpaired surrogate, and `\u{HEX}` for each character
+/// that texts escape.
 impl<'a> Printed for FilePath<'a> {
     ghost printed = { λ path. utf16_text (file_node path).content };
 

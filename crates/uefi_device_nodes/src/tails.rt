@@ -1,4 +1,4 @@
-//! What can follow the fields of a node: nothing, bytes, or numbers of two or four bytes.
+//! The data after the fields of a node: nothing, bytes, or numbers of two or four bytes.
 #![tactic(auto)]
 
 ghost use Rattle.std.specs.Int.{to_le_bytes, w32};
@@ -13,23 +13,23 @@ use uefi_field_texts::guid::Guid;
 use uefi_text::CStr16;
 use uefi_text::scan::split;
 
-/// What can follow the fields of a node. A contract sees it as `tail_bytes` of it.
+/// Data that can follow the fields of a node. A contract sees it as `tail_bytes` of it.
 pub trait TailBytes: Copy {
-    /// Its bytes, as contracts see them.
+    /// The bytes, as contracts see them.
     ghost tail_bytes: { Self → List ℕ };
 
-    /// How many bytes it has.
+    /// Returns the number of bytes.
     fn tail_len(self) -> usize
         ensures length { result ≡ length (tail_bytes self) }
         ensures room { result + 65535 < 2 ^ 64 };
 
-    /// Writes its bytes.
+    /// Writes the bytes.
     fn write_tail(self, dest: &mut [u8])
         requires { length dest.old ≡ length (tail_bytes self) }
         ensures { dest.new ≡ tail_bytes self };
 }
 
-/// Nothing.
+/// No data.
 impl TailBytes for () {
     ghost tail_bytes = { λ _. [] };
 
@@ -53,7 +53,7 @@ impl TailBytes for &[u8] {
     }
 }
 
-/// Code units, two bytes each, the low one first.
+/// Code units, two bytes each, the low byte first.
 impl TailBytes for &[u16] {
     ghost tail_bytes = { λ units. unit_bytes units.now };
 
@@ -66,7 +66,7 @@ impl TailBytes for &[u16] {
     }
 }
 
-/// The code units of a string, and its NUL.
+/// The code units of a string, including its NUL.
 impl TailBytes for CStr16<'_> {
     ghost tail_bytes = { λ text. unit_bytes (nul_terminated (text_of text)) };
 
@@ -79,7 +79,7 @@ impl TailBytes for CStr16<'_> {
     }
 }
 
-/// Writes numbers, four bytes each, the low one first.
+/// Writes numbers, four bytes each, the low byte first.
 fn put_words(bytes: &mut [u8], words: &[u32])
     requires { length bytes.now ≡ 4 * length words.now }
     ensures { bytes.new ≡ flat_map (to_le_bytes w32) words.now }
@@ -89,7 +89,7 @@ fn put_words(bytes: &mut [u8], words: &[u32])
     }
 }
 
-/// Numbers of four bytes, the low one first.
+/// Numbers of four bytes, the low byte first.
 impl TailBytes for &[u32] {
     ghost tail_bytes = { λ words. flat_map (to_le_bytes w32) words.now };
 
@@ -102,7 +102,7 @@ impl TailBytes for &[u32] {
     }
 }
 
-/// A GUID, or none, and bytes.
+/// A GUID, if there is one, and then bytes.
 impl TailBytes for (Option<Guid>, &[u8]) {
     ghost tail_bytes = { λ tail. unwrap_or tail.0 [] ++ tail.1.now };
 

@@ -1,4 +1,4 @@
-//! What all nodes have in common whose data have fields at fixed places.
+//! Nodes whose data has fields at fixed offsets.
 #![tactic(auto, unfolding(crate::specs::NodeViews::node_of, crate::specs::NodeViews::data_of))]
 
 ghost use Rattle.std.specs.Prelude.{◌≡◌, ℕ, ◌+◌, ◌≤◌, ◌<◌, ◌^◌, ◌↔◌, drop, length, slice_range, IfOk, IfSome, IsOk, IsSome, None};
@@ -12,8 +12,8 @@ use uefi_field_texts::guid::Guid;
 use uefi_node_table::layouts::Field;
 use uefi_text::Packed;
 
-/// The data of a node of a kind, with a call for each field: a node of this type and this sub-type, which has
-/// at least this many bytes of data. A contract sees it as `data_of` it.
+/// The data of a node of one kind, with a call for each field. A node of the kind has this type, this
+/// sub-type and at least this many bytes of data. A contract sees the value as `data_of` it.
 #[derive(Clone, Copy)]
 pub struct TypedNode<'a, const DEVICE_TYPE: u8, const SUB_TYPE: u8, const LEAST: usize> {
     data: &'a [u8],
@@ -28,8 +28,8 @@ impl<'a, const DEVICE_TYPE: u8, const SUB_TYPE: u8, const LEAST: usize> TypedNod
 > {
     ghost use Rattle.uefi_device_nodes.specs.NodeViews.{data_of, node_of};
 
-    /// The node as one of this kind. Refused as `DifferentType` where its type or its sub-type is
-    /// another, and then as `InvalidLength` where it has fewer bytes of data than each of the kind.
+    /// Views a node as a node of this kind. Fails with `DifferentType` if its type or its sub-type is
+    /// another, and otherwise with `InvalidLength` if its data is shorter than the kind requires.
     ///
     /// ```rust
     /// let (node, _) = DevicePathNode::split_first(&[1, 1, 6, 0, 2, 0x1f])?;
@@ -45,7 +45,7 @@ impl<'a, const DEVICE_TYPE: u8, const SUB_TYPE: u8, const LEAST: usize> TypedNod
         Self::from_parts(node.device_type().0, node.sub_type().0, node.data())
     }
 
-    /// The same of a type, a sub-type and data.
+    /// Creates the view from a type, a sub-type and data. Fails as [`TypedNode::from_node`] does.
     pub(crate) fn from_parts(
         device_type: u8,
         sub_type: u8,
@@ -66,7 +66,7 @@ impl<'a, const DEVICE_TYPE: u8, const SUB_TYPE: u8, const LEAST: usize> TypedNod
         Ok(TypedNode { data })
     }
 
-    /// All data of the node.
+    /// Returns all data of the node.
     ///
     /// ```rust
     /// let (node, _) = DevicePathNode::split_first(&[1, 1, 6, 0, 2, 0x1f])?;
@@ -78,7 +78,7 @@ impl<'a, const DEVICE_TYPE: u8, const SUB_TYPE: u8, const LEAST: usize> TypedNod
         self.data
     }
 
-    /// The number in a field.
+    /// Returns the number in a field.
     pub(crate) fn number<T: Packed>(&self, field: Field) -> T
         requires size { field.width ≡ T.SIZE }
         requires within { end_of field ≤ LEAST }
@@ -87,7 +87,7 @@ impl<'a, const DEVICE_TYPE: u8, const SUB_TYPE: u8, const LEAST: usize> TypedNod
         T::read_le(&self.data[field.place..field.place + field.width])
     }
 
-    /// The bytes of a field.
+    /// Returns the bytes of a field.
     pub(crate) fn bytes<const N: usize>(&self, field: Field) -> [u8; N]
         requires size { field.width ≡ N }
         requires within { end_of field ≤ LEAST }
@@ -98,7 +98,7 @@ impl<'a, const DEVICE_TYPE: u8, const SUB_TYPE: u8, const LEAST: usize> TypedNod
         bytes
     }
 
-    /// The GUID in a field.
+    /// Returns the GUID in a field.
     pub(crate) fn guid_in(&self, field: Field) -> Guid
         requires size { field.width ≡ 16 }
         requires within { end_of field ≤ LEAST }
@@ -107,7 +107,7 @@ impl<'a, const DEVICE_TYPE: u8, const SUB_TYPE: u8, const LEAST: usize> TypedNod
         Guid::from_bytes(self.bytes(field))
     }
 
-    /// The bytes of a field, or `None` where the data end before the last of them.
+    /// Returns the bytes of a field, or `None` if the data ends before the end of the field.
     pub(crate) fn later_bytes<const N: usize>(&self, field: Field) -> Option<[u8; N]>
         requires size { field.width ≡ N }
         requires within { end_of field < 2 ^ 64 }
@@ -122,7 +122,7 @@ impl<'a, const DEVICE_TYPE: u8, const SUB_TYPE: u8, const LEAST: usize> TypedNod
         Some(bytes)
     }
 
-    /// All bytes from where a field begins.
+    /// Returns all bytes of the data from the start of a field.
     pub(crate) fn tail(&self, field: Field) -> &'a [u8]
         requires { field.place ≤ LEAST }
         ensures { result.now ≡ bytes_from field (data_of self.now) }
@@ -131,7 +131,7 @@ impl<'a, const DEVICE_TYPE: u8, const SUB_TYPE: u8, const LEAST: usize> TypedNod
     }
 }
 
-/// The numbers of a kind, for code that is generic over kinds.
+/// The type, the sub-type and the least length of a kind, for code that is generic over kinds.
 ///
 /// ```rust
 /// use uefi_device_nodes::typed_node::Kind;
@@ -145,23 +145,23 @@ pub trait Kind {
     /// The sub-type, as contracts see it.
     ghost SUB_TYPE: { ℕ };
 
-    /// How many bytes of data each node has at least, as contracts see it.
+    /// The least number of bytes of data, as contracts see it.
     ghost LEAST: { ℕ };
 
-    /// The type.
+    /// Returns the type.
     fn device_type() -> u8
         ensures { result ≡ DEVICE_TYPE };
 
-    /// The sub-type.
+    /// Returns the sub-type.
     fn sub_type() -> u8
         ensures { result ≡ SUB_TYPE };
 
-    /// How many bytes of data each node has at least.
+    /// Returns the least number of bytes of data.
     fn least() -> usize
         ensures { result ≡ LEAST };
 }
 
-/// The numbers of the view.
+/// The numbers of the view's kind.
 impl<'a, const DEVICE_TYPE: u8, const SUB_TYPE: u8, const LEAST: usize> Kind
     for TypedNode<'a, DEVICE_TYPE, SUB_TYPE, LEAST> {
     ghost DEVICE_TYPE = { DEVICE_TYPE };
@@ -189,7 +189,7 @@ impl<'a, const DEVICE_TYPE: u8, const SUB_TYPE: u8, const LEAST: usize> Kind
     }
 }
 
-/// The view that [`TypedNode::from_node`] gives, or its refusal.
+/// Converts a node as [`TypedNode::from_node`] does.
 impl<'a, const DEVICE_TYPE: u8, const SUB_TYPE: u8, const LEAST: usize> TryFrom<DevicePathNode<'a>>
     for TypedNode<'a, DEVICE_TYPE, SUB_TYPE, LEAST> {
     ghost use Rattle.uefi_device_nodes.specs.NodeViews.{data_of, node_of};

@@ -76,7 +76,8 @@ fn is_slashed(text: &[u8]) -> bool
     }
 }
 
-/// Returns a text without such a slash.
+/// Returns the text after the slash at its start, if a node may follow the slash, or else the whole
+/// text.
 fn past_slash(text: &[u8]) -> &[u8]
     ensures { result.now ≡ past_slash text.now }
 {
@@ -87,8 +88,8 @@ fn past_slash(text: &[u8]) -> &[u8]
     }
 }
 
-/// Returns the text up to the quotation mark that closes it, and the text from its first node on:
-/// as people write it, without the mark that opens it and a slash.
+/// Removes what people write around the nodes of a text, if the style allows it. Returns the text up
+/// to the quotation mark that closes it, and its part from the first node on.
 pub(crate) fn around_nodes(style: TextStyle, text: &[u8]) -> (&[u8], &[u8])
     ensures whole { result.0.now ≡ before_closing style text.now }
     ensures first { result.1.now ≡ first_place style text.now }

@@ -46,7 +46,7 @@ pub struct DevicePath<'a> {
 impl<'a> DevicePath<'a> {
     ghost use Rattle.uefi_device_path.specs.Views.{instance_nodes, instances_left, nodes_left, nodes_of, printed_path};
 
-    /// The device path that the bytes are.
+    /// Returns the device path that bytes consist of.
     pub(crate) fn of_path(bytes: &'a [u8]) -> Self
         requires { IsPath bytes.now }
         ensures { nodes_of result ≡ nodes_in (without_end bytes.now) }
@@ -54,7 +54,8 @@ impl<'a> DevicePath<'a> {
         DevicePath { bytes }
     }
 
-    /// The device path that bytes begin with, and the bytes after it, node by node.
+    /// Reads the device path at the start of bytes, node by node, and returns the bytes after it
+    /// too.
     pub(crate) fn read(bytes: &'a [u8]) -> Result<(Self, &'a [u8]), DevicePathError>
         ensures ok { IfOk result (λ split.
             BeginWith bytes.now (nodes_of split.0) (node_bytes end_entire ++ split.1.now)) }
@@ -85,8 +86,8 @@ impl<'a> DevicePath<'a> {
         }
     }
 
-    /// Returns the device path at the start of bytes, and the bytes after it, if there is one.
-    /// Tests no header again.
+    /// Returns the device path at the start of bytes, and the bytes after it. Requires that there
+    /// is one, and tests no header again.
     pub(crate) fn take_first(bytes: &'a [u8]) -> (Self, &'a [u8])
         requires { (nodes : List Node) × BeginWithPath bytes.now nodes }
         ensures { BeginWith bytes.now (nodes_of result.0) (node_bytes end_entire ++ result.1.now) }
@@ -449,7 +450,7 @@ impl<'a> TryFrom<&'a [u8]> for DevicePath<'a> {
     }
 }
 
-/// Prints the text that may be read back, without shorter names.
+/// Prints the text that can be read back, without short names.
 impl<'a> fmt::Display for DevicePath<'a> {
     ghost use Rattle.uefi_device_path.specs.Views.{nodes_of};
 

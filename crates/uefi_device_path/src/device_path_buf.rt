@@ -77,7 +77,7 @@ fn put_path<A: Allocator>(bytes: &mut Vec<u8, A>, path: &[u8])
     let _ = bytes.extend_from_slice(path);
 }
 
-/// Returns why a node must not be before the end of a path, if it must not.
+/// Fails if a node must not be before the end of a path.
 pub(crate) fn check_node<N: BuildNode>(node: &N) -> Result<(), BuildError>
     ensures { result_err result ≡ build_refusal (N.node node.now) }
 {
@@ -124,7 +124,7 @@ impl<A: Allocator> DevicePathBuf<A> {
         })
     }
 
-    /// The path that these bytes are.
+    /// Creates the path from its bytes.
     pub(crate) fn of_bytes(bytes: Vec<u8, A>) -> Self
         requires { IsPath bytes.items }
         ensures { result ≡ nodes_in (without_end bytes.items) }

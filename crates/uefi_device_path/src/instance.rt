@@ -205,7 +205,7 @@ impl<'a> fmt::Debug for DevicePathInstance<'a> {
 impl<'a> DevicePathInstanceIterator<'a> {
     ghost use Rattle.uefi_device_path.specs.Views.{instance_nodes, instances_left};
 
-    /// The instances of nodes.
+    /// Creates an iterator over the instances of nodes, given as bytes.
     pub(crate) fn of(bytes: &'a [u8]) -> Self
         requires { AreNodes bytes.now }
         ensures same { instances_left result ≡ instances (nodes_in bytes.now) }

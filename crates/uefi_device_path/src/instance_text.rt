@@ -92,7 +92,7 @@ impl<'a> DevicePathInstance<'a> {
     }
 }
 
-/// Prints the text that may be read back, without shorter names.
+/// Prints the text that can be read back, without short names.
 impl<'a> fmt::Display for DevicePathInstance<'a> {
     ghost output = { λ instance. Some (nodes_text false false (instance_nodes instance)) };
 

@@ -94,9 +94,9 @@ pub fn styled_texts()
     faults_lie_within();
 }
 
-/// A text in quotation marks, or after a `/` that a node may follow, is read by people's rules as it
-/// is without them: as the same nodes, or with the same fault, whose places lie as many bytes
-/// further as stand before the text.
+/// A text in quotation marks, or after a `/` that a node may follow, is read leniently as without
+/// them: as the same nodes, or with the same fault, whose offsets grow by the number of bytes before
+/// the text.
 pub fn pasted_texts()
     ensures quoted { QuotedIsRead }
     ensures slashed { SlashedIsRead }

@@ -45,7 +45,7 @@ pub struct LoadOptionParts<'a> {
 impl<'a> LoadOptionParts<'a> {
     ghost use Rattle.uefi_device_path.specs.Views.{nodes_left, nodes_of, parts_of, paths_left, printed_path};
 
-    /// No part, of bytes that end in the header.
+    /// Creates the parts of bytes that end within the header. There are none.
     pub(crate) fn without_header(len: usize) -> Self
         ensures { parts_of result ≡ parts_with None None [] []
             (record { cause = LoadOptionCause.TooShort; offset = len }) }
@@ -62,7 +62,7 @@ impl<'a> LoadOptionParts<'a> {
         }
     }
 
-    /// The attributes, where no NUL ends the description.
+    /// Creates the parts of bytes whose description has no NUL: the attributes.
     pub(crate) fn without_description(attributes: u32, offset: usize) -> Self
         ensures { parts_of result ≡ parts_with (Some attributes) None [] []
             (record { cause = LoadOptionCause.DescriptionWithoutEnd; offset = offset }) }
@@ -79,7 +79,7 @@ impl<'a> LoadOptionParts<'a> {
         }
     }
 
-    /// The attributes and the description, where no file path list follows.
+    /// Creates the parts of bytes without a file path list: the attributes and the description.
     pub(crate) fn without_list(
         attributes: u32,
         description: UnalignedSlice<'a, u16>,
@@ -98,7 +98,7 @@ impl<'a> LoadOptionParts<'a> {
         }
     }
 
-    /// The parts before a fault in the file path list, which begins at an offset.
+    /// Creates the parts before a fault in the file path list, which begins at the offset `start`.
     pub(crate) fn before(
         attributes: u32,
         description: UnalignedSlice<'a, u16>,

@@ -20,7 +20,7 @@ pub struct DevicePathNodeIterator<'a> {
 impl<'a> DevicePathNodeIterator<'a> {
     ghost use Rattle.uefi_device_path.specs.Views.{nodes_left};
 
-    /// The nodes that bytes are.
+    /// Creates an iterator over nodes, given as bytes.
     pub(crate) fn of(bytes: &'a [u8]) -> Self
         requires { AreNodes bytes.now }
         ensures same { nodes_left result ≡ nodes_in bytes.now }

@@ -66,8 +66,8 @@ pub(crate) fn put_if_room<N: BuildNode>(buffer: &mut [u8], len: usize, node: &N)
     put_at(buffer, len, node)
 }
 
-/// Returns how many bytes a path of `len` bytes has with one more node, or why the node is not added
-/// to it.
+/// Returns the number of bytes of a path of `len` bytes with one more node, or why the node is not added to
+/// it.
 fn grown_len<N: BuildNode>(buffer: &[u8], len: usize, node: &N) -> Result<usize, BuildError>
     requires { len ≤ length buffer.now }
     ensures len { IfOk result (λ end. end ≡ len + node_length (N.node node.now)) }
@@ -86,8 +86,8 @@ fn grown_len<N: BuildNode>(buffer: &[u8], len: usize, node: &N) -> Result<usize,
     Ok(end)
 }
 
-/// Adds a node before the end of the path that the first `len` bytes of a buffer are, and returns how many
-/// bytes the path then has.
+/// Adds a node before the end of the path in the first `len` bytes of a buffer, and returns the number of
+/// bytes that the path then has.
 pub(crate) fn push_at<N: BuildNode>(
     buffer: &mut [u8],
     len: usize,
@@ -110,8 +110,8 @@ pub(crate) fn push_at<N: BuildNode>(
     }
 }
 
-/// Adds the nodes of another path before the end of the path that the first `len` bytes of a buffer are, and
-/// returns how many bytes the path then has.
+/// Adds the nodes of another path before the end of the path in the first `len` bytes of a buffer, and
+/// returns the number of bytes that the path then has.
 pub(crate) fn append_at(
     buffer: &mut [u8],
     len: usize,

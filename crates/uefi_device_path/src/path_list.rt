@@ -91,7 +91,7 @@ pub struct DevicePaths<'a> {
 impl<'a> DevicePaths<'a> {
     ghost use Rattle.uefi_device_path.specs.Views.{nodes_of, paths_left};
 
-    /// The device paths that bytes are.
+    /// Creates an iterator over device paths, given as bytes.
     pub(crate) fn of(bytes: &'a [u8]) -> Self
         requires { ArePacked bytes.now }
         ensures same { paths_left result ≡ paths_in bytes.now }

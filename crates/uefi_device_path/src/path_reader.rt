@@ -69,7 +69,7 @@ fn read_path<A: Allocator + Copy>(alloc: A, text: &[u8]) -> Result<DevicePathBuf
 }
 
 impl<A: Allocator + Copy> DevicePathBuf<A> {
-    /// Reads a path from its text, as it is printed to be read back, without shorter names (UEFI
+    /// Reads a path from its text, as it is printed to be read back, without short names (UEFI
     /// Specification 2.10, section 10.6.1).
     ///
     /// Checks the text first: fails with `NoNode` and the byte at which it stops being the text of

@@ -92,7 +92,7 @@ pub struct PathText<'a> {
 impl<'a> PathText<'a> {
     ghost use Rattle.uefi_device_path.specs.Views.{printed_path};
 
-    /// The text of the nodes that bytes are.
+    /// Creates a value that prints nodes, given as bytes.
     #[tactic(auto, unfolding(crate::specs::PathTexts::instance_text, crate::specs::PathTexts::nodes_text, crate::specs::Views::printed_path))]
     pub(crate) fn of(
         bytes: &'a [u8],
@@ -108,7 +108,7 @@ impl<'a> PathText<'a> {
         }
     }
 
-    /// The text that libefivar prints of the nodes that bytes are.
+    /// Creates a value that prints nodes, given as bytes, as libefivar does.
     #[tactic(auto, unfolding(crate::specs::PathTexts::libefivar_text, crate::specs::Views::printed_path))]
     pub(crate) fn of_libefivar(bytes: &'a [u8]) -> Self
         requires { AreNodes bytes.now }

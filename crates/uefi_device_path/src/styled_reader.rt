@@ -120,9 +120,10 @@ fn fault_at(text: &[u8], rest: &[u8], found: NodeFault) -> TextFault
     }
 }
 
-/// Adds the nodes that a text is read as to the path that the first `len` bytes of a buffer are, before its
-/// end. Returns how many bytes the path then has, as far as a `usize` counts, or the fault of the text. If
-/// the buffer has no room for all of them, it then holds anything, as does the second.
+/// Adds the nodes of a text before the end of the path in the first `len` bytes of a buffer. Returns the
+/// number of bytes that the path then has, as far as a `usize` counts, or the fault of the text. The
+/// contents of the buffer are unspecified afterwards if it has no room for all nodes, or if the call fails.
+/// The contents of `scratch` are always unspecified.
 pub(crate) fn put_text(
     style: TextStyle,
     buffer: &mut [u8],

@@ -12,7 +12,7 @@ use crate::styled_reader::put_text;
 use std::alloc::Allocator;
 use uefi_node_reader::styles::TextStyle;
 
-/// Returns whether a node should end there.
+/// Returns whether the end of a node is expected.
 fn is_end(expected: Expected) -> bool
     ensures { result ≡ is_end expected }
 {

@@ -1,14 +1,14 @@
-//! In which form a text is wanted.
+//! The forms of texts.
 
-/// Whether a text is for people alone, and need not say enough to be read back (UEFI Specification 2.10,
-/// section 10.6.2).
+/// Whether a text is only for people, so that it need not contain enough to be read back (UEFI
+/// Specification 2.10, section 10.6.2).
 #[derive(Clone, Copy, Debug, PartialEq, Eq)]
 pub struct DisplayOnly(
     /// Whether it is.
     pub bool,
 );
 
-/// Whether a text may have a shorter form, which says the type of a node by a name of its own (UEFI
+/// Whether a text may have a shorter form, which names the type of a node by a name of its own (UEFI
 /// Specification 2.10, section 10.6.2).
 #[derive(Clone, Copy, Debug, PartialEq, Eq)]
 pub struct AllowShortcuts(

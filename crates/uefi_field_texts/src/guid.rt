@@ -1,4 +1,4 @@
-//! GUIDs: what names vendors, partitions, protocols and the owners of variables.
+//! GUIDs, which identify vendors, partitions, protocols and the owners of variables.
 #![tactic(auto, using(uefi_text::proofs::Puts::puts), unfolding(crate::specs::Guids::guid_text))]
 
 ghost use Rattle.std.specs.Char.{to_ascii_uppercase};
@@ -12,15 +12,15 @@ use std::fmt;
 use std::marker::Model;
 use uefi_text::text_sink::{Printed, TextSink, print};
 
-/// How many bytes the text of a GUID has.
+/// The number of bytes of a GUID's text.
 const TEXT_LEN: usize = 36;
 
-/// Where in the text the two digits of each byte stand.
+/// Where the two digits of each byte begin in the text.
 const PLACES: [usize; 16] = [6, 4, 2, 0, 11, 9, 16, 14, 19, 21, 24, 26, 28, 30, 32, 34];
 
-/// A GUID: 16 bytes as they lie in nodes and variables, three numbers with the low byte first, and
-/// then bytes in order (UEFI Specification 2.10, appendix A). GUIDs are equal, ordered and hashed
-/// by these bytes. A contract sees a GUID as the list of them.
+/// A GUID, as the 16 bytes of nodes and variables: three numbers with the low byte first, and then
+/// bytes in order (UEFI Specification 2.10, appendix A). GUIDs are compared and hashed by these
+/// bytes. A contract sees a GUID as the list of its bytes.
 #[derive(Clone, Copy, Debug, PartialEq, Eq, PartialOrd, Ord, Hash)]
 pub struct Guid([u8; 16]);
 
@@ -37,7 +37,7 @@ impl Model for Guid {
     ghost inverse = { λ bytes. record { 0 = bytes } };
 }
 
-/// The number of a digit in hexadecimal, in either case; 16 for another byte.
+/// Returns the value of a hexadecimal digit in either case, or 16 for another byte.
 fn digit_of(byte: u8) -> u8
     ensures is { result < 16 → digit_glyph true result ≡ to_ascii_uppercase byte }
     ensures only { (n : ℕ) → n < 16 → digit_glyph true n ≡ to_ascii_uppercase byte → n ≡ result }
@@ -50,7 +50,8 @@ fn digit_of(byte: u8) -> u8
     }
 }
 
-/// The byte whose two digits stand at a place of a text, in either case.
+/// Returns the byte whose two digits begin at a place of a text, in either case, or `None` if there
+/// are no digits.
 fn byte_at(text: &[u8], place: usize) -> Option<u8>
     requires { place + 1 < length text.now }
     ensures some { IfSome result (λ byte. StandsAt text.now place byte) }
@@ -65,7 +66,7 @@ fn byte_at(text: &[u8], place: usize) -> Option<u8>
     Some(high * 16 + low)
 }
 
-/// Whether a text has the length of a GUID's, and dashes where that has them.
+/// Returns whether a text has the length of a GUID's text, and its dashes.
 fn is_dashed(text: &[u8]) -> bool
     ensures { IsTrue result ↔ IsDashed text.now }
 {
@@ -76,7 +77,7 @@ fn is_dashed(text: &[u8]) -> bool
         && text[23] == b'-'
 }
 
-/// The bytes whose digits stand at their places of a text.
+/// Reads the bytes of a GUID from their digits in a text, or returns `None` if a digit is missing.
 fn bytes_in(text: &[u8]) -> Option<[u8; 16]>
     requires { length text.now ≡ 36 }
     ensures some { IfSome result (λ bytes. HasBytes text.now bytes) }
@@ -93,13 +94,14 @@ fn bytes_in(text: &[u8]) -> Option<[u8; 16]>
     Some(bytes)
 }
 
-/// Does nothing: its contract says of bytes that each is below 256, which is known of slices alone.
+/// Does nothing. Its contract states that each byte is below 256, which the prover knows only of
+/// slices.
 const fn are_bytes(bytes: &[u8])
     ensures { All IsByte bytes.now }
 {}
 
 impl Guid {
-    /// Creates a GUID from its bytes, as they lie in nodes and variables.
+    /// Creates a GUID from its bytes, as nodes and variables store them.
     ///
     /// ```rust
     /// let guid = Guid::from_bytes(*b"abcdefghijklmnop");
@@ -114,7 +116,7 @@ impl Guid {
         Guid(bytes)
     }
 
-    /// Returns the bytes, as they lie in nodes and variables.
+    /// Returns the bytes, as nodes and variables store them.
     ///
     /// See [`Guid::from_bytes`].
     pub const fn to_bytes(self) -> [u8; 16]
@@ -125,8 +127,8 @@ impl Guid {
     }
 
     /// Reads a GUID from its text, such as `8be4df61-93ca-11d2-aa0d-00e098032b8c`, in either case.
-    /// Returns `None` exactly for every other text: one in braces, without dashes, or with blanks.
-    /// Allocates nothing.
+    /// Returns `None` for any other text, such as a GUID in braces, without dashes, or with blanks.
+    /// Does not allocate.
     ///
     /// ```rust
     /// let guid = Guid::try_parse("8be4df61-93ca-11d2-aa0d-00e098032b8c");
@@ -151,7 +153,7 @@ impl Guid {
     }
 }
 
-/// The text in upper case, as nodes print it.
+/// Puts the text in upper case, as nodes print it.
 impl Printed for Guid {
     ghost printed = { λ guid. guid_text guid };
 

@@ -8,10 +8,10 @@ ghost use Rattle.uefi_field_texts.specs.FieldTexts.{comma_bytes, dashed_back, he
 use uefi_text::number_texts::{digit, put_digits};
 use uefi_text::text_sink::TextSink;
 
-/// How many bytes are put as one text.
+/// The number of bytes that are put as one text.
 const BLOCK: usize = 32;
 
-/// Puts a text, and a number in hexadecimal.
+/// Puts a text, and then a number in hexadecimal.
 pub fn put_hex<S: TextSink>(sink: &mut S, text: &str, n: u64)
     ensures { WritesInCalls S.puts sink.old (text.now ++ hex n) sink.new }
 {
@@ -19,7 +19,7 @@ pub fn put_hex<S: TextSink>(sink: &mut S, text: &str, n: u64)
     put_digits(sink, n, 16);
 }
 
-/// Puts the digits of at most a block of bytes as one text.
+/// Puts the digits of up to 32 bytes as one text.
 fn put_block<S: TextSink>(sink: &mut S, bytes: &[u8])
     requires { length bytes.now ≤ 32 }
     ensures { WritesInCalls S.puts sink.old (hex_bytes bytes.now) sink.new }
@@ -33,7 +33,7 @@ fn put_block<S: TextSink>(sink: &mut S, bytes: &[u8])
     sink.put_str(unsafe { str::from_utf8_unchecked(&digits[..2 * bytes.len()]) });
 }
 
-/// The same from the last byte to the first.
+/// Puts the digits of up to 32 bytes as one text, from the last byte to the first.
 fn put_block_back<S: TextSink>(sink: &mut S, bytes: &[u8])
     requires { length bytes.now ≤ 32 }
     ensures { WritesInCalls S.puts sink.old (hex_back bytes.now) sink.new }
@@ -59,7 +59,7 @@ pub fn put_word<S: TextSink>(sink: &mut S, word: u16)
     put_block(sink, &[(word / 256) as u8, (word % 256) as u8]);
 }
 
-/// Puts a text, and bytes in order, two digits each.
+/// Puts a text, and then bytes in order, two digits each.
 pub fn put_bytes<S: TextSink>(sink: &mut S, text: &str, bytes: &[u8])
     ensures { WritesInCalls S.puts sink.old (text.now ++ hex_bytes bytes.now) sink.new }
 {
@@ -73,7 +73,7 @@ pub fn put_bytes<S: TextSink>(sink: &mut S, text: &str, bytes: &[u8])
     put_block(sink, rest);
 }
 
-/// Puts a text, and the number that bytes hold with its low byte first, zeros at its start among the digits.
+/// Puts a text, and then the number that bytes encode with the low byte first, including its leading zeros.
 pub fn put_back<S: TextSink>(sink: &mut S, text: &str, bytes: &[u8])
     ensures { WritesInCalls S.puts sink.old (text.now ++ hex_back bytes.now) sink.new }
 {
@@ -87,7 +87,7 @@ pub fn put_back<S: TextSink>(sink: &mut S, text: &str, bytes: &[u8])
     put_block_back(sink, rest);
 }
 
-/// Puts a byte as two digits, after a dash where it is not the first.
+/// Puts a byte as two digits, after a dash unless it is the first.
 fn put_dashed<S: TextSink>(sink: &mut S, byte: u8, is_first: bool)
     ensures { WritesInCalls S.puts sink.old
         (if is_first then hex_two byte else codes "-" ++ hex_two byte) sink.new }
@@ -100,8 +100,8 @@ fn put_dashed<S: TextSink>(sink: &mut S, byte: u8, is_first: bool)
     put_two(sink, byte);
 }
 
-/// Puts an extended unique identifier, which lies with its low byte first: its bytes from the last to the
-/// first, two digits each, with dashes between them.
+/// Puts an extended unique identifier, which is stored with its low byte first: its bytes from the last to
+/// the first, two digits each, with dashes between them.
 pub fn put_dashed_back<S: TextSink>(sink: &mut S, bytes: &[u8])
     ensures { WritesInCalls S.puts sink.old (dashed_back bytes.now) sink.new }
 {
@@ -110,7 +110,7 @@ pub fn put_dashed_back<S: TextSink>(sink: &mut S, bytes: &[u8])
     }
 }
 
-/// Puts bytes after a comma, as data at the end of a node, or nothing where there are none.
+/// Puts a comma and then bytes, as data at the end of a node, or nothing if there are no bytes.
 pub fn put_comma_bytes<S: TextSink>(sink: &mut S, bytes: &[u8])
     ensures { WritesInCalls S.puts sink.old (comma_bytes bytes.now) sink.new }
 {

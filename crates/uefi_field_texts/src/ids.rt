@@ -1,4 +1,4 @@
-//! IDs of devices that ACPI names: those of EISA, packed in four bytes, and strings.
+//! IDs of devices that ACPI names: EISA IDs, packed in four bytes, and strings.
 #![tactic(auto, using(uefi_text::proofs::Puts::puts), unfolding(crate::specs::FieldTexts::eisa_text, crate::specs::FieldTexts::eisa_letter, crate::specs::FieldTexts::has_uid_alone, crate::specs::FieldTexts::id_strings_text))]
 
 ghost use Rattle.std.specs.Fmt.{WritesInCalls};
@@ -9,23 +9,23 @@ use crate::hexadecimal::put_word;
 use crate::shown_texts::{after_nul, put_byte_text, until_nul};
 use uefi_text::text_sink::TextSink;
 
-/// Puts the letter of the five low bits of a number.
+/// Puts the letter that the five low bits of a number encode.
 fn put_letter<S: TextSink>(sink: &mut S, number: u32)
     ensures { WritesInCalls S.puts sink.old (eisa_letter number) sink.new }
 {
     sink.put_char(char::from((number % 32) as u8 + b'@'));
 }
 
-/// The bits that the text of an ID of EISA tells: all but bit 15.
+/// Returns the bits of an EISA ID that its text shows: all except bit 15.
 pub fn eisa_bits(id: u32) -> u32
     ensures { result ≡ eisa_bits id }
 {
     id % 0x8000 + id / 0x1_0000 * 0x1_0000
 }
 
-/// Puts a text, and an ID of EISA, four bytes as a number: three letters of five bits each and four digits,
-/// as in `PNP0A03`, or `0` where all of these bits are 0 (UEFI Specification 2.10, section 10.3.3; ACPI
-/// Specification, `EISAID`).
+/// Puts a text, and then an EISA ID, given as a number of four bytes: three letters of five bits each, and
+/// four digits, such as `PNP0A03`. If all these bits are 0, the ID is `0` (UEFI Specification 2.10, section
+/// 10.3.3; ACPI Specification, `EISAID`).
 pub fn put_eisa_id<S: TextSink>(sink: &mut S, text: &str, id: u32)
     ensures { WritesInCalls S.puts sink.old (text.now ++ eisa_text id) sink.new }
 {
@@ -43,15 +43,16 @@ pub fn put_eisa_id<S: TextSink>(sink: &mut S, text: &str, id: u32)
 /// The strings of the IDs of a device.
 #[derive(Drop)]
 pub struct IdStrings<'a> {
-    /// That of `_HID`.
+    /// The string of `_HID`.
     pub hid: &'a [u8],
-    /// That of `_UID`.
+    /// The string of `_UID`.
     pub uid: &'a [u8],
-    /// That of `_CID`.
+    /// The string of `_CID`.
     pub cid: &'a [u8],
 }
 
-/// The strings that bytes hold one after the other, each up to its NUL; those after the last NUL are empty.
+/// Returns the strings that bytes contain one after the other, each up to its NUL. Strings after the last
+/// NUL are empty.
 pub fn id_strings(bytes: &[u8]) -> IdStrings<'_>
     ensures hid { result.hid.now ≡ hid_string bytes.now }
     ensures uid { result.uid.now ≡ uid_string bytes.now }
@@ -65,7 +66,7 @@ pub fn id_strings(bytes: &[u8]) -> IdStrings<'_>
     }
 }
 
-/// Puts these strings as they are printed: that of `_CID` before that of `_UID`, with commas between them.
+/// Puts these strings in the order of the text: `_HID`, `_CID` and `_UID`, with commas between them.
 pub fn put_id_strings<S: TextSink>(sink: &mut S, bytes: &[u8])
     ensures { WritesInCalls S.puts sink.old (id_strings_text bytes.now) sink.new }
 {
@@ -75,7 +76,7 @@ pub fn put_id_strings<S: TextSink>(sink: &mut S, bytes: &[u8])
     put_byte_text(sink, ",", strings.uid);
 }
 
-/// Whether a device has a string for `_UID` alone.
+/// Returns whether a device has a string only for `_UID`.
 pub fn has_uid_alone(bytes: &[u8]) -> bool
     ensures { result ≡ has_uid_alone bytes.now }
 {

@@ -1,9 +1,9 @@
-//! The layer of `uefi_device_nodes` below nodes: what is printed of their fields.
+//! The layer of `uefi_device_nodes` below nodes: the texts of their fields.
 //!
-//! Numbers and bytes in hexadecimal, GUIDs, IDs of EISA, addresses of IP, and texts, as the UEFI
-//! Specification 2.10, section 10.6.1, and EDK II print them. Each call here puts one of them into a
-//! [`TextSink`](uefi_text::TextSink), and its contract says in UTF-8 what that takes. No call takes memory.
-//! Callers use `uefi_device_path`, which prints nodes and paths.
+//! It prints numbers and bytes in hexadecimal, GUIDs, EISA IDs, IP addresses and texts, as the UEFI
+//! Specification 2.10, section 10.6.1, and EDK II do. Each call here puts one of them into a
+//! [`TextSink`](uefi_text::TextSink), and its contract states what the sink receives, in UTF-8. No call
+//! allocates. Callers use `uefi_device_path`, which prints nodes and paths.
 #![tactic(auto)]
 
 pub mod forms;

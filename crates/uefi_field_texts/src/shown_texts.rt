@@ -1,4 +1,4 @@
-//! Texts of nodes as they are printed: nothing in them that a terminal obeys.
+//! Texts of nodes, printed without characters that a terminal obeys.
 #![tactic(auto, using(uefi_text::proofs::Puts::puts), unfolding(crate::specs::FieldTexts::shown_byte, crate::specs::FieldTexts::shown_bytes, crate::specs::FieldTexts::shown_char, crate::specs::FieldTexts::shown_units, crate::specs::FieldTexts::utf16_text))]
 
 ghost use Rattle.std.specs.Fmt.{WritesInCalls};
@@ -18,7 +18,7 @@ use uefi_text::decode::lossy_char;
 use uefi_text::scan::find_zero;
 use uefi_text::text_sink::TextSink;
 
-/// The place of the first zero among bytes, or their number where none is zero.
+/// Returns the index of the first zero among bytes, or the number of bytes if none is zero.
 fn nul_place(bytes: &[u8]) -> usize
     ensures place { result ≡ position_or_len is_nul bytes.now }
     ensures within { result ≤ length bytes.now }
@@ -26,24 +26,24 @@ fn nul_place(bytes: &[u8]) -> usize
     find_zero(bytes).unwrap_or(bytes.len())
 }
 
-/// How many characters of printable ASCII are put as one text.
+/// The number of characters of printable ASCII that are put as one text.
 const RUN: usize = 64;
 
-/// Whether a character is printable ASCII, which each text prints as it is.
+/// Returns whether a character is printable ASCII, which every text prints unchanged.
 fn is_printable(character: u16) -> bool
     ensures { result ≡ is_printable character }
 {
     0x20 <= character && character < 0x7f
 }
 
-/// The bytes before the first zero, or all where none is zero.
+/// Returns the bytes before the first zero, or all bytes if none is zero.
 pub fn until_nul(bytes: &[u8]) -> &[u8]
     ensures { result.now ≡ until_nul bytes.now }
 {
     &bytes[..nul_place(bytes)]
 }
 
-/// The bytes after the first zero, or none where none is zero.
+/// Returns the bytes after the first zero, or no bytes if none is zero.
 pub fn after_nul(bytes: &[u8]) -> &[u8]
     ensures { result.now ≡ after_nul bytes.now }
 {
@@ -54,7 +54,7 @@ pub fn after_nul(bytes: &[u8]) -> &[u8]
     &bytes[place + 1..]
 }
 
-/// Puts a byte of a text.
+/// Puts a byte of a text, escaped unless it is printable ASCII.
 fn put_byte<S: TextSink>(sink: &mut S, byte: u8)
     ensures { WritesInCalls S.puts sink.old (shown_byte byte) sink.new }
 {
@@ -66,7 +66,7 @@ fn put_byte<S: TextSink>(sink: &mut S, byte: u8)
     put_two(sink, byte);
 }
 
-/// How many bytes of printable ASCII come first.
+/// Returns the number of bytes of printable ASCII at the start.
 fn printable_len(bytes: &[u8]) -> usize
     ensures within { result ≤ length bytes.now }
     ensures printable { list_all is_printable (take result bytes.now) ≡ true }
@@ -78,7 +78,7 @@ fn printable_len(bytes: &[u8]) -> usize
     len
 }
 
-/// Puts the printable ASCII that comes first as one text, and returns the bytes after it.
+/// Puts the printable ASCII at the start of bytes as one text, and returns the bytes after it.
 fn put_printable<'a, S: TextSink>(sink: &mut S, bytes: &'a [u8]) -> &'a [u8]
     ensures { (run : List ℕ) × (run ++ result.now ≡ bytes.now)
         × WritesInCalls S.puts sink.old (shown_bytes run) sink.new }
@@ -89,8 +89,8 @@ fn put_printable<'a, S: TextSink>(sink: &mut S, bytes: &'a [u8]) -> &'a [u8]
     rest
 }
 
-/// Puts a text, and one of bytes, as of a URI: printable ASCII as it stands, and each other byte as `\x` and
-/// two digits.
+/// Puts a text, and then bytes as a text, such as a URI: printable ASCII unchanged, and any other byte as
+/// `\x` and two digits.
 pub fn put_byte_text<S: TextSink>(sink: &mut S, text: &str, bytes: &[u8])
     ensures { WritesInCalls S.puts sink.old (text.now ++ shown_bytes bytes.now) sink.new }
 {
@@ -102,9 +102,9 @@ pub fn put_byte_text<S: TextSink>(sink: &mut S, text: &str, bytes: &[u8])
     }
 }
 
-/// Whether texts escape a character: a control character, or one that turns the direction of a text
-/// or ends its line, so that a person reads something else than what stands there (U+061C, U+200E,
-/// U+200F, U+2028 to U+202E and U+2066 to U+2069).
+/// Returns whether texts escape a character: a control character, or a character that changes the direction
+/// of a text or ends its line (U+061C, U+200E, U+200F, U+2028 to U+202E and U+2066 to U+2069). A text with
+/// one of these could mislead its reader.
 ///
 /// ```rust
 /// assert!(rt; is_escaped('\n') && is_escaped('\u{202e}'));
@@ -124,7 +124,7 @@ pub fn is_escaped(character: char) -> bool
     )
 }
 
-/// Puts a character of a text.
+/// Puts a character of a text, escaped if [`is_escaped`] holds.
 fn put_shown<S: TextSink>(sink: &mut S, character: char)
     ensures { WritesInCalls S.puts sink.old (shown_char character) sink.new }
 {
@@ -136,7 +136,7 @@ fn put_shown<S: TextSink>(sink: &mut S, character: char)
     sink.put_char(character);
 }
 
-/// The unit at a place, or NUL after the last.
+/// Returns the unit at an index, or NUL after the last unit.
 fn unit_at(units: &UnalignedSlice<'_, u16>, place: usize) -> u16
     ensures { result ≡ slice_index (items_of units.now) place }
 {
@@ -146,7 +146,7 @@ fn unit_at(units: &UnalignedSlice<'_, u16>, place: usize) -> u16
     units.get(place).unwrap()
 }
 
-/// The place of the first NUL among units, or their number where none is NUL.
+/// Returns the index of the first NUL among units, or the number of units if none is NUL.
 fn nul_unit(units: &UnalignedSlice<'_, u16>) -> usize
     ensures place { result ≡ position_or_len is_nul (items_of units.now) }
     ensures within { result ≤ length (items_of units.now) }
@@ -159,7 +159,7 @@ fn nul_unit(units: &UnalignedSlice<'_, u16>) -> usize
     units.len()
 }
 
-/// The code units that bytes encode, up to the first NUL, or all where none is NUL.
+/// Returns the code units that bytes encode, up to the first NUL, or all units if none is NUL.
 fn name_units(bytes: &[u8]) -> UnalignedSlice<'_, u16>
     ensures { items_of result ≡ until_nul (units_of_bytes bytes.now) }
 {
@@ -168,7 +168,7 @@ fn name_units(bytes: &[u8]) -> UnalignedSlice<'_, u16>
     UnalignedSlice::new(bytes, len)
 }
 
-/// The character that stands at a place of units, and how many units it has.
+/// Returns the character at an index of units, and the number of its units.
 fn char_at(units: &UnalignedSlice<'_, u16>, place: usize) -> (char, usize)
     requires { place < length (items_of units.now) }
     ensures first { utf16_lossy_chars (drop place (items_of units.now))
@@ -180,15 +180,15 @@ fn char_at(units: &UnalignedSlice<'_, u16>, place: usize) -> (char, usize)
     lossy_char(unit_at(units, place), unit_at(units, place + 1))
 }
 
-/// Puts the printable ASCII that stands at a place of units as one text, and returns how many units this is:
-/// at most as many as a run has.
+/// Puts the printable ASCII at an index of units as one text, at most [`RUN`] units, and returns the number
+/// of units.
 fn put_run<S: TextSink>(sink: &mut S, units: &UnalignedSlice<'_, u16>, place: usize) -> usize
     requires { place ≤ length (items_of units.now) }
     ensures within { place + result ≤ length (items_of units.now) }
     ensures printable { list_all is_printable (take result (drop place (items_of units.now))) ≡ true }
     ensures text { WritesInCalls S.puts sink.old (take result (drop place (items_of units.now))) sink.new }
 {
-    // Texts of other characters have no cost for a run.
+    // Other characters skip the array of a run.
     if !is_printable(unit_at(units, place)) {
         return 0;
     }
@@ -204,8 +204,8 @@ fn put_run<S: TextSink>(sink: &mut S, units: &UnalignedSlice<'_, u16>, place: us
     len
 }
 
-/// Puts a run of printable ASCII that stands at a place of units, or else the character there, and returns
-/// how many units this is.
+/// Puts the printable ASCII at an index of units, or else the character there, and returns the number of
+/// units.
 fn put_part<S: TextSink>(sink: &mut S, units: &UnalignedSlice<'_, u16>, place: usize) -> usize
     requires { place < length (items_of units.now) }
     ensures some { 0 < result }
@@ -223,10 +223,10 @@ fn put_part<S: TextSink>(sink: &mut S, units: &UnalignedSlice<'_, u16>, place: u
     count
 }
 
-/// Puts the text that bytes encode in UTF-16, the low byte of each unit first, as of a file's name: the
-/// characters up to the NUL, or all where there is none, U+FFFD for each surrogate that has no partner
-/// (Unicode Standard, section 3.9), and each character that [`is_escaped`] as
-/// `\u{HEX}`.
+/// Puts the text that bytes encode in UTF-16, the low byte of each unit first, such as the name of a file:
+/// the characters up to the first NUL, or all characters if there is no NUL. It puts U+FFFD for each
+/// unpaired surrogate (Unicode Standard, section 3.9), and `\u{HEX}` for each character for which
+/// [`is_escaped`] holds.
 pub fn put_utf16_text<S: TextSink>(sink: &mut S, bytes: &[u8])
     ensures { WritesInCalls S.puts sink.old (utf16_text bytes.now) sink.new }
 {

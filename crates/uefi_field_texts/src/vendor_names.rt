@@ -1,10 +1,11 @@
-//! What has a name of its own in the text of a node, by its GUID.
+//! Vendors whose nodes have short names, by their GUIDs.
 #![tactic(auto, unfolding(crate::specs::FieldTexts::vendor_name))]
 
 ghost use Rattle.std.specs.Prelude.{◌≡◌};
 ghost use Rattle.uefi_field_texts.specs.FieldTexts.{vendor_name};
 
-/// The shorter name of a vendor's node of messages, by the two halves of its GUID, or an empty text.
+/// Returns the short name of a vendor-defined messaging node, by the two halves of its GUID, or an
+/// empty text if it has none.
 pub fn vendor_name(first: u64, second: u64) -> &'static str
     ensures { result.now ≡ vendor_name first second }
 {

@@ -8,8 +8,8 @@ use Rattle.uefi_node_reader.specs.NamedFiles.{node_read}
 use Rattle.uefi_node_reader.specs.Numerals.{has_digit}
 use Rattle.uefi_node_reader.specs.TextCalls.{texts_tried}
 
--- a text begins with a call, of which this stands before its `)` and this after it: one that names no
--- file and no form that holds a text, and is not read exactly
+-- a text begins with a call: `front` comes before its `)`, and `rest` after it; the call names no file, has
+-- no form that contains a text, and is not read exactly
 pub record IsOtherCall (text front rest : List ℕ) : Type 0 where
   pub begins : begins_call text ≡ true
   pub cut : cut_call text ≡ Some (front, rest)
@@ -17,7 +17,7 @@ pub record IsOtherCall (text front rest : List ℕ) : Type 0 where
   pub textless : texts_tried front (tidied front) ≡ Err None
   pub inexact : ended_spaced (node_read text) ≡ None
 
--- two such calls that differ in case and in blanks alone are read as the same
+-- two calls of that kind that differ only in case and in blanks are read as the same node
 abbrev pub CallsAlike : Type 0
 CallsAlike = (is_rooted : Bool) (text other front back rest : List ℕ) → IsOtherCall text front rest
     → IsOtherCall other back rest → tidied front ≡ tidied back
@@ -28,7 +28,7 @@ abbrev pub ZerosAlike : Type 0
 ZerosAlike = (limit : ℕ) (text : List ℕ) → 1 ≤ limit → has_digit 10 text ≡ true → begins_base text ≡ false
     → any_number limit (48 ∷ text) ≡ any_number limit text
 
--- nor does one after `0x`
+-- a zero after `0x` changes nothing
 abbrev pub ZerosAlikeAfterBase : Type 0
 ZerosAlikeAfterBase = (limit : ℕ) (text : List ℕ) → 1 ≤ limit → has_digit 16 text ≡ true
     → any_number limit (codes "0x0" ++ text) ≡ any_number limit (codes "0x" ++ text)

@@ -1,4 +1,4 @@
--- What is printed of what a text should hold. Numbers are in hexadecimal, and counts of digits in decimal.
+-- The texts of what is expected in a text. Numbers are in hexadecimal, and counts of digits in decimal.
 use Rattle.std.specs.Prelude.{ℕ, List, [], ◌++◌, codes, encode_utf8}
 use Rattle.std.specs.Fmt.{decimal}
 use Rattle.std.specs.Option.{unwrap_or}
@@ -10,7 +10,7 @@ use Rattle.uefi_node_reader.specs.declared.faults.Choice.TheVariants as choice
 use Rattle.uefi_node_reader.specs.declared.faults.Expected.{Expected}
 use Rattle.uefi_node_reader.specs.declared.faults.Expected.TheVariants as expected
 
--- the words of which one has to stand in a field
+-- the words that a field accepts
 abbrev pub choice_text : Choice → List ℕ
 choice_text choice.AtaChannel = codes "`Primary` or `Secondary`"
 choice_text choice.AtaDrive = codes "`Master` or `Slave`"
@@ -27,7 +27,7 @@ choice_text choice.Digest = codes "`None` or `CRC32C`"
 choice_text choice.Login = codes "`None`, `CHAP_BI` or `CHAP_UNI`"
 choice_text choice.IscsiProtocol = codes "`TCP`"
 
--- what has to stand at a byte of a text
+-- the text of what is expected at a byte of a text
 abbrev pub expected_text : Expected → List ℕ
 expected_text expected.Node = codes "the name of a node"
 expected_text (expected.NodeLike place) =

@@ -1,4 +1,4 @@
--- What is expected where a text stops, and that it helps.
+-- What is expected where a text stops helps, if it is put there.
 use Rattle.std.specs.Prelude.{◌≡◌, ◌≢◌, ◌≤◌, ◌⊎◌, ℕ, ◌*◌, false, List, [], ◌∷◌, ◌++◌, All, IfSome, codes, length, map, Option, Some, None, Result, Ok, Err}
 use Rattle.std.specs.Fmt.{decimal}
 use Rattle.std.proofs.Math.ListN.{replicate}
@@ -17,20 +17,20 @@ use Rattle.uefi_node_reader.specs.declared.faults.Expected.{Expected}
 use Rattle.uefi_node_reader.specs.declared.faults.Expected.TheVariants.{Byte, DashedDigits, Digits, Number, NumberFromOne, NumberOrDefault, Parity, StopBits}
 use Rattle.uefi_node_reader.specs.declared.faults.Stop.{Stop}
 
--- the digits of a number from `least` to `most`, perhaps with zeros before them, in hexadecimal after `0x` or
--- in decimal. `more` does not go on with them
+-- the digits of a number from `least` to `most`, perhaps with leading zeros, in hexadecimal after `0x` or in
+-- decimal; `more` does not continue them
 abbrev pub IsNumber : ℕ → ℕ → List ℕ → List ℕ → Type 0
 IsNumber least most thing more = (n zeros : ℕ) × (least ≤ n) × (n ≤ most)
     × ((thing ≡ codes "0x" ++ (replicate zeros 48 ++ hex n)) ⊎ (thing ≡ replicate zeros 48 ++ decimal n))
     × (has_digit 16 more ≡ false) × (first_of more ≢ 120)
 
--- a word of these, as a tidied call has it
+-- one of these words, as in a tidied call
 abbrev pub IsWord : List words.Word → List ℕ → Type 0
 IsWord [] thing = ⊥
 IsWord (word ∷ words) thing = (thing ≡ map tidied_byte word.text) ⊎ IsWord words thing
 
--- a text that can be put in where a tidied call stops, by what is expected there, and what follows it. Where
--- something else is expected, as the exact printed form, no text can be told
+-- a text that replaces the rest of a tidied call from where it stops, by what is expected there; `more`
+-- follows the text. Other expectations, such as the exact printed form, determine no text
 abbrev pub IsThing : Expected → List ℕ → List ℕ → Type 0
 IsThing (Byte byte) thing more = thing ≡ tidied_byte byte ∷ []
 IsThing (Number most) thing more = IsNumber 0 most thing more
@@ -44,15 +44,15 @@ IsThing Parity thing more = IsWord (words_of lists.Parity) thing
 IsThing StopBits thing more = IsWord (words_of lists.StopBits) thing
 IsThing what thing more = ⊥
 
--- a node was read, or the text stops where no more than this is left of it
+-- a node was read, or the text stops where at most `left` bytes of it are left
 abbrev pub GoesOn : ℕ → Result Node (Option Stop) → Type 0
 GoesOn left (Ok node) = Unit {0}
 GoesOn left (Err None) = ⊥
 GoesOn left (Err (Some stop)) = stop.left ≤ left
 
--- with what is expected put in where a tidied call stops, in place of any text from there on, the call is
--- read, or stops only after that. Left out are a stop at a `)`, because numbers before one may be left out,
--- and a number put in that then lacks its base, as eight digits do in `HD(1,MBR,12345678,..)`
+-- if what is expected replaces the text from where a tidied call stops, whatever follows it, the call is
+-- read, or stops only after that. Two cases are excluded: a stop at a `)`, because numbers before it may be
+-- omitted; and a number that then lacks its `0x`, such as eight digits in `HD(1,MBR,12345678,..)`
 abbrev pub ExpectedHelps : Type 0
 ExpectedHelps = (front back thing more : List ℕ) (what : Expected)
     → call_told (front ++ back) ≡ Err (Some (stop_at back what))

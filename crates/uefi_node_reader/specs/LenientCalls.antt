@@ -22,114 +22,116 @@ use Rattle.uefi_node_reader.specs.WordReading.{after}
 use Rattle.uefi_node_reader.specs.declared.faults.Expected.TheVariants as expected
 use Rattle.uefi_node_reader.specs.declared.faults.Stop.{Stop}
 
--- the test for a byte of a call that is passed over: a blank, a line end, or a brace around a GUID
+-- whether a byte of a call is skipped: a blank, a line end, or a brace around a GUID
 abbrev pub is_blank : ℕ → Bool
 is_blank byte = is_ascii_whitespace byte || ((byte == 123) || (byte == 125))
 
--- a byte in upper case, but an `x` as the table has it in `0x`
+-- a byte in upper case, except for `x`, which the table has in `0x`
 abbrev pub tidied_byte : ℕ → ℕ
 tidied_byte byte = if to_ascii_uppercase byte == 88 then 120 else to_ascii_uppercase byte
 
--- the text of a call up to its `)`, in such bytes and without blanks
+-- the part of a call before its `)`, in upper case except for `x` and without blanks, and the `)`
 abbrev pub tidied : List ℕ → List ℕ
 tidied text = map tidied_byte (filter (λ c. not (is_blank c)) text) ++ codes ")"
 
--- where a byte stands that has this many bytes before it but blanks
+-- the index of the byte that `count` other bytes precede, not counting blanks
 abbrev pub place_at : ℕ → List ℕ → ℕ
 place_at count [] = 0
 place_at count (c ∷ cs) = if is_blank c then place_at count cs + 1
     else (if count == 0 then 0 else place_at (count - 1) cs + 1)
 
--- what stands before the first `)`, and what after it
+-- the parts of a text before and after its first `)`
 abbrev pub cut_call : List ℕ → Option (List ℕ × List ℕ)
 cut_call text = option_map (λ place. (take place text, drop (place + 1) text)) (position (λ c. c == 41) text)
 
--- the test for data after the fields that hold no text
+-- whether the data after the fields contains no text
 abbrev pub is_textless : Tail → Bool
 is_textless Nothing = true
 is_textless Bytes = true
 is_textless (Repeated items) = true
 is_textless tail = false
 
--- the node of a form with data that were read, where nothing stands after them, and its text tells it
+-- the node of a form with the data that was read, if nothing is left of the text, and the node's text
+-- describes it completely
 abbrev pub told_in : Form → Option (List ℕ × List ℕ) → Option Node
 told_in form None = None
 told_in form (Some read) = if is_empty read.1 && tells form (node_with form.kind form.sub_kind read.0)
     then Some (node_with form.kind form.sub_kind read.0) else None
 
--- the node of a form, by its tidied text, or where that stops being one
+-- the node of a form, from its tidied text, or where that stops
 abbrev pub form_told : Form → List ℕ → Result Node Stop
 form_told form text = after_literal form.start text
     >? pieces_set form.kind form.sub_kind form.pieces (blank form)
     >? λ read. ok_or (told_in form (rest_read form read)) (stop_of (rest_end form.tail form.close read.1))
 
--- the test for a text that begins with the name of a call, up to its `(`, in either case
+-- whether a text begins with the name of a call, up to its `(`, in either case
 abbrev pub begins_call_name : List ℕ → List ℕ → Bool
 begins_call_name [] text = true
 begins_call_name (c ∷ cs) [] = false
 begins_call_name (c ∷ cs) (t ∷ ts) =
     (to_ascii_uppercase c == to_ascii_uppercase t) && ((c == 40) || begins_call_name cs ts)
 
--- the same of a form whose name the text begins with, unless it holds a text
+-- the node of a form whose name the text begins with, unless the form contains a text, or where the text
+-- stops
 abbrev pub named_told : Mode → Form → List ℕ → Result Node (Option Stop)
 named_told Read form text = if is_textless form.tail
     then result_map_both (λ node. node) (λ stop. Some stop) (form_told form text) else Err None
 named_told Printed form text = Err (Some (stop_at text expected.Untold))
 named_told Display form text = Err None
 
--- the same of any form
+-- the node of any form, if the text begins with its name, or where the text stops
 abbrev pub form_tried : Form → List ℕ → Result Node (Option Stop)
 form_tried form text = if begins_call_name form.start text then named_told form.mode form text else Err None
 
--- the node that was read, or else what is read next, by where that stopped
+-- the node that was read, or else the next reading, given where the first stopped
 abbrev pub or_next : Result Node (Option Stop) → (Option Stop → Result Node (Option Stop))
     → Result Node (Option Stop)
 or_next (Ok node) next = Ok node
 or_next (Err stop) next = next stop
 
--- the node of the first of these forms that a call is read in, or where it stops being that of the form
--- that was read furthest, at least here
+-- the node of a call in the first form that can be read, or else where the call stops in the form that was
+-- read furthest, at least `furthest`
 abbrev pub first_tried : (Form → Result Node (Option Stop)) → List Form → Option Stop
     → Result Node (Option Stop)
 first_tried tried [] furthest = Err furthest
 first_tried tried (form ∷ forms) furthest =
     or_next (tried form) (λ stop. first_tried tried forms (further furthest stop))
 
--- the same of a tidied text
+-- the node of a tidied text in the first form that can be read, or where the text stops
 abbrev pub forms_tried : List Form → Option Stop → List ℕ → Result Node (Option Stop)
 forms_tried forms furthest text = first_tried (λ form. form_tried form text) forms furthest
 
--- the node that was read, where nothing stands after it
+-- the node that was read, if nothing is left of the text
 abbrev pub whole : Option (Node × List ℕ) → Option Node
 whole None = None
 whole (Some read) = if is_empty read.1 then Some read.0 else None
 
--- the node of no kind that a tidied text begins with, from its type on, and what stands after it
+-- the node of no known kind, from its type on in a tidied text, and the rest of the text
 abbrev pub types_told : List ℕ → Option (Node × List ℕ)
 types_told text = any_number 256 text >>= λ kind.
     after (codes ",") kind.1 >>= λ u. any_number 256 u >>= λ sub_kind.
     plain_rest kind.0 sub_kind.0 sub_kind.1
 
--- what stands after it, or where it stops
+-- the rest of a text after a node of no known kind, or where the text stops
 abbrev pub types_end : List ℕ → Result (List ℕ) Stop
 types_end text = ok_or (past (any_number 256 text)) (stop_at text (expected.Number 255))
     >? exact_end (codes ",")
     >? λ rest. ok_or (past (any_number 256 rest)) (stop_at rest (expected.Number 255))
     >? rest_end Bytes (codes ")")
 
--- the node of no kind that a tidied text has, from its type on, or where it stops
+-- the node of no known kind that is a whole tidied text from its type on, or where the text stops
 abbrev pub path_told : Result (List ℕ) Stop → Result Node (Option Stop)
 path_told (Err stop) = Err None
 path_told (Ok rest) = ok_or (whole (types_told rest)) (Some (stop_of (types_end rest)))
 
--- the node that a tidied text has, in a form of the table, in one that people paste, or of no kind, or where
--- it stops; or first, where it stops telling which node it is
+-- the node of a tidied text, in a form of the table, in a form that people paste, or of no known kind, or
+-- where the text stops; a call that becomes ambiguous stops there
 abbrev pub call_tried : Option Stop → List ℕ → Result Node (Option Stop)
 call_tried (Some stop) text = Err (Some stop)
 call_tried None text = or_next (forms_tried forms None text)
     (λ stop. or_next (forms_tried pasted_forms stop text)
     (λ other. or_next (path_told (after_literal (codes "Path(") text)) (λ last. Err (further other last))))
 
--- the same of a text by itself
+-- the node of a tidied text, or where the text stops
 abbrev pub call_told : List ℕ → Result Node (Option Stop)
 call_told text = call_tried (ambiguous_stop text) text

@@ -1,4 +1,5 @@
--- Fields of nodes as people write them: in either case, numbers in either base, and the last left out.
+-- Fields of nodes as people write them: in either case, with numbers in either base, and without the last
+-- ones.
 use Rattle.std.specs.Prelude.{ℕ, ◌-◌, ◌*◌, ◌^◌, Bool, true, false, ◌==◌, ◌&&◌, ◌||◌, if◌then◌else◌, List, [], ◌∷◌, codes, Option, Some, None, Result, Ok}
 use Rattle.std.specs.Option.{ok_or, option_map}
 use Rattle.std.specs.Result.{is_ok, result_ok}
@@ -20,56 +21,56 @@ use Rattle.uefi_node_reader.specs.declared.faults.Expected.{Expected}
 use Rattle.uefi_node_reader.specs.declared.faults.Expected.TheVariants as expected
 use Rattle.uefi_node_reader.specs.declared.faults.Stop.{Stop}
 
--- the test for bytes that begin with `0x`
+-- whether bytes begin with `0x`
 abbrev pub begins_base : List ℕ → Bool
 begins_base [] = false
 begins_base (c ∷ []) = false
 begins_base (c ∷ d ∷ cs) = (c == 48) && (d == 120)
 
--- what stands after `0x`, or all of a text that begins otherwise
+-- the text after `0x`, or the whole text if it does not begin with `0x`
 abbrev pub past_base : List ℕ → List ℕ
 past_base [] = []
 past_base (c ∷ []) = c ∷ []
 past_base (c ∷ d ∷ cs) = if (c == 48) && (d == 120) then cs else c ∷ d ∷ cs
 
--- what stands after a byte, in either case
+-- the rest of a text after a byte, in either case
 abbrev pub after_letter : ℕ → List ℕ → Option (List ℕ)
 after_letter c [] = None
 after_letter c (t ∷ ts) = if to_ascii_uppercase c == to_ascii_uppercase t then Some ts else None
 
--- what stands after a literal of the table in either case, from the `x` of its `0x` on where `at_x`, or the
--- byte that differs from it. The `0x` may be left out, and at the end it is that of the number which follows
+-- the rest of a text after a literal of the table in either case, from the `x` of its `0x` on if `at_x`, or
+-- the byte that differs; the text may omit the `0x`, and a `0x` at the end is left to the number after it
 abbrev pub literal_left : List ℕ → Bool → List ℕ → Result (List ℕ) Stop
 literal_left [] at_x text = Ok text
 literal_left (c ∷ cs) true text = literal_left cs false (if is_empty cs then text else past_base text)
 literal_left (c ∷ cs) false text = if begins_base (c ∷ cs) then literal_left cs true text
     else (ok_or (after_letter c text) (stop_at text (expected.Byte c)) >? literal_left cs false)
 
--- what stands after a whole literal
+-- the rest of a text after a whole literal
 abbrev pub after_literal : List ℕ → List ℕ → Result (List ℕ) Stop
 after_literal literal text = literal_left literal false text
 
--- the number below `limit` of one digit or more, and what stands after them
+-- a number below `limit` of at least one digit, and the rest of the text
 abbrev pub some_digits : ℕ → ℕ → List ℕ → Option (ℕ × List ℕ)
 some_digits base limit text = if has_digit base text then digits_after base limit 0 text else None
 
--- the number that a text begins with: after `0x` in hexadecimal, else in decimal
+-- a number in decimal, or in hexadecimal after `0x`, and the rest of the text
 abbrev pub any_number : ℕ → List ℕ → Option (ℕ × List ℕ)
 any_number limit text =
     if begins_base text then some_digits 16 limit (past_base text) else some_digits 10 limit text
 
--- the same, or the word for 0
+-- a number in decimal, or in hexadecimal after `0x`, or the word for 0, and the rest of the text
 abbrev pub number_or_word : ℕ → List ℕ → Option (ℕ × List ℕ)
 number_or_word limit text = if has_digit 10 text then any_number limit text
     else (after (codes "DEFAULT") text >>= λ rest. Some (0, rest))
 
--- the number of the word that a text begins with, in either case, and what stands after it
+-- the number of a word in either case, and the rest of the text
 abbrev pub any_word : List words.Word → List ℕ → Option (ℕ × List ℕ)
 any_word [] text = None
 any_word (word ∷ words) text =
     or_word word.number (result_ok (after_literal word.text text)) (any_word words text)
 
--- the bytes of a field, and what stands after it: digits of bytes may stand after `0x`
+-- the bytes of a field, and the rest of the text; the digits of bytes may follow `0x`
 abbrev pub any_field : Shape → ℕ → List ℕ → Option (List ℕ × List ℕ)
 any_field Hexadecimal width text = any_number (256 ^ width) text >>= as_bytes width
 any_field Decimal width text = any_number (256 ^ width) text >>= as_bytes width
@@ -78,35 +79,35 @@ any_field Next width text = any_number 257 text >>= less_one >>= as_bytes width
 any_field (Word list) width text = any_word (words_of list) text >>= as_bytes width
 any_field shape width text = field_read shape width (past_base text)
 
--- the test for a shape that may be left out: a number
+-- whether a field of this shape may be omitted: whether it is a number
 abbrev pub is_number : Shape → Bool
 is_number Hexadecimal = true
 is_number Decimal = true
 is_number shape = false
 
--- the byte that a field is made of where it is left out (UEFI Specification 2.10, section 10.6.1): all ones
--- for the port multiplier of SATA and for the fields of a class of USB devices, else 0
+-- the byte that fills an omitted field (UEFI Specification 2.10, section 10.6.1): 0xff for the port
+-- multiplier of SATA and for the fields of a class of USB devices, and otherwise 0
 abbrev pub left_out : ℕ → ℕ → ℕ → ℕ
 left_out kind sub_kind place =
     if (kind == 3) && ((sub_kind == 15) || ((sub_kind == 18) && (place == 2))) then 0xff else 0
 
--- the bytes of a field, of which `spare` is each where a number is left out before `)`
+-- the bytes of a field, each of which is `spare` if a number is omitted before `)`
 abbrev pub value_or_spare : Shape → ℕ → ℕ → List ℕ → Option (List ℕ × List ℕ)
 value_or_spare shape spare width text = if is_number shape && (first_of text == 41)
     then Some (replicate width spare, text) else any_field shape width text
 
--- what stands after the ending of a field: a comma, and its `0x`, may be left out before `)`
+-- the rest of a text after the ending of a field; before `)`, a comma and its `0x` may be omitted
 abbrev pub after_ending : List ℕ → List ℕ → Result (List ℕ) Stop
 after_ending ending text = if (first_of text == 41) && is_ok (after_literal ending (codes ","))
     then Ok text else after_literal ending text
 
--- what is expected where a word of a list has to stand
+-- what is expected where a list requires a word
 abbrev pub expected_word : Words → Expected
 expected_word Parity = expected.Parity
 expected_word StopBits = expected.StopBits
 expected_word words = expected.AsPrinted
 
--- what is expected where a field has to stand
+-- what is expected where a field is required
 abbrev pub expected_field : Shape → ℕ → Expected
 expected_field Hexadecimal width = expected.Number (256 ^ width - 1)
 expected_field Decimal width = expected.Number (256 ^ width - 1)
@@ -118,21 +119,22 @@ expected_field Next width = expected.NumberFromOne 256
 expected_field Eisa width = expected.Id
 expected_field (Word list) width = expected_word list
 
--- the data of a node of a kind with the field that a text begins with, and what stands after it, or where it
--- stops
+-- the data of a node of a kind with a field from a text, and the rest of the text, or where the text stops
 abbrev pub value_set : ℕ → ℕ → Piece → List ℕ → List ℕ → Result (List ℕ × List ℕ) Stop
 value_set kind sub_kind piece content text =
     ok_or (option_map (λ value. (put_at piece value.0 content, value.1))
     (value_or_spare piece.shape (left_out kind sub_kind piece.place) piece.width text))
     (stop_at text (expected_field piece.shape piece.width))
 
--- the same after its ending
+-- the data with a field from a text, and the rest of the text after the field's ending, or where the text
+-- stops
 abbrev pub piece_set : ℕ → ℕ → Piece → List ℕ → List ℕ → Result (List ℕ × List ℕ) Stop
 piece_set kind sub_kind piece content text = value_set kind sub_kind piece content text
     >? λ set. after_ending piece.ending set.1
     >? λ rest. Ok (set.0, rest)
 
--- the same of fields
+-- the data with several fields from a text, and the rest of the text after their endings, or where the text
+-- stops
 abbrev pub pieces_set : ℕ → ℕ → List Piece → List ℕ → List ℕ → Result (List ℕ × List ℕ) Stop
 pieces_set kind sub_kind [] content text = Ok (content, text)
 pieces_set kind sub_kind (piece ∷ pieces) content text =

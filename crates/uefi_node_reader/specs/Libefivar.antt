@@ -1,5 +1,4 @@
--- Nodes as libefivar prints them, where its text of a node is the specification's text of another, or
--- is in no form of the table.
+-- Texts of libefivar, if they are the specification's texts of other nodes, or have no form in the table.
 use Rattle.std.specs.Prelude.{Bool, if◌then◌else◌, List, [], ◌∷◌, codes, length, ◌-◌, ℕ, Option, Some, None, Result, Err}
 use Rattle.std.specs.Option.{option_map, option_or}
 use Rattle.uefi_device_nodes.specs.Nodes.{Node}
@@ -17,31 +16,31 @@ use Rattle.uefi_node_reader.specs.declared.faults.Expected.TheVariants as expect
 use Rattle.uefi_node_reader.specs.declared.faults.NodeFault.{NodeFault}
 use Rattle.uefi_node_reader.specs.declared.faults.Stop.{Stop}
 
--- the node in the first of these forms that a tidied text has exactly
+-- the node of a tidied text in the first of these forms that it matches exactly
 abbrev pub forms_exact : List Form → List ℕ → Option Node
 forms_exact [] text = None
 forms_exact (form ∷ forms) text = option_or (told_in form (form_read form text)) (forms_exact forms text)
 
--- the node whose call a text begins with in one of its own forms, and what stands after it
+-- the node of the call at the start of a text in a form that only libefivar prints, and the rest of the text
 abbrev pub own_call : List ℕ → Option (Node × List ℕ)
 own_call text = cut_call text >>= λ call.
     option_map (λ node. (node, call.1)) (forms_exact own_forms (tidied call.0))
 
--- the same of a text that begins with a call
+-- the node in a form that only libefivar prints, and the rest of the text, if the text begins with a call
 abbrev pub own_read : List ℕ → Option (Node × List ℕ)
 own_read text = if begins_call text then own_call text else None
 
--- where a tidied call stops after this name
+-- a stop after this name, if a tidied call begins with it
 abbrev pub stop_after : Expected → List ℕ → List ℕ → Option Stop
 stop_after what name text = option_map (λ rest. stop_at rest what) (after name text)
 
--- the same, if no `0x` follows
+-- a stop after this name, if a tidied call begins with it and no `0x` follows
 abbrev pub base_after : List ℕ → List ℕ → Option Stop
 base_after name text = after name text >>= λ rest.
     if begins_with (codes "0x") rest then None else Some (stop_at rest expected.Base)
 
--- where a tidied call stops that libefivar prints in its own form alone, for different nodes, or with a
--- text of the device in place of its number
+-- where a tidied call stops that libefivar prints for different nodes, in a form that it does not share, or
+-- with a text of the device in place of its number
 abbrev pub own_stop : List ℕ → Option Stop
 own_stop text = option_or (stop_after expected.AsPrinted (codes "NVME(") text)
     (option_or (stop_after expected.Untold (codes "FIBRE(") text)
@@ -49,20 +48,20 @@ own_stop text = option_or (stop_after expected.AsPrinted (codes "NVME(") text)
     (option_or (stop_after expected.Untold (codes "USBCLASS(") text)
     (option_or (base_after (codes "PCIROOT(") text) (base_after (codes "PCIEROOT(") text)))))
 
--- the fault of a text that begins with such a call
+-- the fault of a text that begins with a call of libefivar that stops
 abbrev pub own_fault : List ℕ → Option NodeFault
 own_fault text = cut_call text >>= λ call.
     option_map (λ stop. fault_at_byte (place_at (length (tidied call.0) - stop.left) text) stop.expected)
     (own_stop (tidied call.0))
 
--- what was read in one of its own forms, or else the fault of such a call, or else what people write
+-- what was read in a form that only libefivar prints, or else the fault of a call of libefivar that stops, or
+-- else what people write
 abbrev pub own_or_lenient : Bool → List ℕ → Option (Node × List ℕ) → Option NodeFault
     → Result (Node × List ℕ) NodeFault
 own_or_lenient is_rooted text (Some read) fault = ended_at text read
 own_or_lenient is_rooted text None (Some fault) = Err fault
 own_or_lenient is_rooted text None None = lenient_read is_rooted text
 
--- the node whose text bytes begin with as libefivar prints it, and what stands after it, or the fault of the
--- text
+-- the node at the start of a text as libefivar prints it, and the rest of the text, or the fault of the text
 unfoldable pub libefivar_read : Bool → List ℕ → Result (Node × List ℕ) NodeFault
 libefivar_read is_rooted text = own_or_lenient is_rooted text (own_read text) (own_fault text)

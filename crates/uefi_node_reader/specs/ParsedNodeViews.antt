@@ -1,4 +1,4 @@
--- What a node that was read shows. Other crates see these words alone, and no field.
+-- What contracts see of a node that was read. Other crates use only these words, and no field.
 use Rattle.std.specs.Prelude.{ℕ, List}
 use Rattle.uefi_device_nodes.specs.Nodes.{Node, node_with}
 use Rattle.uefi_node_reader.specs.ParsedNodes.{all_data}

@@ -1,4 +1,4 @@
--- Nodes of no kind, which are printed with all their data.
+-- Nodes of no known kind, whose texts contain all their data.
 use Rattle.std.specs.Prelude.{◌≡◌, ℕ, ◌<◌, Bool, true, false, nat_le, not, ◌==◌, ◌&&◌, ◌||◌, List, codes, length, All, Option}
 use Rattle.uefi_text.specs.Packed.{IsByte}
 use Rattle.uefi_node_table.specs.Table.{has_form}
@@ -8,33 +8,33 @@ use Rattle.uefi_node_reader.specs.FieldReading.{◌>>=◌, comma_read, read_if}
 use Rattle.uefi_node_reader.specs.WordReading.{after}
 use Rattle.uefi_node_reader.specs.Numerals.{number_read}
 
--- the test for a node that is printed in a form of its own
+-- whether a node is printed in a form of its own
 abbrev pub is_formed : Node → Bool
 is_formed node = is_irregular false node || has_form false node.device_type node.sub_type node.content
 
--- the test for a node that is not, may stand in a path and ends no instance
+-- whether a node has no form of its own, fits into a path, and does not end an instance or the path
 abbrev pub is_plain : Node → Bool
 is_plain node = not (node.device_type == 0x7f)
     && (not (is_formed node) && nat_le (length node.content) 0xfffb)
 
--- a node that is printed with all its data, whatever they are
+-- a node that is printed with all its data, whatever the data is
 pub record IsPlainNode (node : Node) : Type 0 where
   pub device_type : node.device_type < 256
   pub sub_type : node.sub_type < 256
   pub content : All IsByte node.content
   pub plain : is_plain node ≡ true
 
--- the node of a type and a sub-type, and what stands after it, from its data on
+-- the node of a type and a sub-type, from its data on in a text, and the rest of the text
 abbrev pub plain_rest : ℕ → ℕ → List ℕ → Option (Node × List ℕ)
 plain_rest kind sub_kind text = comma_read text >>= λ content. after (codes ")") content.1 >>= λ rest.
     read_if (is_plain (node_with kind sub_kind content.0)) (node_with kind sub_kind content.0) rest
 
--- the node of no kind, and what stands after it, from its type on
+-- the node of no known kind, from its type on in a text, and the rest of the text
 abbrev pub types_read : List ℕ → Option (Node × List ℕ)
 types_read text = number_read 10 256 text >>= λ kind.
     after (codes ",") kind.1 >>= λ u. number_read 10 256 u >>= λ sub_kind.
     plain_rest kind.0 sub_kind.0 sub_kind.1
 
--- the node of no kind whose text bytes begin with, and what stands after it
+-- the node of no known kind at the start of a text, and the rest of the text
 abbrev pub plain_read : List ℕ → Option (Node × List ℕ)
 plain_read text = after (codes "Path(") text >>= types_read

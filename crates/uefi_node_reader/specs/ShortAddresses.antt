@@ -1,5 +1,5 @@
--- Nodes of connections over IP version 6 as people write them, in tidied calls: with addresses in any form
--- of RFC 4291, section 2.2, and without the fields that they leave out.
+-- Nodes of IPv6 connections as people write them, in tidied calls: with addresses in any form of RFC 4291,
+-- section 2.2, and without the fields that people omit.
 use Rattle.std.specs.Prelude.{ℕ, Bool, true, false, ◌==◌, ◌&&◌, ◌||◌, if◌then◌else◌, List, ◌∷◌, ◌++◌, codes, drop, length, slice_index, take, Option, Some, None}
 use Rattle.std.specs.List.{position_or_len}
 use Rattle.std.specs.Net.Addr.{octets_of}
@@ -21,36 +21,36 @@ use Rattle.uefi_node_reader.specs.WordReading.{after, or_word}
 unfoldable pub address_octets : List ℕ → Option (List ℕ)
 address_octets text = option_map octets_of (whole_value (read_ipv6 text))
 
--- the test for a byte that ends an address: a comma, a `)` or a `]`
+-- whether a byte ends an address: a comma, a `)` or a `]`
 abbrev pub ends_address : ℕ → Bool
 ends_address byte = (byte == 44) || ((byte == 41) || (byte == 93))
 
--- the octets of the address that stands before such a byte, and what stands after it
+-- the octets of an address, and the rest of the text
 abbrev pub bare_address : List ℕ → Option (List ℕ × List ℕ)
 bare_address text = option_map (λ octets. (octets, drop (position_or_len ends_address text) text))
     (address_octets (take (position_or_len ends_address text) text))
 
--- the same of an address from the byte after `[` on
+-- the octets of an address from the byte after `[` on, and the rest of the text after the `]`
 abbrev pub closed_address : List ℕ → Option (List ℕ × List ℕ)
 closed_address text = bare_address text >>= λ address.
     after (codes "]") address.1 >>= λ rest. Some (address.0, rest)
 
--- the same of an address that may stand in brackets
+-- the octets of an address, perhaps in brackets, and the rest of the text
 abbrev pub address_read : List ℕ → Option (List ℕ × List ℕ)
 address_read text = if first_of text == 91 then closed_address (drop 1 text) else bare_address text
 
--- the number of a protocol, by its name or itself, and what stands after it
+-- the number of a protocol, from its name or its number, and the rest of the text
 abbrev pub protocol_read : List ℕ → Option (ℕ × List ℕ)
 protocol_read text = or_word 6 (after (codes "TCP") text)
     (or_word 17 (after (codes "UDP") text) (any_number 65536 text))
 
--- the number of the origin of an address, and what stands after it
+-- the number of the origin of an address, and the rest of the text
 abbrev pub origin_read : List ℕ → Option (ℕ × List ℕ)
 origin_read text = or_word 0 (after (codes "STATIC") text)
     (or_word 1 (after (codes "STATELESSAUTOCONFIGURE") text)
     (or_word 2 (after (codes "STATEFULAUTOCONFIGURE") text) None))
 
--- the test for the end of a call: a `)` alone
+-- whether a text is only the `)` at the end of a call
 abbrev pub closes_call : List ℕ → Bool
 closes_call text = (length text == 1) && (slice_index text 0 == 41)
 
@@ -62,28 +62,29 @@ no_address = replicate 16 0
 abbrev pub at_end : {A : Type 0} → A × List ℕ → Option A
 at_end read = if closes_call read.1 then Some read.0 else None
 
--- the prefix length and the gateway that end a call
+-- the prefix length and the gateway at the end of a call
 abbrev pub last_fields : List ℕ → Option (ℕ × List ℕ)
 last_fields text = any_number 256 text >>= λ prefix. after (codes ",") prefix.1 >>= address_read >>= at_end
     >>= λ gateway. Some (prefix.0, gateway)
 
--- the same after a comma. A node without them has other data, and is read with whole addresses alone
+-- the prefix length and the gateway at the end of a call, after a comma; a node without them has other data,
+-- and is read only with whole addresses
 abbrev pub gateway_read : List ℕ → Option (ℕ × List ℕ)
 gateway_read text = after (codes ",") text >>= last_fields
 
--- the local address, the prefix length and the gateway that end a call, or zeros
+-- the local address, the prefix length and the gateway at the end of a call, or zeros if all are omitted
 abbrev pub local_read : List ℕ → Option (List ℕ × ℕ × List ℕ)
 local_read text = if closes_call text then Some (no_address, 0, no_address)
     else (after (codes ",") text >>= address_read >>= λ local.
     gateway_read local.1 >>= λ gateway. Some (local.0, gateway.0, gateway.1))
 
--- the data of a connection without ports, by the remote address, the protocol, the origin of the local
+-- the data of a connection without ports, from the remote address, the protocol, the origin of the local
 -- address, and the local address, the prefix length and the gateway (UEFI Specification 2.10, section 10.3.4)
 abbrev pub connection : List ℕ → ℕ → ℕ → List ℕ × ℕ × List ℕ → List ℕ
 connection remote protocol origin local = local.0 ++ (remote ++ (0 ∷ 0 ∷ 0 ∷ 0 ∷
     (low_bytes 2 protocol ++ (origin ∷ local.1 ∷ local.2))))
 
--- the data that a call tells from after the remote address on. With that address alone EDK II reads
+-- the data of a connection, from the end of its call after the remote address; if that is all, EDK II reads
 -- protocol 0 and a stateful configuration
 abbrev pub settings_read : List ℕ → List ℕ → Option (List ℕ)
 settings_read remote text = if closes_call text then Some (connection remote 0 2 (no_address, 0, no_address))
@@ -91,20 +92,20 @@ settings_read remote text = if closes_call text then Some (connection remote 0 2
     after (codes ",") protocol.1 >>= origin_read >>= λ origin.
     local_read origin.1 >>= λ local. Some (connection remote protocol.0 origin.0 local))
 
--- the data that a whole call tells
+-- the data of a connection, from its whole call
 abbrev pub call_data : List ℕ → Option (List ℕ)
 call_data text = after (codes "IPV6(") text >>= address_read >>= λ remote. settings_read remote.0 remote.1
 
--- the test for a form whose data end with their fixed part
+-- whether a form's data ends with its fixed part
 abbrev pub is_fixed : Tail → Bool
 is_fixed Nothing = true
 is_fixed tail = false
 
--- a node with such data, if the text that it is printed in tells it
+-- a node with no data after its fixed part, if it is completely described by the text that it is printed as
 abbrev pub told_fixed : Node → Option Node
 told_fixed node = find_form (prints node) forms >>= λ form.
     if is_fixed form.tail && tells form node then Some node else None
 
--- the node of a connection over IP version 6 that a tidied call tells
+-- the node of an IPv6 connection, from its tidied call
 unfoldable pub short_ipv6 : List ℕ → Option Node
 short_ipv6 text = call_data text >>= λ content. told_fixed (node_with 3 13 content)

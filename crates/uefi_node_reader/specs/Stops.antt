@@ -13,42 +13,42 @@ use Rattle.uefi_node_reader.specs.declared.faults.Stop.{Stop}
 abbrev pub stop_at : List ℕ → Expected → Stop
 stop_at text what = record { left = length text; expected = what }
 
--- what follows, if all was read so far
+-- the next reading, if everything was read so far
 infixl 10 ◌>?◌
 abbrev pub ◌>?◌ : {A B E : Type 0} → Result A E → (A → Result B E) → Result B E
 Err stop >? f = Err stop
 Ok read >? f = f read
 
--- the one of two with less of the text left, or else the first
+-- the stop with less text left, or the first if neither has less
 abbrev pub further : Option Stop → Option Stop → Option Stop
 further None other = other
 further (Some stop) None = Some stop
 further (Some stop) (Some other) = if nat_lt other.left stop.left then Some other else Some stop
 
--- what stands after a value that was read
+-- the rest of the text after a value that was read
 abbrev pub past : {A : Type 0} → Option (A × List ℕ) → Option (List ℕ)
 past read = option_map (λ x. x.1) read
 
--- what stands after a literal as it is printed
+-- the rest of a text after a literal exactly as it is printed
 abbrev pub exact_end : List ℕ → List ℕ → Result (List ℕ) Stop
 exact_end literal text = ok_or (after literal text) (stop_at text (expected.Byte (first_of literal)))
 
--- where the data after the fields stop: bytes in the first of them, and a list at its start
+-- where the data after the fields stops: in the first of its bytes, or at the start of a list
 abbrev pub tail_stop : Tail → List ℕ → Stop
 tail_stop Bytes text = stop_at (drop 1 text) (expected.Digits 2)
 tail_stop tail text = stop_at text expected.AsPrinted
 
--- where the end of a text stops: one more item may stand there, too, if a list ends here
+-- where the end of a text stops; if a list ends there, another item may follow as well
 abbrev pub close_stop : Tail → List ℕ → List ℕ → Stop
 close_stop (Repeated items) close text = stop_at text expected.AsPrinted
 close_stop tail close text = stop_at text (expected.Byte (first_of close))
 
--- what stands after the data that follow the fields, and after the end of the text
+-- the rest of a text after the data that follows the fields, and after the end, or where the text stops
 abbrev pub rest_end : Tail → List ℕ → List ℕ → Result (List ℕ) Stop
 rest_end tail close text = ok_or (past (tail_read tail close text)) (tail_stop tail text)
     >? λ rest. ok_or (after close rest) (close_stop tail close rest)
 
--- where a text stops being that of a node: if all of it was read, its text does not tell the node
+-- where the text of a node stops; if all of it was read, it does not describe the node completely
 abbrev pub stop_of : Result (List ℕ) Stop → Stop
 stop_of (Err stop) = stop
 stop_of (Ok rest) = stop_at rest expected.Untold

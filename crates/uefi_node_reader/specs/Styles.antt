@@ -1,4 +1,4 @@
--- Nodes read from texts of each style.
+-- Nodes read from their texts in each style.
 use Rattle.std.specs.Prelude.{◌≡◌, ◌≤◌, ◌<◌, ℕ, Bool, List, length, IfErr, Result, Ok, Some, true, false}
 use Rattle.std.specs.Option.{ok_or}
 use Rattle.uefi_device_nodes.specs.Nodes.{Node}
@@ -10,57 +10,57 @@ use Rattle.uefi_node_reader.specs.declared.faults.NodeFault.{NodeFault}
 use Rattle.uefi_node_reader.specs.declared.styles.TextStyle.{TextStyle}
 use Rattle.uefi_node_reader.specs.declared.styles.TextStyle.TheVariants.{Printed, Lenient, Libefivar}
 
--- the node whose text bytes begin with in a style, where names have to begin with a backslash or not,
--- and what stands after it, or the fault of the text
+-- the node at the start of a text in a style, and the rest of the text, or the fault of the text; if
+-- `is_rooted`, names have to begin with a backslash
 unfoldable pub styled_read : TextStyle → Bool → List ℕ → Result (Node × List ℕ) NodeFault
 styled_read Printed is_rooted text = ok_or (ended (node_read text)) (fault_at_byte 0 expected.AsPrinted)
 styled_read Lenient is_rooted text = lenient_read is_rooted text
 styled_read Libefivar is_rooted text = libefivar_read is_rooted text
 
--- the test for a style whose calls and names are copied before they are read
+-- whether calls and names of a style are copied before they are read
 abbrev pub is_copied : TextStyle → Bool
 is_copied Printed = false
 is_copied Lenient = true
 is_copied Libefivar = true
 
--- the test for a style in which printed texts are read as what they are printed of
+-- whether a style reads printed texts as the nodes that they are printed for
 abbrev pub takes_printed : TextStyle → Bool
 takes_printed Printed = true
 takes_printed Lenient = true
 takes_printed Libefivar = false
 
--- a buffer is long enough for copies of a text
+-- a buffer is long enough for a copy of a text, if the style copies
 abbrev pub HasScratch : TextStyle → List ℕ → List ℕ → Type 0
 HasScratch style text scratch = is_copied style ≡ true → length text < length scratch
 
--- what is read is told
+-- a node that is read is told
 abbrev pub StyledTakes : Type 0
 StyledTakes = (style : TextStyle) (is_rooted : Bool) (text : List ℕ) (node : Node) (rest : List ℕ)
     → styled_read style is_rooted text ≡ Ok (node, rest) → IsTold node
 
--- what stands after it is the end of the text, after one byte or more, and may stand after a node
+-- the rest is the end of the text, after at least one byte, and may follow a node
 abbrev pub StyledEnds : Type 0
 StyledEnds = (style : TextStyle) (is_rooted : Bool) (text : List ℕ) (node : Node) (rest : List ℕ)
     → styled_read style is_rooted text ≡ Ok (node, rest) → IsRestOf text rest × (is_after_node rest ≡ true)
 
--- the text begins with no byte that may stand after a node
+-- the text is not empty, and begins with no byte that may follow a node
 abbrev pub StyledStarts : Type 0
 StyledStarts = (style : TextStyle) (is_rooted : Bool) (text : List ℕ) (node : Node) (rest : List ℕ)
     → styled_read style is_rooted text ≡ Ok (node, rest) → is_after_node text ≡ false
 
--- what is read exactly where a node may end is read in such a style as the same
+-- a node that is read exactly where a node may end is the same node in each style that reads printed texts
 abbrev pub StyledAgain : Type 0
 StyledAgain = (style : TextStyle) → takes_printed style ≡ true
     → (is_rooted : Bool) (text : List ℕ) (node : Node)
     (rest : List ℕ) → node_read text ≡ Some (node, rest) → is_after_node rest ≡ true
     → styled_read style is_rooted text ≡ Ok (node, rest)
 
--- what is read in the style of printed texts is read exactly
+-- a node that is read in the style of printed texts is read exactly
 abbrev pub PrintedExactly : Type 0
 PrintedExactly = (is_rooted : Bool) (text : List ℕ) (node : Node) (rest : List ℕ)
     → styled_read Printed is_rooted text ≡ Ok (node, rest) → node_read text ≡ Some (node, rest)
 
--- the wrong byte lies in the text, or at its end
+-- the offset of the wrong byte is at most the length of the text
 abbrev pub StyledFaultWithin : Type 0
 StyledFaultWithin = (style : TextStyle) (is_rooted : Bool) (text : List ℕ)
     → IfErr (styled_read style is_rooted text) (λ fault. fault.byte ≤ length text)

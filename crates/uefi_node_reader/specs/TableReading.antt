@@ -1,4 +1,4 @@
--- How nodes are read from their texts, by the forms of the table that print them.
+-- How the table's forms, which print nodes, read them from their texts.
 use Rattle.std.specs.Prelude.{◌≡◌, ℕ, zero, suc, ◌+◌, ◌-◌, Bool, true, false, nat_le, nat_lt, not, ◌==◌, ◌&&◌, ◌||◌, if◌then◌else◌, List, [], ◌∷◌, ◌++◌, codes, length, take, drop, slice_set, All, Option, Some, None}
 use Rattle.std.proofs.Math.ListN.{replicate}
 use Rattle.std.specs.List.{concat, list_all}
@@ -25,43 +25,44 @@ abbrev pub put_all : List (ℕ × ℕ) → List ℕ → List ℕ
 put_all [] content = content
 put_all (b ∷ bs) content = put_all bs (slice_set content b.0 b.1)
 
--- the fixed part of the data of a form, with a zero for each byte of a field
+-- the fixed part of a form's data, with a zero for each byte of a field
 abbrev pub blank : Form → List ℕ
 blank form = put_all form.also (put_all form.when (replicate form.least 0))
 
--- the data with a field in place of its bytes
+-- data with a value in place of a field's bytes
 abbrev pub put_at : Piece → List ℕ → List ℕ → List ℕ
 put_at piece value content =
     take piece.place content ++ (value ++ drop piece.width (drop piece.place content))
 
--- the data with the field that a text begins with, and what stands after its ending
+-- data with a field from a text, and the rest of the text after the field's ending
 abbrev pub piece_put : Piece → List ℕ → List ℕ → Option (List ℕ × List ℕ)
 piece_put piece content text = field_read piece.shape piece.width text >>= λ value.
     after piece.ending value.1 >>= λ rest. Some (put_at piece value.0 content, rest)
 
--- the same of fields
+-- data with several fields from a text, and the rest of the text after their endings
 abbrev pub pieces_put : List Piece → List ℕ → List ℕ → Option (List ℕ × List ℕ)
 pieces_put [] content text = Some (content, text)
 pieces_put (piece ∷ pieces) content text =
     piece_put piece content text >>= λ read. pieces_put pieces read.0 read.1
 
--- the items that a text goes on with, by what stands after the start of the first, if it begins with one
+-- the items of a list that continue in a text, given the text after the start of the first, if an item begins
+-- there
 abbrev pub more_items : (List ℕ → Option (List ℕ × List ℕ)) → Item → List ℕ → Option (List ℕ)
     → Option (List ℕ × List ℕ)
 more_items others item text None = Some ([], text)
 more_items others item text (Some fields) = pieces_put item.pieces (replicate item.size 0) fields >>= λ first.
     others first.1 >>= λ read. Some (first.0 ++ read.0, read.1)
 
--- the items that a text begins with, no more than this many
+-- the items at the start of a text, at most `most`, and the rest of the text
 abbrev pub items_read : ℕ → Item → List ℕ → Option (List ℕ × List ℕ)
 items_read zero item text = Some ([], text)
 items_read (suc most) item text = more_items (items_read most item) item text (after item.start text)
 
--- all items that a text begins with, and what stands after them
+-- all items at the start of a text, and the rest of the text
 abbrev pub list_read : Item → List ℕ → Option (List ℕ × List ℕ)
 list_read item text = items_read (length text) item text
 
--- the first byte of a text, or 0
+-- the first byte of a text, or 0 if it is empty
 abbrev pub first_of : List ℕ → ℕ
 first_of [] = 0
 first_of (c ∷ cs) = c
@@ -78,21 +79,22 @@ as_name run = Some (run.0 ++ 0 ∷ [], run.1)
 abbrev pub padded : List ℕ → List ℕ
 padded text = text ++ replicate (32 - length text) 0
 
--- such data, where a text that was read has no more bytes
+-- the padded data of a text that was read, if the text has at most 32 bytes
 abbrev pub as_padded : List ℕ × List ℕ → Option (List ℕ × List ℕ)
 as_padded run = if nat_le (length run.0) 32 then Some (padded run.0, run.1) else None
 
--- the strings of the IDs of a device as they lie, each with its zero
+-- the ID strings of a device in the order of its data, each with a NUL
 abbrev pub as_ids : List ℕ → List ℕ → List ℕ → List ℕ
 as_ids hid cid uid = hid ++ (0 ∷ (uid ++ (0 ∷ (cid ++ (0 ∷ [])))))
 
--- such strings before the end of the text: that of _HID and that of _CID up to a comma, and that of _UID
+-- the ID strings of a device from a text: the strings of _HID and of _CID up to a comma, and then the string
+-- of _UID
 abbrev pub ids_read : ℕ → List ℕ → Option (List ℕ × List ℕ)
 ids_read stop text = after (codes ",") (clear_run 44 text).1 >>= λ t.
     after (codes ",") (clear_run 44 t).1 >>= λ u.
     Some (as_ids (clear_run 44 text).0 (clear_run 44 t).0 (clear_run stop u).0, (clear_run stop u).1)
 
--- the data after the fields, before the end of the text, and what stands after them
+-- the data after the fields, before the end of the text, and the rest of the text
 abbrev pub tail_read : Tail → List ℕ → List ℕ → Option (List ℕ × List ℕ)
 tail_read Nothing close text = Some ([], text)
 tail_read Bytes close text = comma_read text
@@ -103,67 +105,67 @@ tail_read Padded close text = as_padded (clear_run (first_of close) text)
 tail_read Ids close text = ids_read (first_of close) text
 tail_read (Repeated items) close text = list_read (item_of items) text
 
--- bytes after data
+-- data, and the data after it that was read
 abbrev pub added : List ℕ → List ℕ × List ℕ → Option (List ℕ × List ℕ)
 added content tail = Some (content ++ tail.0, tail.1)
 
--- a fixed part that was read, and data after it
+-- a fixed part that was read, and the data after it
 abbrev pub followed : List ℕ → List ℕ × List ℕ → Option (List ℕ × List ℕ)
 followed tail fixed = Some (fixed.0 ++ tail, fixed.1)
 
--- all data, after fields that were read into the fixed part
+-- all data of a node, from the data after the fields on, given the fixed part
 abbrev pub rest_read : Form → List ℕ × List ℕ → Option (List ℕ × List ℕ)
 rest_read form head = tail_read form.tail form.close head.1 >>= λ tail. after form.close tail.1 >>= λ rest.
     pieces_put form.rest head.0 rest >>= followed tail.0
 
--- the test for a form whose texts are read
+-- whether texts of a form are read
 abbrev pub is_read : Mode → Bool
 is_read Read = true
 is_read Printed = false
 is_read Display = false
 
--- the data of a node of a form, and what stands after it
+-- the data of a node of a form, and the rest of the text
 abbrev pub form_read : Form → List ℕ → Option (List ℕ × List ℕ)
 form_read form text = if is_read form.mode
     then (after form.start text >>= λ t. pieces_put form.pieces (blank form) t >>= rest_read form) else None
 
--- where among forms the first stands that passes a test; their number where there is none
+-- the index of the first form that passes a test, or the number of forms if none does
 abbrev pub form_place : (Form → Bool) → List Form → ℕ
 form_place test [] = 0
 form_place test (form ∷ forms) = if test form then 0 else form_place test forms + 1
 
--- the test for a form that a node is printed in, in a text that is read
+-- whether a form prints a node in a text that can be read back
 abbrev pub prints : Node → Form → Bool
 prints node = matches false node.device_type node.sub_type node.content
 
--- the test for a node that was read in the form at a place: it is printed in that form, and may stand in
--- a path
+-- whether a node that was read in the form at an index is printed in that form, and fits into a path
 abbrev pub is_kept : List Form → ℕ → Node → Bool
 is_kept all place node = (form_place (prints node) all == place) && nat_le (length node.content) 0xfffb
 
--- such a node, and what stands after it
+-- a node that is printed in the form at an index, and the rest of the text
 abbrev pub kept : List Form → ℕ → Form → Option (List ℕ × List ℕ) → Option (Node × List ℕ)
 kept all place form None = None
 kept all place form (Some read) = read_if (is_kept all place (node_with form.kind form.sub_kind read.0))
     (node_with form.kind form.sub_kind read.0) read.1
 
--- the node in one of these forms, from a place of the table on
+-- the node at the start of a text in one of these forms, which have the indices from `place` on in the table,
+-- and the rest of the text
 abbrev pub forms_read : List Form → ℕ → List Form → List ℕ → Option (Node × List ℕ)
 forms_read all place [] text = None
 forms_read all place (form ∷ forms) text =
     either_read (kept all place form (form_read form text)) (forms_read all (place + 1) forms text)
 
--- the node that a text begins with in a form of the table, and what stands after it
+-- the node at the start of a text in a form of the table, and the rest of the text
 abbrev pub table_read : List Form → List ℕ → Option (Node × List ℕ)
 table_read forms text = forms_read forms 0 forms text
 
--- data with the fields of others, as they are read
+-- data with each field replaced by a field of other data, as that is read back from its text
 abbrev pub overlay : List Piece → List ℕ → List ℕ → List ℕ
 overlay [] data_ content = content
 overlay (piece ∷ pieces) data_ content =
     overlay pieces data_ (put_at piece (field_kept piece.shape (value_at piece data_)) content)
 
--- bytes that an item of a list holds all of: its fields, and 0 for each other byte
+-- bytes that the text of an item describes completely: fields, and 0 for each other byte
 abbrev pub IsItem : Item → List ℕ → Type 0
 IsItem item bytes = (length bytes ≡ item.size) × (overlay item.pieces bytes (replicate item.size 0) ≡ bytes)
 
@@ -171,7 +173,7 @@ IsItem item bytes = (length bytes ≡ item.size) × (overlay item.pieces bytes (
 abbrev pub AreItems : Item → List ℕ → Type 0
 AreItems item bytes = (items : List (List ℕ)) × ((bytes ≡ concat items) × All (IsItem item) items)
 
--- data after the fields whose text, before the end, tells all of them
+-- data after the fields that its text describes completely, before the end of the text
 abbrev pub IsTailTold : Tail → List ℕ → List ℕ → Type 0
 IsTailTold Nothing close bytes = bytes ≡ []
 IsTailTold Bytes close bytes = Unit {0}
@@ -187,16 +189,16 @@ IsTailTold Ids close bytes = (hid cid uid : List ℕ) × (bytes ≡ as_ids hid c
     × (list_all (is_clear (first_of close)) uid ≡ true)
 IsTailTold (Repeated items) close bytes = AreItems (item_of items) bytes
 
--- data that a form holds all of: its fixed bytes, the fields, and what follows them
+-- data that its text in a form describes completely: the fixed bytes, the fields, and the data after them
 abbrev pub IsWhole : Form → List ℕ → Type 0
 IsWhole form content = (overlay (fields_of form) content (blank form) ++ drop form.least content ≡ content)
     × IsTailTold form.tail form.close (drop form.least content)
 
--- the text of a node in its form of the table, or nothing
+-- the text of a node in its form of the table, or an empty text
 abbrev pub printed_in : List Form → Node → List ℕ
 printed_in forms node = text_in (find_form (prints node) forms) node.content
 
--- a node whose text in the table tells all of it
+-- a node that its text in the table describes completely
 pub record IsTabled (forms : List Form) (node : Node) : Type 0 where
   pub form : Form
   pub found : find_form (prints node) forms ≡ Some form
@@ -205,7 +207,7 @@ pub record IsTabled (forms : List Form) (node : Node) : Type 0 where
   pub bytes : All IsByte node.content
   pub fits : nat_le (length node.content) 0xfffb ≡ true
 
--- the test for fields that lie apart
+-- whether fields do not overlap
 abbrev pub is_apart : Piece → Piece → Bool
 is_apart one other =
     nat_le (one.place + one.width) other.place || nat_le (other.place + other.width) one.place
@@ -214,7 +216,7 @@ abbrev pub are_apart : List Piece → Bool
 are_apart [] = true
 are_apart (piece ∷ pieces) = list_all (is_apart piece) pieces && are_apart pieces
 
--- the test for a text that a field would go on with
+-- whether a field would continue into a text
 abbrev pub goes_on : Shape → List ℕ → Bool
 goes_on Hexadecimal text = has_digit 16 text
 goes_on Decimal text = has_digit 10 text
@@ -226,7 +228,7 @@ goes_on Next text = has_digit 16 text
 goes_on Eisa text = false
 goes_on (Word list) text = false
 
--- the test for a shape whose text is as long as it has to be
+-- whether the text of a shape shows where it ends
 abbrev pub is_closed : Shape → Bool
 is_closed Hexadecimal = false
 is_closed Decimal = false
@@ -238,17 +240,17 @@ is_closed Next = false
 is_closed Eisa = true
 is_closed (Word list) = true
 
--- the test for an ending that no field of a shape goes on with
+-- whether no field of a shape continues into an ending
 abbrev pub ends_field : Shape → List ℕ → Bool
 ends_field shape [] = is_closed shape
 ends_field shape (c ∷ cs) = not (goes_on shape (c ∷ []))
 
--- the test for an empty list
+-- whether a list is empty
 abbrev pub is_empty : {X : Type 0} → List X → Bool
 is_empty [] = true
 is_empty (x ∷ xs) = false
 
--- the test for fields that their endings end, but for the last where no digit follows it
+-- whether the endings of fields end them; if `free`, the last ending may be empty
 abbrev pub ends_pieces : Bool → List Piece → Bool
 ends_pieces free [] = true
 ends_pieces free (piece ∷ pieces) =
@@ -256,12 +258,12 @@ ends_pieces free (piece ∷ pieces) =
     && (is_empty pieces && (is_empty piece.ending && not (goes_on piece.shape [])))))
     && ends_pieces free pieces
 
--- the test for a text that begins with no digit, and is not empty
+-- whether a text begins with a byte that is no hexadecimal digit
 abbrev pub begins_apart : List ℕ → Bool
 begins_apart [] = false
 begins_apart (c ∷ cs) = not (nat_lt (digit_of c) 16)
 
--- the test for a tail that begins with no digit, as what stands after an empty one
+-- whether a tail, and what follows it if it is empty, begins with no digit
 abbrev pub is_open : Tail → Bool
 is_open Nothing = false
 is_open Bytes = false
@@ -272,8 +274,8 @@ is_open Padded = false
 is_open Ids = false
 is_open (Repeated items) = true
 
--- the test for a tail that the end of a text ends: bytes go on with no digit, and a text with no byte but
--- that one
+-- whether the end of a text ends a tail: after bytes, it begins with no digit and no comma; after a list,
+-- with no digit and no item; after a text, it is not empty
 abbrev pub ends_tail : Tail → List ℕ → Bool
 ends_tail Nothing close = true
 ends_tail (Repeated items) close = clash (item_of items).start close && begins_apart close
@@ -290,11 +292,11 @@ ends_tail Utf16 (c ∷ cs) = true
 ends_tail Bytes [] = false
 ends_tail Bytes (c ∷ cs) = not (nat_lt (digit_of c) 16) && not (c == 44)
 
--- the test for bytes that lie in this many
+-- whether all bytes are placed within `size` bytes
 abbrev pub are_within : ℕ → List (ℕ × ℕ) → Bool
 are_within size bytes = list_all (λ b. nat_lt b.0 size) bytes
 
--- the test for a form that is read back what it prints
+-- whether a form reads back what it prints
 abbrev pub is_sound : Form → Bool
 is_sound form = not (is_read form.mode)
     || ((list_all (is_within (length (blank form))) (fields_of form) && are_apart (fields_of form))
@@ -302,12 +304,12 @@ is_sound form = not (is_read form.mode)
     && (ends_tail form.tail form.close
     && (list_all (λ b. nat_lt b 256) (blank form) && (length (blank form) == form.least)))))
 
--- the test for items of a list that are read back what they print
+-- whether the items of a list are read back from what they print
 abbrev pub is_sound_item : Item → Bool
 is_sound_item item = (list_all (is_within item.size) item.pieces && are_apart item.pieces)
     && (ends_pieces true item.pieces && (begins_apart item.start && nat_lt 0 item.size))
 
--- the test for a form whose fixed part is small, and holds its fixed bytes
+-- whether a form's fixed part has at most 64 bytes, and contains its fixed bytes
 abbrev pub is_filled : Form → Bool
 is_filled form = nat_le form.least 64 && (are_within form.least form.when && are_within form.least form.also)
 
@@ -319,7 +321,7 @@ list_number Digests = 2
 list_number Login = 3
 list_number Protocol = 4
 
--- the test for equal shapes
+-- whether shapes are equal
 abbrev pub same_shape : Shape → Shape → Bool
 same_shape Hexadecimal Hexadecimal = true
 same_shape Decimal Decimal = true
@@ -332,7 +334,7 @@ same_shape Eisa Eisa = true
 same_shape (Word one) (Word other) = list_number one == list_number other
 same_shape one other = false
 
--- the test for a shape whose texts are digits alone
+-- whether all texts of a shape consist of digits
 abbrev pub is_digits : Shape → Bool
 is_digits Hexadecimal = true
 is_digits Decimal = true
@@ -340,31 +342,31 @@ is_digits Back = true
 is_digits Forth = true
 is_digits shape = false
 
--- the test for endings that begin otherwise, and with no digit
+-- whether endings begin with different bytes, neither of which is a digit
 abbrev pub ends_apart : List ℕ → List ℕ → Bool
 ends_apart [] others = false
 ends_apart (c ∷ cs) [] = false
 ends_apart (c ∷ cs) (d ∷ ds) = not (c == d) && (not (nat_lt (digit_of c) 16) && not (nat_lt (digit_of d) 16))
 
--- the test for a field that is not read where another stands: after digits another byte follows
+-- whether a field is not read where the other is printed: different bytes follow their digits
 abbrev pub are_parted : Piece → Piece → Bool
 are_parted p q = (is_digits p.shape && is_digits q.shape)
     && (fits_shape p.shape p.width && ends_apart p.ending q.ending)
 
--- the test for fields of which the first are not read where the second stand: a field parts them, or they
--- are alike up to two endings that differ
+-- whether fields are not read where others are printed: two fields differ so, or they are alike up to two
+-- endings that differ
 abbrev pub pieces_differ : List Piece → List Piece → Bool
 pieces_differ [] others = false
 pieces_differ (p ∷ ps) [] = false
 pieces_differ (p ∷ ps) (q ∷ qs) = are_parted p q || ((same_shape p.shape q.shape && (p.width == q.width))
     && (clash p.ending q.ending || (same_text p.ending q.ending && pieces_differ ps qs)))
 
--- the test for a form that is not read where a node stands in the other
+-- whether a form does not read what the other prints
 abbrev pub differ : Form → Form → Bool
 differ one other = not (is_read one.mode) || (not (is_read other.mode) || (clash one.start other.start
     || (same_text one.start other.start && pieces_differ one.pieces other.pieces)))
 
--- the test for forms of which none is read where a node stands in a later one
+-- whether no form reads what a later form prints
 abbrev pub all_differ : List Form → Bool
 all_differ [] = true
 all_differ (form ∷ forms) = list_all (differ form) forms && all_differ forms

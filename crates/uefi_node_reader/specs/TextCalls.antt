@@ -1,4 +1,4 @@
--- Calls that hold a text, as people write them. The text is as it is printed.
+-- Calls that contain a text, as people write them. The text itself is as it is printed.
 use Rattle.std.specs.Prelude.{ℕ, ◌-◌, Bool, true, false, not, ◌==◌, ◌&&◌, if◌then◌else◌, List, [], ◌∷◌, ◌++◌, codes, drop, length, min, Option, Some, None, Result, Err}
 use Rattle.std.specs.Option.{ok_or}
 use Rattle.std.specs.Result.{result_map_both}
@@ -19,84 +19,88 @@ use Rattle.uefi_node_reader.specs.declared.faults.Expected.{Expected}
 use Rattle.uefi_node_reader.specs.declared.faults.Expected.TheVariants as expected
 use Rattle.uefi_node_reader.specs.declared.faults.Stop.{Stop}
 
--- the test for a form that is read, and holds a text
+-- whether a form is read and contains a text
 abbrev pub holds_text : Mode → Tail → Bool
 holds_text Read tail = not (is_textless tail)
 holds_text mode tail = false
 
--- the test for a form that is read, and holds the IDs of a device
+-- whether a form is read and contains the IDs of a device
 abbrev pub holds_ids : Mode → Tail → Bool
 holds_ids Read Ids = true
 holds_ids mode tail = false
 
--- what is left of the text of a call where this is left of the tidied call
+-- the rest of a call, from this rest of the tidied call
 abbrev pub left_of : List ℕ → List ℕ → List ℕ → List ℕ
 left_of front call left = drop (place_at (length call - length left) front) front
 
--- what is left of a tidied call where this is left of its text
+-- the end of a tidied call, from this rest of the call
 abbrev pub call_left : List ℕ → List ℕ → List ℕ
 call_left call left = drop (length call - length (tidied left)) call
 
--- a text, or the empty strings of the IDs of a device, if these are left out
+-- a text, or the commas between empty strings if the IDs of a device are omitted
 abbrev pub or_commas : Tail → List ℕ → List ℕ
 or_commas Ids [] = codes ",,"
 or_commas tail text = text
 
--- where a tidied call stops of which this is left
+-- the stop of a tidied call before this rest of the call
 abbrev pub stop_before : List ℕ → Expected → Stop
 stop_before left what = stop_at (tidied left) what
 
--- what is left from the end of the second string of IDs on, by what follows the first
+-- the rest of a text from the end of the second ID string on, given the text after the first
 abbrev pub past_second : List ℕ → List ℕ
 past_second [] = []
 past_second (c ∷ cs) = if c == 44 then (clear_run 44 cs).1 else c ∷ cs
 
--- where a text stops that is not read: one of the IDs of a device is left out, or a name is too long
+-- where a text stops that is not read, because an ID of a device is omitted or a name is too long
 abbrev pub text_stop : Tail → List ℕ → Stop
 text_stop Ids text = stop_before (past_second (clear_run 44 text).1) (expected.Byte 44)
 text_stop Padded text = stop_before (drop (min 32 (length text)) text) (expected.Byte 41)
 text_stop tail text = stop_before text expected.AsPrinted
 
--- the node of a form with this fixed part, by its text in a call and what follows it, or where that stops
+-- the node of a form with this fixed part, from the text in its call on and the tidied call, or where the
+-- call stops
 abbrev pub text_told : Form → List ℕ → List ℕ → List ℕ → Result Node Stop
 text_told form fixed text call = ok_or (tail_read form.tail form.close text) (text_stop form.tail text)
     >? λ tail. after_ending form.close (call_left call tail.1)
     >? pieces_set form.kind form.sub_kind form.rest fixed
     >? λ all. ok_or (told_in form (Some (all.0 ++ tail.0, all.1))) (stop_at all.1 expected.Untold)
 
--- the same, where the call holds the second of three strings of IDs alone
+-- the node of a form with this fixed part, if the call contains only the ID string of _UID, or where the call
+-- stops
 abbrev pub uid_told : Form → List ℕ → List ℕ → Result Node Stop
 uid_told form fixed text = if is_empty (clear_run (first_of form.close) text).1
     then ok_or (told_in form (Some (fixed ++ as_ids [] [] (clear_run (first_of form.close) text).0, [])))
     (stop_before [] expected.Untold)
     else Err (stop_before (clear_run (first_of form.close) text).1 (expected.Byte (first_of form.close)))
 
--- the fixed part of a form, and what is left of a tidied call after it, or where that stops
+-- the fixed part of a form, and the rest of a tidied call after it, or where the call stops
 abbrev pub head_set : Form → List ℕ → Result (List ℕ × List ℕ) Stop
 head_set form call =
     after_literal form.start call >? pieces_set form.kind form.sub_kind form.pieces (blank form)
 
--- the node of a form that holds a text, by its call up to the `)` and the tidied call, or where that stops
+-- the node of a form that contains a text, from the part of a call before its `)` and the tidied call, or
+-- where the call stops
 abbrev pub text_call_told : Form → List ℕ → List ℕ → Result Node Stop
 text_call_told form front call = head_set form call
     >? λ head. text_told form head.0 (or_commas form.tail (left_of front call head.1)) call
 
--- the same, where the call holds the second of three strings of IDs alone
+-- the node of a form whose call contains only the ID string of _UID, or where the call stops
 abbrev pub uid_call_told : Form → List ℕ → List ℕ → Result Node Stop
 uid_call_told form front call = head_set form call >? λ head. uid_told form head.0 (left_of front call head.1)
 
--- the node of a form, if it holds a text and has the name of the call
+-- the node of a form, if it contains a text and has the name of the call, or where the call stops
 abbrev pub text_tried : List ℕ → List ℕ → Form → Result Node (Option Stop)
 text_tried front call form = if holds_text form.mode form.tail && begins_call_name form.start call
     then result_map_both (λ node. node) (λ stop. Some stop) (text_call_told form front call) else Err None
 
--- the same, where the call holds the second of three strings of IDs alone
+-- the node of a form whose call contains only the ID string of _UID, if it has the name of the call, or where
+-- the call stops
 abbrev pub uid_tried : List ℕ → List ℕ → Form → Result Node (Option Stop)
 uid_tried front call form = if holds_ids form.mode form.tail && begins_call_name form.start call
     then result_map_both (λ node. node) (λ stop. Some stop) (uid_call_told form front call) else Err None
 
--- the node of a call in the first of the forms that hold a text: those of the table, or those that people
--- paste, which hold one ID alone; or where it stops
+-- the node of a call in the first form that contains a text: a form of the table, or a form that people
+-- paste, which contains only one ID; or where the call stops
 abbrev pub texts_tried : List ℕ → List ℕ → Result Node (Option Stop)
 texts_tried front call = or_next (first_tried (text_tried front call) forms None)
     (λ stop. first_tried (uid_tried front call) pasted_forms stop)

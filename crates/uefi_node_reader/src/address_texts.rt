@@ -1,7 +1,7 @@
-//! Addresses of IP version 6 read from their texts (RFC 4291, section 2.2), as `std::net` defines it.
+//! IPv6 addresses read from their texts (RFC 4291, section 2.2), as `std::net` defines them.
 //!
-//! `Ipv6Addr::parse_ascii` of std means the same, but it copies a run of segments whose length is known only
-//! when it runs. The compiler makes that a call of `memcpy`, which firmware lacks.
+//! `Ipv6Addr::parse_ascii` of std reads the same addresses, but copies a run of segments whose length is
+//! known only at run time. The compiler makes that a call of `memcpy`, which firmware lacks.
 #![tactic(auto)]
 
 ghost use Rattle.std.specs.Prelude.{◌≡◌, ◌<◌, ◌≤◌, ◌+◌, ◌-◌, ◌++◌, ◌∷◌, [], true, IfSome, drop, length, option_copied, take};
@@ -14,14 +14,14 @@ ghost use Rattle.uefi_node_reader.specs.ShortAddresses.{address_octets};
 
 use crate::counted_bytes::push;
 
-/// An address of IP version 6.
+/// An IPv6 address.
 #[derive(Clone, Copy)]
 pub(crate) struct Address {
     /// Its octets, the highest first.
     pub(crate) octets: [u8; 16],
 }
 
-/// What stands after a byte that a text begins with.
+/// Reads a byte at the start of a text, and returns the rest.
 fn read_byte(text: &[u8], byte: u8) -> Option<&[u8]>
     ensures { option_copied result ≡ Reader.read_byte byte text.now }
 {
@@ -31,7 +31,7 @@ fn read_byte(text: &[u8], byte: u8) -> Option<&[u8]>
     }
 }
 
-/// The number up to `last` whose digits a text begins with, and how many digits these are.
+/// Reads a number up to `last` at the start of a text, and returns it and the number of its digits.
 fn read_number(text: &[u8], base: u32, last: u32) -> Option<(u32, usize)>
     requires low { 2 ≤ base }
     requires high { base ≤ 16 }
@@ -54,7 +54,7 @@ fn read_number(text: &[u8], base: u32, last: u32) -> Option<(u32, usize)>
     if len == 0 { None } else { Some((value, len)) }
 }
 
-/// A part of an address of IP version 4, without zeros at its start, and what stands after it.
+/// Reads a part of an IPv4 address, without leading zeros, and returns the rest too.
 #[tactic(auto, unfolding(std::specs::Net::Reader::read_octet))]
 fn read_octet(text: &[u8]) -> Option<(u8, &[u8])>
     ensures { Reader.read_view (λ n. n) result ≡ Reader.read_octet text.now }
@@ -66,7 +66,7 @@ fn read_octet(text: &[u8]) -> Option<(u8, &[u8])>
     Some((value as u8, &text[len..]))
 }
 
-/// The segments of an address of IP version 4, and what stands after it.
+/// Reads the segments of an IPv4 address, and returns the rest too.
 #[tactic(auto, unfolding(std::specs::Net::Reader::read_ipv4))]
 fn read_ipv4(text: &[u8]) -> Option<((u16, u16), &[u8])>
     ensures { Reader.read_view (λ x. x.0 ∷ x.1 ∷ []) result
@@ -81,7 +81,7 @@ fn read_ipv4(text: &[u8]) -> Option<((u16, u16), &[u8])>
     Some(((high, low), rest))
 }
 
-/// The same where two segments fit.
+/// Reads the segments of an IPv4 address, if two segments fit, and returns the rest too.
 fn read_ipv4_if(text: &[u8], fits: bool) -> Option<((u16, u16), &[u8])>
     ensures { Reader.read_view (λ x. x.0 ∷ x.1 ∷ []) result
         ≡ option_map (λ x. (segments_of x.0, x.1)) (Reader.read_ipv4_if fits text.now) }
@@ -89,7 +89,7 @@ fn read_ipv4_if(text: &[u8], fits: bool) -> Option<((u16, u16), &[u8])>
     if fits { read_ipv4(text) } else { None }
 }
 
-/// A segment of up to four digits, and what stands after it.
+/// Reads a segment of up to four digits, and returns the rest too.
 #[tactic(auto, unfolding(std::specs::Net::Reader::read_segment))]
 fn read_segment(text: &[u8]) -> Option<(u16, &[u8])>
     ensures { Reader.read_view (λ n. n) result ≡ Reader.read_segment text.now }
@@ -101,7 +101,7 @@ fn read_segment(text: &[u8]) -> Option<(u16, &[u8])>
     Some((value as u16, &text[len..]))
 }
 
-/// What stands after the colon before each segment but the first.
+/// Reads the colon before a segment, except before the first, and returns the rest.
 fn read_separator(text: &[u8], first: bool) -> Option<&[u8]>
     ensures { option_copied result ≡ Reader.read_separator first text.now }
 {
@@ -112,8 +112,8 @@ fn read_separator(text: &[u8], first: bool) -> Option<&[u8]>
     }
 }
 
-/// Reads segments with colons between them into the first of these places. Returns how many there are,
-/// whether an address of IP version 4 is the last two, and what stands after them.
+/// Reads segments with colons between them into the first of these places. Returns the number of segments,
+/// whether the last two are an IPv4 address, and the rest of the text.
 fn read_segments<'a>(text: &'a [u8], segments: &mut [u16]) -> (usize, bool, &'a [u8])
     ensures value { Reader.read_segments (length segments.old) true text.now
         ≡ (take result.0 segments.new, result.1, result.2.now) }
@@ -139,7 +139,7 @@ fn read_segments<'a>(text: &'a [u8], segments: &mut [u16]) -> (usize, bool, &'a 
     (room, false, rest)
 }
 
-/// Puts the octets of segments after `len` others.
+/// Puts the octets of segments after the first `len` octets.
 fn push_segments(octets: &mut [u8], len: usize, segments: &[u16])
     ensures { octets.new ≡ (pushed_bytes (octets.old, len) (octets_of segments.now)).0 }
 {
@@ -150,7 +150,7 @@ fn push_segments(octets: &mut [u8], len: usize, segments: &[u16])
     }
 }
 
-/// The address with the segments before `::` and those after it, and zeros between them.
+/// Returns the address with the segments before `::` and the segments after it, and zeros between them.
 fn join(head: &[u16], tail: &[u16]) -> Address
     requires { length head.now + length tail.now ≤ 8 }
     ensures { result.octets ≡ octets_of
@@ -162,7 +162,7 @@ fn join(head: &[u16], tail: &[u16]) -> Address
     Address { octets }
 }
 
-/// The address that a whole text encodes.
+/// Reads a whole text as an address.
 #[tactic(auto, unfolding(crate::specs::ShortAddresses::address_octets, std::specs::Net::Reader::read_ipv6))]
 pub(crate) fn whole_address(text: &[u8]) -> Option<Address>
     ensures { option_map (λ x. x.octets) result ≡ address_octets text.now }
@@ -180,7 +180,7 @@ pub(crate) fn whole_address(text: &[u8]) -> Option<Address>
         return None;
     }
     let rest = read_byte(read_byte(rest, b':')?, b':')?;
-    // The `::` stands for one segment at least.
+    // The `::` replaces at least one segment.
     let mut tail = [0; 7];
     let (tail_len, _, rest) = read_segments(rest, &mut tail[..7 - head_len]);
     if !rest.is_empty() {

@@ -1,7 +1,7 @@
 //! Calls that programs print for different nodes.
 //!
-//! Some programs print some numbers in hexadecimal without `0x`, where EDK II reads decimal, and leave the
-//! number of an ACPI device out if the node has a text in its place.
+//! Some programs print some numbers in hexadecimal without `0x`, which EDK II reads as decimal. Some omit the
+//! number of an ACPI device if the node has a text instead.
 #![tactic(auto)]
 
 ghost use Rattle.std.specs.Prelude.{◌≡◌};
@@ -14,7 +14,7 @@ use crate::faults::{Expected, Stop};
 use crate::fields::after;
 use crate::numerals::digit_of;
 
-/// Whether a text begins with two decimal digits.
+/// Returns whether a text begins with two decimal digits.
 fn two_digits(text: &[u8]) -> bool
     ensures { result ≡ two_digits text.now }
 {
@@ -24,7 +24,7 @@ fn two_digits(text: &[u8]) -> bool
     }
 }
 
-/// How much of a text is left after a mark that it begins with, if two digits stand there.
+/// Returns how much of a text is left after a mark at its start, if two digits follow the mark.
 fn digits_after(mark: &[u8], text: &[u8]) -> Option<usize>
     ensures { result ≡ digits_left (after mark.now text.now) }
 {
@@ -36,7 +36,7 @@ fn digits_after(mark: &[u8], text: &[u8]) -> Option<usize>
     }
 }
 
-/// How much of a text is left from the first two digits on that stand after a mark.
+/// Returns how much of a text is left after the first mark that two digits follow.
 fn left_after(mark: &[u8], text: &[u8]) -> Option<usize>
     ensures { result ≡ left_after mark.now text.now }
 {
@@ -48,15 +48,15 @@ fn left_after(mark: &[u8], text: &[u8]) -> Option<usize>
     None
 }
 
-/// Whether a text begins with another.
+/// Returns whether a text begins with another.
 pub(crate) fn begins_with(start: &[u8], text: &[u8]) -> bool
     ensures { result ≡ begins_with start.now text.now }
 {
     after(start, text).is_some()
 }
 
-/// How much of a tidied call is left from the first number on that some programs print in hexadecimal without
-/// `0x`, and others in decimal.
+/// Returns how much of a tidied call is left from the first number that some programs print in hexadecimal
+/// without `0x`, and others in decimal.
 fn bare_number_left(text: &[u8]) -> Option<usize>
     ensures { result ≡ bare_number_left text.now }
 {
@@ -79,14 +79,14 @@ fn bare_number_left(text: &[u8]) -> Option<usize>
     }
 }
 
-/// Whether a tidied call has no numbers.
+/// Returns whether nothing is between the parentheses of a tidied call.
 fn is_empty_call(text: &[u8]) -> bool
     ensures { result ≡ is_empty_call text.now }
 {
     first_of(&text[text.len().saturating_sub(2)..]) == b'('
 }
 
-/// Whether a tidied call never has numbers.
+/// Returns whether a tidied call is a short name, which never has numbers.
 fn is_named_alone(text: &[u8]) -> bool
     ensures { result ≡ is_named_alone text.now }
 {
@@ -97,7 +97,7 @@ fn is_named_alone(text: &[u8]) -> bool
         || begins_with(b"DEBUGPORT()", text)
 }
 
-/// Where a tidied call stops telling which node it is.
+/// Returns where a tidied call becomes ambiguous, if it does.
 pub(crate) fn ambiguous_stop(text: &[u8]) -> Option<Stop>
     ensures { result ≡ ambiguous_stop text.now }
 {

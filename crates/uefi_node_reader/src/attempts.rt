@@ -1,4 +1,4 @@
-//! A call that is tried in one form after the other.
+//! Attempts to read a call in one form after the other.
 #![tactic(auto)]
 
 ghost use Rattle.std.specs.List.{list_all};
@@ -20,12 +20,12 @@ use crate::stops::further;
 use uefi_node_table::rows::Row;
 use uefi_node_table::table::{GROUPS, group};
 
-/// How a call is tried in a form.
+/// A way to read a call in a form.
 pub(crate) trait Attempt {
     ghost tried: { List ℕ → List ℕ → Form → Result Node (Option Stop) };
 
-    /// Reads the node of a form from a call up to its `)`, given the tidied call, or says where the call
-    /// stops being one, if it has the form's name.
+    /// Reads a node of a form from the part of a call before its `)` and the tidied call. Fails with where
+    /// the call stops, or with `None` if it is no call of this form.
     fn attempt<'a>(
         front: &'a [u8],
         call: &'a [u8],
@@ -36,8 +36,8 @@ pub(crate) trait Attempt {
         ensures { result_map_both parsed_node (λ e. e) result ≡ tried front.now call.now (as_form row.now) };
 }
 
-/// Reads the node of the first of these forms that a call is read in, or says where it stops being that of
-/// the form that was read furthest, at least `furthest`.
+/// Reads a call in the first of these forms that fits. If none fits, fails with `furthest`, or with where
+/// the call stops in a form that was read further.
 fn try_group<'a, A: Attempt>(
     rows: &[Row],
     furthest: Option<Stop>,
@@ -59,7 +59,7 @@ fn try_group<'a, A: Attempt>(
     Err(so_far)
 }
 
-/// The same of all forms of the table.
+/// Reads a call in the first form of the table that fits. Fails as [`try_group`] does.
 pub(crate) fn try_table<'a, A: Attempt>(
     front: &'a [u8],
     call: &'a [u8],
@@ -77,7 +77,7 @@ pub(crate) fn try_table<'a, A: Attempt>(
     Err(furthest)
 }
 
-/// The same of the forms that people paste.
+/// Reads a call in the first form that fits, of the forms that people paste. Fails as [`try_group`] does.
 pub(crate) fn try_pasted<'a, A: Attempt>(
     furthest: Option<Stop>,
     front: &'a [u8],

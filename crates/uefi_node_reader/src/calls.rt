@@ -1,4 +1,4 @@
-//! Calls read from a tidied copy, and the faults of those that are not read.
+//! Calls read from a tidied copy, and the faults of calls that are not read.
 #![tactic(auto)]
 
 ghost use Rattle.std.specs.Prelude.{◌≡◌, ◌<◌, length};
@@ -17,7 +17,7 @@ use crate::short_addresses::short_ipv6;
 use crate::text_calls::try_texts;
 use crate::tidied::{cut_call, place_at, tidy};
 
-/// Reads a node from a tidied call that holds no text, or says where that stops.
+/// Reads a node from a tidied call that contains no text, or fails with where the call stops.
 fn try_textless(call: &[u8]) -> Result<ParsedNode<'_>, Option<Stop>>
     ensures { result_map_both parsed_node (λ e. e) result
         ≡ or_short (call_told call.now) (short_ipv6 call.now) }
@@ -32,7 +32,8 @@ fn try_textless(call: &[u8]) -> Result<ParsedNode<'_>, Option<Stop>>
     }
 }
 
-/// Reads a node from its call up to the `)`, given its tidied text, or says where that stops.
+/// Reads a node from the part of a call before its `)` and the tidied call. Fails with where the call
+/// stops.
 fn read_call<'a>(front: &'a [u8], call: &'a [u8]) -> Result<ParsedNode<'a>, Option<Stop>>
     ensures { result_map_both parsed_node (λ e. e) result ≡ call_read front.now call.now }
 {
@@ -43,7 +44,7 @@ fn read_call<'a>(front: &'a [u8], call: &'a [u8]) -> Result<ParsedNode<'a>, Opti
     }
 }
 
-/// The fault of a text, by its tidied call and where reading that stops.
+/// Returns the fault of a text, from its tidied call and where that stops.
 fn stop_fault(text: &[u8], call: &[u8], stop: Option<Stop>) -> NodeFault
     ensures { result ≡ stop_fault text.now call.now stop }
 {
@@ -62,7 +63,8 @@ fn stop_fault(text: &[u8], call: &[u8], stop: Option<Stop>) -> NodeFault
     }
 }
 
-/// The same of a call without a `)`, of which nothing else is wrong if it is read, or stops after that.
+/// Returns the fault of a call without a `)`. The fault is the missing `)`, unless an earlier byte is
+/// wrong.
 fn open_fault(text: &[u8], call: &[u8], read: Result<ParsedNode<'_>, Option<Stop>>) -> NodeFault
     ensures { result ≡ open_fault text.now call.now (result_map_both parsed_node (λ e. e) read.entry) }
 {
@@ -75,8 +77,8 @@ fn open_fault(text: &[u8], call: &[u8], read: Result<ParsedNode<'_>, Option<Stop
     }
 }
 
-/// Reads the node whose call a text begins with, from a tidied copy of the call. Returns what stands after
-/// it, too, or the fault of the text.
+/// Reads the call at the start of a text from a tidied copy of the call. Returns its node and the rest of
+/// the text, or the fault of the text.
 pub(crate) fn by_call<'s, 't: 's>(
     scratch: &'s mut [u8],
     text: &'t [u8],

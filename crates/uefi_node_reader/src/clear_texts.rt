@@ -10,7 +10,7 @@ ghost use Rattle.uefi_node_reader.specs.TableReading.{first_of};
 
 use crate::counted_bytes::push;
 
-/// The first byte of a text, or 0.
+/// Returns the first byte of a text, or 0 if it is empty.
 pub(crate) fn first_of(text: &[u8]) -> u8
     ensures { result ≡ first_of text.now }
 {
@@ -20,21 +20,21 @@ pub(crate) fn first_of(text: &[u8]) -> u8
     }
 }
 
-/// Whether a byte is printable ASCII, and not the one that stops a text.
+/// Returns whether a byte is printable ASCII, except `stop`.
 fn is_clear(stop: u8, byte: u8) -> bool
     ensures { result ≡ is_clear stop byte }
 {
     byte >= 0x20 && byte < 0x7f && byte != stop
 }
 
-/// The place of the first byte that stops a text.
+/// Returns the index of the first byte that is `stop` or not printable ASCII.
 fn find_end(stop: u8, text: &[u8]) -> Option<usize>
     ensures { result ≡ position (λ c. not (is_clear stop c)) text.now }
 {
     text.iter().position(|byte| !is_clear(stop, *byte))
 }
 
-/// The bytes of a text before one that stops it, and those from it on.
+/// Splits a text before the first byte that is `stop` or not printable ASCII.
 pub(crate) fn cut_clear(stop: u8, text: &[u8]) -> (&[u8], &[u8])
     ensures { (result.0.now, result.1.now) ≡ clear_run stop text.now }
 {
@@ -42,8 +42,8 @@ pub(crate) fn cut_clear(stop: u8, text: &[u8]) -> (&[u8], &[u8])
     text.split_at(end)
 }
 
-/// Puts all bytes before one that stops them after `len` others. Returns how many bytes these are, and what
-/// stands after them.
+/// Puts the bytes of a text before its first byte that is `stop` or not printable ASCII after `len` others.
+/// Returns the new number of bytes, and the rest of the text.
 pub(crate) fn push_clear<'a>(
     places: &mut [u8],
     len: usize,
@@ -65,7 +65,7 @@ pub(crate) fn push_clear<'a>(
     (count, rest)
 }
 
-/// Puts the same and a NUL.
+/// Puts bytes as [`push_clear`] does, and a NUL.
 pub(crate) fn push_clear_name<'a>(
     places: &mut [u8],
     len: usize,
@@ -80,7 +80,7 @@ pub(crate) fn push_clear_name<'a>(
     (push(places, count, 0), rest)
 }
 
-/// Puts the same text as code units, the low byte of each first.
+/// Puts bytes as [`push_clear`] does, but as code units, the low byte of each first.
 pub(crate) fn push_clear_units<'a>(
     places: &mut [u8],
     len: usize,

@@ -1,4 +1,4 @@
-//! Whether the text of a node that was read holds all of it.
+//! Whether a node that was read is completely described by its text.
 #![tactic(auto)]
 
 ghost use Rattle.std.specs.List.{list_all};
@@ -22,7 +22,7 @@ use uefi_node_table::rows::{Items, Mode, Piece, Row, Shape, Tail};
 use uefi_node_table::word_lists::{suits, words_of};
 use uefi_node_table::words::Word;
 
-/// The number that the word for a number is read as.
+/// Returns the number that the word for a number is read as.
 fn word_number(words: &[Word], number: u64) -> u64
     ensures { result ≡ word_number (map as_word words.now) number }
 {
@@ -34,7 +34,7 @@ fn word_number(words: &[Word], number: u64) -> u64
     number
 }
 
-/// Puts a field of a fixed part, as it is read of its text, in its place.
+/// Puts a field of a fixed part in its place, as it is read back from its text.
 fn put_kept(piece: &Piece, fixed: &[u8], content: &mut [u8])
     requires within { IsTrue (is_within (length fixed.now) (as_piece piece.now)) }
     requires same { length content.old ≡ length fixed.now }
@@ -59,7 +59,7 @@ fn put_kept(piece: &Piece, fixed: &[u8], content: &mut [u8])
     }
 }
 
-/// The same of fields.
+/// Puts fields of a fixed part in their places, as they are read back from their texts.
 fn put_all_kept(pieces: &[Piece], fixed: &[u8], content: &mut [u8])
     requires within { IsTrue (list_all (is_within (length fixed.now)) (map as_piece pieces.now)) }
     requires same { length content.old ≡ length fixed.now }
@@ -70,7 +70,7 @@ fn put_all_kept(pieces: &[Piece], fixed: &[u8], content: &mut [u8])
     }
 }
 
-/// Whether a fixed part is read back of its text in a form.
+/// Returns whether a fixed part is read back unchanged from its text in a form.
 fn tells_fixed(row: &Row, fixed: &[u8]) -> bool
     requires sound { IsTrue (is_sound (as_form row.now)) }
     requires filled { IsTrue (is_filled (as_form row.now)) }
@@ -85,7 +85,7 @@ fn tells_fixed(row: &Row, fixed: &[u8]) -> bool
     &*content == fixed
 }
 
-/// Whether data after the fields are these items.
+/// Returns whether the data after the fields is a list of these items.
 fn are_items(items: Items, tail: Tail) -> bool
     ensures { result ≡ are_items items tail }
 {
@@ -97,7 +97,7 @@ fn are_items(items: Items, tail: Tail) -> bool
     }
 }
 
-/// Whether data after the fields are texts of one kind.
+/// Returns whether two tails are texts of the same kind.
 fn are_texts(one: Tail, other: Tail) -> bool
     ensures { result ≡ are_texts one other }
 {
@@ -111,7 +111,7 @@ fn are_texts(one: Tail, other: Tail) -> bool
     }
 }
 
-/// Whether two forms have fixed parts of one length, and ends that begin alike.
+/// Returns whether two forms have fixed parts of the same length, and ends with the same first byte.
 fn end_alike(read: &Row, row: &Row) -> bool
     ensures { result ≡ ((read.now.least == row.now.least)
         && (first_of (as_form read.now).close == first_of (as_form row.now).close)) }
@@ -119,8 +119,8 @@ fn end_alike(read: &Row, row: &Row) -> bool
     read.least == row.least && first_of(read.close.as_bytes()) == first_of(row.close.as_bytes())
 }
 
-/// Whether the tail of a form tells all data after its fixed part, of `len` bytes in all that were read in
-/// the form `read`.
+/// Returns whether the tail of a form describes all data after the fixed part. The data has `len` bytes
+/// with the fixed part, and was read in the form `read`.
 fn tells_tail(read: &Row, row: &Row, len: usize) -> bool
     ensures { result ≡ tells_tail (as_form read.now) row.now.least row.now.tail (as_form row.now).close len }
 {
@@ -132,7 +132,7 @@ fn tells_tail(read: &Row, row: &Row, len: usize) -> bool
     }
 }
 
-/// Whether the text of a node that was read in a form holds all of it.
+/// Returns whether a node that was read in a form is completely described by its text.
 #[tactic(auto, unfolding(crate::specs::CompleteTexts::tells))]
 pub(crate) fn tells(read: &Row, node: &ParsedNode<'_>) -> bool
     ensures { result ≡ tells (as_form read.now) (parsed_node node.now) }

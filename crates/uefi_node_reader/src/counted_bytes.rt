@@ -1,10 +1,11 @@
-//! Bytes that are put into a buffer one after the other, and counted, whether it has room for them or not.
+//! Bytes that are put into a buffer one after the other, and counted even if the buffer has no room for
+//! them.
 #![tactic(auto)]
 
 ghost use Rattle.std.specs.Prelude.{◌≡◌};
 ghost use Rattle.uefi_node_reader.specs.Counted.{pushed_bytes, pushed_byte};
 
-/// Puts a byte after `len` others, where there is room. Returns how many bytes these are.
+/// Puts a byte after `len` others, if there is room. Returns the new number of bytes.
 pub(crate) fn push(places: &mut [u8], len: usize, byte: u8) -> usize
     ensures { (places.new, result) ≡ pushed_byte (places.old, len) byte }
 {
@@ -14,7 +15,7 @@ pub(crate) fn push(places: &mut [u8], len: usize, byte: u8) -> usize
     len.saturating_add(1)
 }
 
-/// Puts bytes after `len` others. Returns how many bytes these are.
+/// Puts bytes after `len` others, as far as there is room. Returns the new number of bytes.
 pub(crate) fn push_all(places: &mut [u8], len: usize, bytes: &[u8]) -> usize
     ensures { (places.new, result) ≡ pushed_bytes (places.old, len) bytes.now }
 {

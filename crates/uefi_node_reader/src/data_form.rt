@@ -1,14 +1,14 @@
-//! How the data after the fixed bytes of a node stand in its text.
+//! How the text of a node encodes the data after the fixed bytes.
 
 use uefi_node_table::rows::Tail;
 
-/// How data stand in a text.
+/// How a text encodes data.
 #[derive(Clone, Copy)]
 pub(crate) enum DataForm {
-    /// As a form of the table has them.
+    /// As in a form of the table.
     InTail(Tail),
-    /// As a name of a file.
+    /// As the name of a file.
     InName,
-    /// As the second of three strings of IDs, of which the others are empty.
+    /// As the string of `_UID`; the strings of `_HID` and `_CID` are empty.
     InUid,
 }

@@ -1,4 +1,4 @@
-//! Why no node is read from a text.
+//! Why a text is not read as a node.
 #![tactic(auto, using(uefi_text::proofs::Puts::puts))]
 
 ghost use Rattle.uefi_node_reader.specs.FaultTexts.{choice_text, expected_text};
@@ -10,26 +10,26 @@ use uefi_field_texts::hexadecimal::put_hex;
 use uefi_text::number_texts::put_decimal;
 use uefi_text::text_sink::{Printed, TextSink, print};
 
-/// The words of which one has to stand in a field.
+/// The words that a field accepts.
 #[derive(Clone, Copy, Debug, PartialEq, Eq)]
 pub enum Choice {
     /// The channel of an ATA device.
     AtaChannel,
-    /// The place of an ATA device on its channel.
+    /// The position of an ATA device on its channel.
     AtaDrive,
     /// The format of a partition table.
     PartitionFormat,
     /// The protocol of a SAS device.
     SasProtocol,
-    /// Where a SAS device is.
+    /// The location of a SAS device.
     SasLocation,
-    /// How a SAS device is connected.
+    /// The connection of a SAS device.
     SasConnection,
     /// The protocol of an IP connection.
     IpProtocol,
-    /// Where an address of IP version 4 comes from.
+    /// The origin of an IPv4 address.
     Ipv4Origin,
-    /// Where an address of IP version 6 comes from.
+    /// The origin of an IPv6 address.
     Ipv6Origin,
     /// The type of a device that a BIOS boots.
     BootDevice,
@@ -71,16 +71,17 @@ impl Printed for Choice {
     }
 }
 
-/// What has to stand at a byte of a text that is not read.
+/// What is expected at the wrong byte of a text.
 #[derive(Clone, Copy, Debug, PartialEq, Eq)]
 pub enum Expected {
     /// The name of a node, such as `Pci(`.
     Node,
-    /// The name of a node, such as that of the form at this place of the table, which differs in one letter.
+    /// The name of a node, such as the name of the form at this index of the table, which differs in one
+    /// letter.
     NodeLike(usize),
-    /// A number, up to this one: in decimal, or in hexadecimal after `0x`.
+    /// A number up to this one, in decimal, or in hexadecimal after `0x`.
     Number(u64),
-    /// The same, or the word `DEFAULT`.
+    /// A number up to this one, or the word `DEFAULT`.
     NumberOrDefault(u64),
     /// A number from 1 up to this one.
     NumberFromOne(u64),
@@ -98,20 +99,20 @@ pub enum Expected {
     FileName,
     /// One of these words.
     Word(Choice),
-    /// The ID of a device in EISA's form, or 0.
+    /// An EISA ID, or 0.
     Id,
     /// The end of the node: a slash, a comma or the end of the text.
     End,
-    /// The text of this node, or of what is left of it, exactly as it is printed.
+    /// The text of this node, or the rest of it, exactly as it is printed.
     AsPrinted,
-    /// A number after `0x`: without it, programs print the number in different bases, or leave it out for
-    /// different nodes.
+    /// A number after `0x`. Without `0x`, the call is ambiguous: programs print the number in different
+    /// bases, or omit it for different nodes.
     Base,
-    /// A node that is not too long, and whose text tells all of it. What stands before this byte was read.
+    /// A shorter node, or a node that its text describes completely. The text before this byte was read.
     Untold,
 }
 
-/// Puts what has to stand there, in words.
+/// Puts what is expected, in words.
 impl Printed for Expected {
     ghost printed = { expected_text };
 
@@ -154,7 +155,7 @@ impl Printed for Expected {
     }
 }
 
-/// Prints the same.
+/// Prints what is expected, in words.
 impl fmt::Display for Expected {
     ghost output = { λ expected. Some (expected_text expected) };
 
@@ -163,19 +164,19 @@ impl fmt::Display for Expected {
     }
 }
 
-/// Where a text stops being read: how much is left of it, and what was expected there.
+/// Where a text stops: how much of it is left, and what was expected there.
 #[derive(Clone, Copy)]
 pub(crate) struct Stop {
     pub(crate) left: usize,
     pub(crate) expected: Expected,
 }
 
-/// Why no node is read from a text.
+/// The reason why a text is not read as a node.
 #[derive(Clone, Copy, Debug, PartialEq, Eq)]
 pub struct NodeFault {
-    /// The byte of the text that is wrong, or its end.
+    /// The offset of the wrong byte, or the length of the text if its end is wrong.
     pub byte: usize,
 
-    /// What has to stand there.
+    /// What is expected there.
     pub expected: Expected,
 }

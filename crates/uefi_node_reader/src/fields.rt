@@ -1,4 +1,4 @@
-//! Fields of nodes read from their texts.
+//! Fields of nodes, read from their texts.
 #![tactic(auto)]
 
 ghost use Rattle.std.specs.Prelude.{◌≡◌, ◌+◌, ◌*◌, ◌^◌, ◌<◌, ◌≤◌, IfSome, IsTrue, length, map, if◌then◌else◌};
@@ -14,14 +14,14 @@ use uefi_node_table::rows::Shape;
 use uefi_node_table::word_lists::words_of;
 use uefi_node_table::words::{Word, Words};
 
-/// What stands after a literal that a text begins with.
+/// Reads a literal at the start of a text, and returns the rest.
 pub(crate) fn after<'a>(literal: &[u8], text: &'a [u8]) -> Option<&'a [u8]>
     ensures { option_map (λ x. x.now) result ≡ after literal.now text.now }
 {
     text.strip_prefix(literal)
 }
 
-/// A byte that stands as two digits, and what stands after it.
+/// Reads a byte of two digits, and returns the rest of the text too.
 pub(crate) fn byte(text: &[u8]) -> Option<(u8, &[u8])>
     ensures { option_map (λ x. (x.0, x.1.now)) result ≡ byte_read text.now }
 {
@@ -35,7 +35,8 @@ pub(crate) fn byte(text: &[u8]) -> Option<(u8, &[u8])>
     Some(((high * 16 + low) as u8, rest))
 }
 
-/// The next byte of some that stand as two digits each, with `between` before each but the first.
+/// Reads the next byte of two digits, after `between` unless it is the first, and returns the rest of the
+/// text too.
 fn next_byte<'a>(between: &[u8], is_first: bool, text: &'a [u8]) -> Option<(u8, &'a [u8])>
     ensures { option_map (λ x. (x.0, x.1.now)) result
         ≡ (if is_first then byte_read text.now else option_and_then byte_read (after between.now text.now)) }
@@ -46,8 +47,8 @@ fn next_byte<'a>(between: &[u8], is_first: bool, text: &'a [u8]) -> Option<(u8, 
     byte(after(between, text)?)
 }
 
-/// Fills a buffer with bytes that stand as two digits each, with `between` between each two. Returns what
-/// stands after them.
+/// Fills a buffer with bytes of two digits each, with `between` between each two. Returns the rest of the
+/// text.
 fn fill<'a>(between: &[u8], found: &mut [u8], text: &'a [u8]) -> Option<&'a [u8]>
     ensures { option_map (λ x. (found.new, x.now)) result
         ≡ bytes_read between.now (length found.old) text.now }
@@ -61,7 +62,7 @@ fn fill<'a>(between: &[u8], found: &mut [u8], text: &'a [u8]) -> Option<&'a [u8]
     Some(rest)
 }
 
-/// The highest number of a width.
+/// Returns the highest number of a width.
 pub(crate) fn last(width: usize) -> u64
     requires some { 1 ≤ width }
     requires few { width ≤ 8 }
@@ -91,7 +92,7 @@ pub(crate) fn put_low(found: &mut [u8], number: u64)
 }
 
 /// Fills a buffer of one byte with the low byte of a number. A loop over more bytes, which are zero, would
-/// be a call of `memset`, which firmware lacks.
+/// become a call of `memset`, which firmware lacks.
 fn put_byte(found: &mut [u8], number: u64)
     requires { length found.old ≡ 1 }
     ensures { found.new ≡ low_bytes (length found.old) number }
@@ -99,7 +100,7 @@ fn put_byte(found: &mut [u8], number: u64)
     found[0] = (number % 256) as u8;
 }
 
-/// Fills a buffer with the bytes of a number in a base. Returns what stands after it.
+/// Fills a buffer with the bytes of a number in a base. Returns the rest of the text.
 fn number_into<'a>(base: u64, found: &mut [u8], text: &'a [u8]) -> Option<&'a [u8]>
     requires some { 1 ≤ length found.old }
     requires few { length found.old ≤ 8 }
@@ -111,8 +112,7 @@ fn number_into<'a>(base: u64, found: &mut [u8], text: &'a [u8]) -> Option<&'a [u
     Some(rest)
 }
 
-/// The number up to `last` that a text begins with in decimal, or 0 for the word `DEFAULT`, and what
-/// stands after it.
+/// Reads a decimal number from 1 to `last`, or the word `DEFAULT` for 0. Returns the rest of the text too.
 fn number_or_default(last: u64, text: &[u8]) -> Option<(u64, &[u8])>
     ensures { option_map (λ x. (x.0, x.1.now)) result ≡ default_read (last + 1) text.now }
 {
@@ -123,7 +123,8 @@ fn number_or_default(last: u64, text: &[u8]) -> Option<(u64, &[u8])>
     }
 }
 
-/// Fills a buffer with the bytes of such a number. Returns what stands after it.
+/// Fills a buffer with the bytes of a decimal number, or of 0 for the word `DEFAULT`. Returns the rest of
+/// the text.
 fn default_into<'a>(found: &mut [u8], text: &'a [u8]) -> Option<&'a [u8]>
     requires some { 1 ≤ length found.old }
     requires few { length found.old ≤ 8 }
@@ -135,7 +136,7 @@ fn default_into<'a>(found: &mut [u8], text: &'a [u8]) -> Option<&'a [u8]>
     Some(rest)
 }
 
-/// Fills a buffer of one byte with that whose next number a text begins with. Returns what stands after it.
+/// Fills a buffer of one byte with one less than a hexadecimal number. Returns the rest of the text.
 fn next_into<'a>(found: &mut [u8], text: &'a [u8]) -> Option<&'a [u8]>
     requires { length found.old ≡ 1 }
     ensures { option_map (λ x. (found.new, x.now)) result
@@ -149,7 +150,7 @@ fn next_into<'a>(found: &mut [u8], text: &'a [u8]) -> Option<&'a [u8]>
     Some(rest)
 }
 
-/// The five bits that a letter of an ID stands for, or 32.
+/// Returns the five bits that a letter of an ID encodes, or 32 for another byte.
 fn letter_of(byte: u8) -> u64
     ensures { result ≡ letter_of byte }
 {
@@ -159,7 +160,7 @@ fn letter_of(byte: u8) -> u64
     }
 }
 
-/// The 15 bits of three letters, and what stands after them.
+/// Reads the 15 bits of three letters, and returns the rest of the text too.
 fn letters(text: &[u8]) -> Option<(u64, &[u8])>
     ensures letters { option_map (λ x. (x.0, x.1.now)) result ≡ letters_read text.now }
     ensures small { IfSome result (λ x. x.0 < 32768) }
@@ -174,7 +175,7 @@ fn letters(text: &[u8]) -> Option<(u64, &[u8])>
     Some((first * 1024 + second * 32 + third, rest))
 }
 
-/// The ID of EISA, or 0, that a text begins with, and what stands after it.
+/// Reads an EISA ID, or 0, and returns the rest of the text too.
 fn eisa(text: &[u8]) -> Option<(u64, &[u8])>
     ensures { option_map (λ x. (x.0, x.1.now)) result ≡ eisa_read text.now }
 {
@@ -191,7 +192,7 @@ fn eisa(text: &[u8]) -> Option<(u64, &[u8])>
     Some((id, rest))
 }
 
-/// Fills a buffer with the bytes of such an ID. Returns what stands after it.
+/// Fills a buffer with the bytes of an EISA ID, or of 0. Returns the rest of the text.
 fn eisa_into<'a>(found: &mut [u8], text: &'a [u8]) -> Option<&'a [u8]>
     ensures { option_map (λ x. (found.new, x.now)) result
         ≡ option_and_then (as_bytes (length found.old)) (eisa_read text.now) }
@@ -201,7 +202,7 @@ fn eisa_into<'a>(found: &mut [u8], text: &'a [u8]) -> Option<&'a [u8]>
     Some(rest)
 }
 
-/// The number of the word that a text begins with, and what stands after it.
+/// Reads a word, and returns its number and the rest of the text.
 fn word<'a>(words: &[Word], text: &'a [u8]) -> Option<(u64, &'a [u8])>
     ensures { option_map (λ x. (x.0, x.1.now)) result ≡ word_read (map as_word words.now) text.now }
 {
@@ -213,7 +214,7 @@ fn word<'a>(words: &[Word], text: &'a [u8]) -> Option<(u64, &'a [u8])>
     None
 }
 
-/// Fills a buffer with the bytes of the number of a word. Returns what stands after it.
+/// Fills a buffer with the bytes of the number of a word. Returns the rest of the text.
 fn word_into<'a>(words: Words, found: &mut [u8], text: &'a [u8]) -> Option<&'a [u8]>
     ensures { option_map (λ x. (found.new, x.now)) result
         ≡ option_and_then (as_bytes (length found.old)) (word_read (words_of words) text.now) }
@@ -223,7 +224,7 @@ fn word_into<'a>(words: Words, found: &mut [u8], text: &'a [u8]) -> Option<&'a [
     Some(rest)
 }
 
-/// Fills a buffer with bytes that stand from the last to the first.
+/// Fills a buffer with bytes of two digits each, the last byte first. Returns the rest of the text.
 fn fill_back<'a>(between: &[u8], found: &mut [u8], text: &'a [u8]) -> Option<&'a [u8]>
     ensures { option_map (λ x. (found.new, x.now)) result
         ≡ option_and_then turned (bytes_read between.now (length found.old) text.now) }
@@ -233,7 +234,7 @@ fn fill_back<'a>(between: &[u8], found: &mut [u8], text: &'a [u8]) -> Option<&'a
     Some(rest)
 }
 
-/// Fills a buffer with the bytes of a field. Returns what stands after it.
+/// Fills a buffer with the bytes of a field. Returns the rest of the text.
 pub(crate) fn read_value<'a>(shape: Shape, found: &mut [u8], text: &'a [u8]) -> Option<&'a [u8]>
     requires { IsTrue (fits_shape shape (length found.old)) }
     ensures { option_map (λ x. (found.new, x.now)) result ≡ field_read shape (length found.old) text.now }

@@ -1,4 +1,4 @@
-//! Where a form stands in the table.
+//! The index of a form in the table.
 #![tactic(auto)]
 
 ghost use Rattle.std.specs.Option.{option_map};
@@ -11,21 +11,21 @@ ghost use Rattle.uefi_node_reader.specs.TableReading.{form_place};
 use uefi_node_table::rows::Row;
 use uefi_node_table::table::{GROUPS, group};
 
-/// A test that forms pass or not.
+/// A test of a form.
 pub(crate) trait FormTest {
     ghost test: { Self → Form → Bool };
 
-    /// Whether a form passes it.
+    /// Returns whether a form passes the test.
     fn passes(&self, row: &Row) -> bool
         ensures { result ≡ test self.now (as_form row.now) };
 
-    /// Whether these forms, which are for nodes of one type, can be passed over: none of them passes it.
+    /// Returns `true` only if none of these forms, which are for nodes of one type, passes it.
     fn passes_over(&self, rows: &[Row]) -> bool
         requires { IsTrue (have_one_kind (map as_form rows.now)) }
         ensures { result ≡ true → form_place (test self.now) (map as_form rows.now) ≡ length rows.now };
 }
 
-/// Where among forms the first stands that passes a test; their number where there is none.
+/// Returns the index of the first form that passes a test, or the number of forms if none does.
 fn place_in<T: FormTest>(test: &T, rows: &[Row]) -> usize
     requires { IsTrue (have_one_kind (map as_form rows.now)) }
     ensures { result ≡ form_place (T.test test.now) (map as_form rows.now) }
@@ -41,7 +41,8 @@ fn place_in<T: FormTest>(test: &T, rows: &[Row]) -> usize
     rows.len()
 }
 
-/// The same among all forms of the table.
+/// Returns the index of the first form of the table that passes a test, or the number of forms if
+/// none does.
 pub(crate) fn form_place<T: FormTest>(test: &T) -> usize
     ensures { result ≡ form_place (T.test test.now) forms }
 {
@@ -57,7 +58,7 @@ pub(crate) fn form_place<T: FormTest>(test: &T) -> usize
     before
 }
 
-/// What the text of the form at a place of the table begins with.
+/// Returns the start of the text of the form at an index of the table.
 pub(crate) fn start_at(place: usize) -> Option<&'static str>
     ensures { option_map (λ start. start.now) result ≡ start_at forms place }
 {

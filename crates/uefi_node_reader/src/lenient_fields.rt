@@ -1,4 +1,4 @@
-//! Fields read as people write them. The texts are in upper case but for each `x`, and have no blanks.
+//! Fields read as people write them. The texts contain no blanks, and are in upper case except for each `x`.
 #![tactic(auto)]
 
 ghost use Rattle.std.specs.Prelude.{◌≡◌, ◌+◌, ◌^◌, ◌≤◌, IsTrue, if◌then◌else◌, length, map};
@@ -21,14 +21,14 @@ use uefi_node_table::rows::{Piece, Shape};
 use uefi_node_table::word_lists::words_of;
 use uefi_node_table::words::{Word, Words};
 
-/// Whether a text begins with `0x`.
+/// Returns whether a text begins with `0x`.
 pub(crate) fn begins_base(text: &[u8]) -> bool
     ensures { result ≡ begins_base text.now }
 {
     matches!(text, [b'0', b'x', ..])
 }
 
-/// What stands after `0x`, or all of a text that begins otherwise.
+/// Returns the text after `0x`, or the whole text if it does not begin with `0x`.
 pub(crate) fn past_base(text: &[u8]) -> &[u8]
     ensures { result.now ≡ past_base text.now }
 {
@@ -38,7 +38,7 @@ pub(crate) fn past_base(text: &[u8]) -> &[u8]
     }
 }
 
-/// What stands after a byte, in either case.
+/// Reads a byte in either case, and returns the rest of the text.
 pub(crate) fn after_letter(letter: u8, text: &[u8]) -> Option<&[u8]>
     ensures { option_map (λ x. x.now) result ≡ after_letter letter text.now }
 {
@@ -50,8 +50,8 @@ pub(crate) fn after_letter(letter: u8, text: &[u8]) -> Option<&[u8]>
     }
 }
 
-/// What stands after a literal of the table, in either case, or the byte that differs from it. Its `0x` may
-/// be left out, and at its end it is that of the number which follows.
+/// Reads a literal of the table in either case, and returns the rest of the text, or the byte that differs.
+/// The text may omit the literal's `0x`. A `0x` at the end of the literal is left to the number after it.
 pub(crate) fn after_literal<'a>(literal: &[u8], text: &'a [u8]) -> Result<&'a [u8], Stop>
     ensures { result_map_both (λ x. x.now) (λ e. e) result ≡ after_literal literal.now text.now }
 {
@@ -79,7 +79,7 @@ pub(crate) fn after_literal<'a>(literal: &[u8], text: &'a [u8]) -> Result<&'a [u
     Ok(rest)
 }
 
-/// The number up to `last` of one digit or more, and what stands after them.
+/// Reads a number up to `last` of at least one digit, and returns the rest of the text too.
 fn some_digits(base: u64, last: u64, text: &[u8]) -> Option<(u64, &[u8])>
     ensures { option_map (λ x. (x.0, x.1.now)) result ≡ some_digits base (last + 1) text.now }
 {
@@ -89,7 +89,7 @@ fn some_digits(base: u64, last: u64, text: &[u8]) -> Option<(u64, &[u8])>
     }
 }
 
-/// The number up to `last` that a text begins with, and what stands after it.
+/// Reads a number up to `last`, in decimal, or in hexadecimal after `0x`. Returns the rest of the text too.
 pub(crate) fn any_number(last: u64, text: &[u8]) -> Option<(u64, &[u8])>
     ensures { option_map (λ x. (x.0, x.1.now)) result ≡ any_number (last + 1) text.now }
 {
@@ -99,7 +99,7 @@ pub(crate) fn any_number(last: u64, text: &[u8]) -> Option<(u64, &[u8])>
     some_digits(10, last, text)
 }
 
-/// The same, or 0 for the word `DEFAULT`.
+/// Reads a number up to `last`, or the word `DEFAULT` for 0. Returns the rest of the text too.
 fn number_or_word(last: u64, text: &[u8]) -> Option<(u64, &[u8])>
     ensures { option_map (λ x. (x.0, x.1.now)) result ≡ number_or_word (last + 1) text.now }
 {
@@ -109,8 +109,8 @@ fn number_or_word(last: u64, text: &[u8]) -> Option<(u64, &[u8])>
     }
 }
 
-/// Fills a buffer with the bytes of a number, or of 0 for that word where `or_word`. Returns what stands
-/// after it.
+/// Fills a buffer with the bytes of a number, or of 0 for the word `DEFAULT` if `or_word`. Returns the rest
+/// of the text.
 fn number_into<'a>(or_word: bool, found: &mut [u8], text: &'a [u8]) -> Option<&'a [u8]>
     requires some { 1 ≤ length found.old }
     requires few { length found.old ≤ 8 }
@@ -128,7 +128,7 @@ fn number_into<'a>(or_word: bool, found: &mut [u8], text: &'a [u8]) -> Option<&'
     Some(rest)
 }
 
-/// Fills a buffer of one byte with that whose next number a text begins with. Returns what stands after it.
+/// Fills a buffer of one byte with one less than a number. Returns the rest of the text.
 fn next_into<'a>(found: &mut [u8], text: &'a [u8]) -> Option<&'a [u8]>
     ensures { option_map (λ x. (found.new, x.now)) result
         ≡ option_and_then (as_bytes (length found.old)) (option_and_then less_one (any_number 257 text.now)) }
@@ -141,7 +141,7 @@ fn next_into<'a>(found: &mut [u8], text: &'a [u8]) -> Option<&'a [u8]>
     Some(rest)
 }
 
-/// The number of the word that a text begins with, in either case, and what stands after it.
+/// Reads a word in either case, and returns its number and the rest of the text.
 fn any_word<'a>(words: &[Word], text: &'a [u8]) -> Option<(u64, &'a [u8])>
     ensures { option_map (λ x. (x.0, x.1.now)) result ≡ any_word (map as_word words.now) text.now }
 {
@@ -153,7 +153,7 @@ fn any_word<'a>(words: &[Word], text: &'a [u8]) -> Option<(u64, &'a [u8])>
     None
 }
 
-/// Fills a buffer with the bytes of the number of a word. Returns what stands after it.
+/// Fills a buffer with the bytes of the number of a word. Returns the rest of the text.
 fn word_into<'a>(words: Words, found: &mut [u8], text: &'a [u8]) -> Option<&'a [u8]>
     ensures { option_map (λ x. (found.new, x.now)) result
         ≡ option_and_then (as_bytes (length found.old)) (any_word (words_of words) text.now) }
@@ -163,7 +163,7 @@ fn word_into<'a>(words: Words, found: &mut [u8], text: &'a [u8]) -> Option<&'a [
     Some(rest)
 }
 
-/// Fills a buffer with the bytes of a field. Returns what stands after it.
+/// Fills a buffer with the bytes of a field. Returns the rest of the text.
 fn read_field<'a>(shape: Shape, found: &mut [u8], text: &'a [u8]) -> Option<&'a [u8]>
     requires { IsTrue (fits_shape shape (length found.old)) }
     ensures { option_map (λ x. (found.new, x.now)) result ≡ any_field shape (length found.old) text.now }
@@ -178,15 +178,15 @@ fn read_field<'a>(shape: Shape, found: &mut [u8], text: &'a [u8]) -> Option<&'a 
     }
 }
 
-/// Whether a shape may be left out: a number.
+/// Returns whether a field of this shape may be omitted: whether it is a number.
 fn is_number(shape: Shape) -> bool
     ensures { result ≡ is_number shape }
 {
     matches!(shape, Shape::Hexadecimal | Shape::Decimal)
 }
 
-/// Fills a buffer with a byte. A loop that puts the same byte would be a call of `memset`, which firmware
-/// lacks.
+/// Fills a buffer with copies of a byte. A loop that puts the same byte would become a call of `memset`,
+/// which firmware lacks.
 fn put_spare(found: &mut [u8], spare: u8)
     requires { length found.old ≤ 8 }
     ensures { found.new ≡ replicate (length found.old) spare }
@@ -194,8 +194,8 @@ fn put_spare(found: &mut [u8], spare: u8)
     put_low(found, u64::from(spare) * 0x0101_0101_0101_0101);
 }
 
-/// Fills a buffer with the bytes of a field, or with `spare` where a number is left out. Returns what stands
-/// after it.
+/// Fills a buffer with the bytes of a field, or with `spare` if a number is omitted. Returns the rest of the
+/// text.
 pub(crate) fn value_or_spare<'a>(
     shape: Shape,
     spare: u8,
@@ -213,8 +213,8 @@ pub(crate) fn value_or_spare<'a>(
     read_field(shape, found, text)
 }
 
-/// The byte that a field is made of where it is left out (UEFI Specification 2.10, section 10.6.1): all ones
-/// for the port multiplier of SATA and for the fields of a class of USB devices, else 0.
+/// Returns the byte that fills an omitted field (UEFI Specification 2.10, section 10.6.1): 0xff for the port
+/// multiplier of SATA and for the fields of a class of USB devices, and otherwise 0.
 pub(crate) fn left_out(kind: u8, sub_kind: u8, place: usize) -> u8
     ensures { result ≡ left_out kind sub_kind place }
 {
@@ -224,7 +224,8 @@ pub(crate) fn left_out(kind: u8, sub_kind: u8, place: usize) -> u8
     0
 }
 
-/// What stands after the ending of a field: a comma, and its `0x`, may be left out before `)`.
+/// Reads the ending of a field, and returns the rest of the text. Before `)`, a comma and its `0x` may be
+/// omitted.
 pub(crate) fn after_ending<'a>(ending: &[u8], text: &'a [u8]) -> Result<&'a [u8], Stop>
     ensures { result_map_both (λ x. x.now) (λ e. e) result ≡ after_ending ending.now text.now }
 {
@@ -234,7 +235,7 @@ pub(crate) fn after_ending<'a>(ending: &[u8], text: &'a [u8]) -> Result<&'a [u8]
     after_literal(ending, text)
 }
 
-/// What is expected where a word of a list has to stand.
+/// Returns what is expected where a list requires a word.
 fn expected_word(words: Words) -> Expected
     ensures { result ≡ expected_word words }
 {
@@ -245,7 +246,7 @@ fn expected_word(words: Words) -> Expected
     }
 }
 
-/// What is expected where a field has to stand.
+/// Returns what is expected where a field is required.
 fn expected_field(shape: Shape, width: usize) -> Expected
     requires fits { IsTrue (fits_shape shape width) }
     requires few { width ≤ 64 }
@@ -264,7 +265,7 @@ fn expected_field(shape: Shape, width: usize) -> Expected
     }
 }
 
-/// Puts the bytes of a field of a node of a kind at their place in its data. Returns what stands after it.
+/// Puts the bytes of a field at their place in the data of a node of a kind. Returns the rest of the text.
 fn set_value<'a>(
     kind: u8,
     sub_kind: u8,
@@ -285,8 +286,7 @@ fn set_value<'a>(
     }
 }
 
-/// Puts the field that a text begins with into the data of a node of a kind. Returns what stands after its
-/// ending.
+/// Puts a field into the data of a node of a kind, and reads its ending. Returns the rest of the text.
 fn set_piece<'a>(
     kind: u8,
     sub_kind: u8,
@@ -303,7 +303,7 @@ fn set_piece<'a>(
     after_ending(piece.ending.as_bytes(), rest)
 }
 
-/// The same of fields.
+/// Puts fields into the data of a node of a kind, and reads their endings. Returns the rest of the text.
 pub(crate) fn set_pieces<'a>(
     kind: u8,
     sub_kind: u8,

@@ -1,4 +1,4 @@
-//! Names of files as people write them: in `File(..)`, or without a backslash at their start.
+//! Names of files as people write them: in `File(..)`, or without the first backslash.
 #![tactic(auto)]
 
 ghost use Rattle.std.specs.Option.{option_map};
@@ -16,7 +16,7 @@ use crate::named_files::{is_after_node, name, name_len, past_spaces};
 use crate::parsed_node::ParsedNode;
 use crate::tidied::cut_call;
 
-/// Puts a name into a buffer, with a backslash at its start. Returns how many bytes these are.
+/// Copies a name to a buffer, and puts a backslash before it if it lacks one. Returns the number of bytes.
 fn put_rooted(scratch: &mut [u8], name: &[u8]) -> usize
     requires { length name.now < length scratch.old }
     ensures within { result ≤ length scratch.old }
@@ -32,7 +32,7 @@ fn put_rooted(scratch: &mut [u8], name: &[u8]) -> usize
     push_all(scratch, len, name)
 }
 
-/// Reads the node with a whole name.
+/// Reads a whole text as the name of a file, with or without the first backslash.
 fn whole_name<'a>(scratch: &'a mut [u8], text: &[u8]) -> Option<ParsedNode<'a>>
     requires { length text.now < length scratch.old }
     ensures { option_map parsed_node result ≡ whole (name_read (rooted text.now)) }
@@ -44,7 +44,7 @@ fn whole_name<'a>(scratch: &'a mut [u8], text: &[u8]) -> Option<ParsedNode<'a>>
     }
 }
 
-/// Whether a text begins with a `)` after which a node may end, with blanks between them.
+/// Returns whether a text begins with a `)` that may end a node. Blanks may follow it.
 fn closes_node(text: &[u8]) -> bool
     ensures { result ≡ closes_node text.now }
 {
@@ -54,7 +54,7 @@ fn closes_node(text: &[u8]) -> bool
     }
 }
 
-/// Where the first such `)` stands.
+/// Returns the index of the first `)` that may end a node.
 fn name_end(text: &[u8]) -> Option<usize>
     ensures place { result ≡ name_end text.now }
     ensures within { IfSome result (λ place. place < length text.now) }
@@ -67,7 +67,7 @@ fn name_end(text: &[u8]) -> Option<usize>
     None
 }
 
-/// What stands before the `)` that ends a name, which may have others, and what after it.
+/// Splits a text at the `)` that ends a name, and omits that byte. The name may contain other `)`.
 fn cut_file(text: &[u8]) -> Option<(&[u8], &[u8])>
     ensures { option_map (λ x. (x.0.now, x.1.now)) result ≡ cut_file text.now }
 {
@@ -77,8 +77,8 @@ fn cut_file(text: &[u8]) -> Option<(&[u8], &[u8])>
     }
 }
 
-/// Reads the node with the name that stands in `File(..)`, from the name on in a text. Returns what stands
-/// after the `)` that ends it, too, or the fault of the text.
+/// Reads the name in `File(..)`, given the whole text and its part from the name on. Returns the node and
+/// the text after the `)`, or the fault of the text.
 pub(crate) fn file<'s, 't>(
     scratch: &'s mut [u8],
     text: &[u8],
@@ -103,7 +103,7 @@ pub(crate) fn file<'s, 't>(
     }
 }
 
-/// Whether a text begins with a call: a `(` stands before a slash or a comma.
+/// Returns whether a text begins with a call: whether a `(` comes before the first slash or comma.
 pub(crate) fn begins_call(text: &[u8]) -> bool
     ensures { result ≡ begins_call text.now }
 {
@@ -111,7 +111,8 @@ pub(crate) fn begins_call(text: &[u8]) -> bool
     name.iter().any(|byte| *byte == b'(')
 }
 
-/// Whether a name may stand without its first backslash: it has another, and no `)`, `:` or quotation mark.
+/// Returns whether a name may omit its first backslash: it contains another, and no `)`, `:` or quotation
+/// mark.
 fn is_bare(name: &[u8]) -> bool
     ensures { result ≡ is_bare name.now }
 {
@@ -119,8 +120,8 @@ fn is_bare(name: &[u8]) -> bool
         && !(name.contains(&b')') || (name.contains(&b':') || name.contains(&b'"')))
 }
 
-/// Reads the node with the name that a text begins with, perhaps after blanks, if that may stand without its
-/// first backslash: not where it is rooted. Returns what stands after it, too.
+/// Reads the name of a file at the start of a text, perhaps after blanks, if it may omit its first
+/// backslash. If `is_rooted`, it has to have that backslash. Returns the rest of the text too.
 pub(crate) fn bare<'s, 't>(
     is_rooted: bool,
     scratch: &'s mut [u8],

@@ -21,7 +21,7 @@ use crate::stops::{further, rest_end, stop_at, stop_of};
 use crate::table_reader::{finish_row, fixed_part, read_row};
 use uefi_node_table::rows::{Mode, Row, Tail};
 
-/// Whether data after the fields hold no text.
+/// Returns whether the data after the fields contains no text.
 pub(crate) fn is_textless(tail: Tail) -> bool
     ensures { result ≡ is_textless tail }
 {
@@ -33,7 +33,8 @@ pub(crate) fn is_textless(tail: Tail) -> bool
     }
 }
 
-/// The node that was read in a form, if nothing stands after it, and its own text tells it.
+/// Returns the node that was read in a form, if nothing is left of the text, and the node's own text
+/// describes it completely.
 pub(crate) fn told<'a>(
     row: &Row,
     read: Option<(ParsedNode<'a>, &'a [u8])>,
@@ -53,7 +54,7 @@ pub(crate) fn told<'a>(
     Some(node)
 }
 
-/// Reads a node of a form from all of its text, exactly in the form, if its own text tells it.
+/// Reads a whole text exactly in a form, if the node's own text describes it completely.
 pub(crate) fn exact_told<'a>(row: &Row, text: &'a [u8]) -> Option<ParsedNode<'a>>
     requires sound { IsTrue (is_sound (as_form row.now)) }
     requires filled { IsTrue (is_filled (as_form row.now)) }
@@ -63,7 +64,8 @@ pub(crate) fn exact_told<'a>(row: &Row, text: &'a [u8]) -> Option<ParsedNode<'a>
     told(row, read_row(row, text))
 }
 
-/// Reads a node of a form from its tidied text, if its own text tells it, or says where that stops.
+/// Reads a tidied text in a form, if the node's own text describes it completely. Fails with where the text
+/// stops.
 fn told_row<'a>(row: &Row, text: &'a [u8]) -> Result<ParsedNode<'a>, Stop>
     requires sound { IsTrue (is_sound (as_form row.now)) }
     requires filled { IsTrue (is_filled (as_form row.now)) }
@@ -80,7 +82,7 @@ fn told_row<'a>(row: &Row, text: &'a [u8]) -> Result<ParsedNode<'a>, Stop>
     }
 }
 
-/// Whether a text begins with the name of a call, up to its `(`, in either case.
+/// Returns whether a text begins with the name of a call, up to its `(`, in either case.
 pub(crate) fn begins_call_name(name: &[u8], text: &[u8]) -> bool
     ensures { result ≡ begins_call_name name.now text.now }
 {
@@ -99,7 +101,7 @@ pub(crate) fn begins_call_name(name: &[u8], text: &[u8]) -> bool
     true
 }
 
-/// Reads a node of a form whose name its tidied text begins with, unless the form holds a text.
+/// Reads a tidied text in a form whose name it begins with, unless the form contains a text.
 fn named_row<'a>(row: &Row, text: &'a [u8]) -> Result<ParsedNode<'a>, Option<Stop>>
     requires sound { IsTrue (is_sound (as_form row.now)) }
     requires filled { IsTrue (is_filled (as_form row.now)) }
@@ -121,7 +123,7 @@ fn named_row<'a>(row: &Row, text: &'a [u8]) -> Result<ParsedNode<'a>, Option<Sto
     }
 }
 
-/// The same of any form.
+/// Reads a tidied text in a form, if it begins with the form's name.
 fn try_row<'a>(row: &Row, text: &'a [u8]) -> Result<ParsedNode<'a>, Option<Stop>>
     requires sound { IsTrue (is_sound (as_form row.now)) }
     requires filled { IsTrue (is_filled (as_form row.now)) }
@@ -133,7 +135,7 @@ fn try_row<'a>(row: &Row, text: &'a [u8]) -> Result<ParsedNode<'a>, Option<Stop>
     Err(None)
 }
 
-/// The tidied call alone.
+/// An attempt that reads only the tidied call.
 struct Tidied;
 
 impl Attempt for Tidied {
@@ -148,7 +150,7 @@ impl Attempt for Tidied {
     }
 }
 
-/// Reads a node of no kind from its tidied text, or says where that stops.
+/// Reads a node of no known kind from its tidied text, or fails with where the text stops.
 fn try_path(text: &[u8]) -> Result<ParsedNode<'_>, Option<Stop>>
     ensures { result_map_both parsed_node (λ e. e) result
         ≡ path_told (after_literal (codes "Path(") text.now) }
@@ -162,8 +164,8 @@ fn try_path(text: &[u8]) -> Result<ParsedNode<'_>, Option<Stop>>
     }
 }
 
-/// Reads a node from a tidied text, or says where that stops. A call that programs print for different nodes
-/// stops where it has to tell them apart.
+/// Reads a node from a tidied text, or fails with where the text stops. A call that programs print for
+/// different nodes stops where it becomes ambiguous.
 pub(crate) fn try_call(text: &[u8]) -> Result<ParsedNode<'_>, Option<Stop>>
     ensures { result_map_both parsed_node (λ e. e) result ≡ call_told text.now }
 {

@@ -1,7 +1,8 @@
 //! The layer of `uefi_device_path` that reads nodes of device paths from their texts.
 //!
-//! A node is read where its text holds all that it holds, in the very form that `uefi_device_nodes` prints
-//! (UEFI Specification 2.10, section 10.6.1). Callers use `uefi_device_path`, which reads whole paths.
+//! It reads exactly the texts that `uefi_device_nodes` prints (UEFI Specification 2.10, section 10.6.1),
+//! if they describe their nodes completely. It also reads texts as people write them, and as libefivar
+//! prints them. Callers use `uefi_device_path`, which reads whole paths.
 #![tactic(auto)]
 
 mod address_texts;

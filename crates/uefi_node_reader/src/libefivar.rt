@@ -1,9 +1,9 @@
-//! Nodes as libefivar 37 prints them, on which efibootmgr stands, where its text of a node is the
-//! specification's text of another, or is in no form of the table.
+//! Texts of libefivar 37, which efibootmgr uses, if they are the specification's texts of other nodes,
+//! or have no form in the table.
 //!
-//! It prints the identifier of an NVMe node from its first byte on, and the numbers of `Ata` without
-//! words. Its `Fibre`, `SAS` and `UsbClass` leave out what distinguishes two nodes. In `PciRoot` and
-//! `PcieRoot` a text of the device may stand in place of its number, which begins with `0x`.
+//! Libefivar prints the identifier of an NVMe node from its first byte on, and the numbers of `Ata`
+//! without words. Its `Fibre`, `SAS` and `UsbClass` omit what distinguishes two nodes. Its `PciRoot`
+//! and `PcieRoot` may contain a text of the device in place of the number, which begins with `0x`.
 #![tactic(auto)]
 
 ghost use Rattle.std.specs.Prelude.{◌≡◌, ◌<◌, IsTrue, codes, length, map};
@@ -25,7 +25,7 @@ use crate::stops::stop_at;
 use crate::tidied::{cut_call, place_at, tidy};
 use uefi_node_table::rows::Row;
 
-/// Reads the node of the first of these forms that a tidied text has exactly.
+/// Reads a tidied text in the first of these forms that it matches exactly.
 fn exact_group<'a>(rows: &[Row], text: &'a [u8]) -> Option<ParsedNode<'a>>
     requires sound { IsTrue (list_all is_sound (map as_form rows.now)) }
     requires filled { IsTrue (list_all is_filled (map as_form rows.now)) }
@@ -39,8 +39,8 @@ fn exact_group<'a>(rows: &[Row], text: &'a [u8]) -> Option<ParsedNode<'a>>
     None
 }
 
-/// Reads the node whose call a text begins with in one of its own forms, from a tidied copy of the
-/// call. Returns what stands after it, too.
+/// Reads the call at the start of a text in a form of libefivar, from a tidied copy of the call.
+/// Returns the node and the rest of the text.
 fn own_call<'s, 't>(scratch: &'s mut [u8], text: &'t [u8]) -> Option<(ParsedNode<'s>, &'t [u8])>
     requires { length text.now < length scratch.old }
     ensures { option_map (λ x. (parsed_node x.0, x.1.now)) result ≡ own_call text.now }
@@ -51,7 +51,8 @@ fn own_call<'s, 't>(scratch: &'s mut [u8], text: &'t [u8]) -> Option<(ParsedNode
     Some((node, rest))
 }
 
-/// The same of a text that begins with a call.
+/// Reads a node in a form of libefivar, if the text begins with a call. Returns the rest of the text
+/// too.
 pub(crate) fn own<'s, 't>(
     scratch: &'s mut [u8],
     text: &'t [u8],
@@ -65,7 +66,7 @@ pub(crate) fn own<'s, 't>(
     None
 }
 
-/// Where a tidied call stops after this name.
+/// Returns a stop after this name, if a tidied call begins with it.
 fn stop_after(expected: Expected, name: &[u8], text: &[u8]) -> Option<Stop>
     ensures { result ≡ stop_after expected name.now text.now }
 {
@@ -73,7 +74,7 @@ fn stop_after(expected: Expected, name: &[u8], text: &[u8]) -> Option<Stop>
     Some(stop_at(rest, expected))
 }
 
-/// The same, if no `0x` follows.
+/// Returns a stop after this name, if a tidied call begins with it and no `0x` follows.
 fn base_after(name: &[u8], text: &[u8]) -> Option<Stop>
     ensures { result ≡ base_after name.now text.now }
 {
@@ -84,8 +85,8 @@ fn base_after(name: &[u8], text: &[u8]) -> Option<Stop>
     Some(stop_at(rest, Expected::Base))
 }
 
-/// Where a tidied call stops that libefivar prints in its own form alone, for different nodes, or with
-/// a text of the device in place of its number.
+/// Returns where a tidied call stops that libefivar prints for different nodes, in a form that it does
+/// not share, or with a text of the device in place of its number.
 fn own_stop(text: &[u8]) -> Option<Stop>
     ensures { result ≡ own_stop text.now }
 {
@@ -107,7 +108,8 @@ fn own_stop(text: &[u8]) -> Option<Stop>
     base_after(b"PCIEROOT(", text)
 }
 
-/// The fault of a text that begins with such a call. The buffer then holds anything.
+/// Returns the fault of a text that begins with a call of libefivar that stops. Afterwards the
+/// contents of the buffer are unspecified.
 pub(crate) fn own_fault(scratch: &mut [u8], text: &[u8]) -> Option<NodeFault>
     requires { length text.now < length scratch.old }
     ensures { result ≡ own_fault text.now }

@@ -1,5 +1,4 @@
-//! Where a person would say that a call is wrong: at the start of a word, if one of some words has to stand
-//! there.
+//! Where a person would say that a call is wrong: at the start of the field, if the field accepts words.
 #![tactic(auto)]
 
 ghost use Rattle.std.specs.Prelude.{◌≡◌, ◌≤◌, ◌==◌, IfSome, length, position};
@@ -9,21 +8,21 @@ use crate::ambiguous::begins_with;
 use crate::faults::{Choice, Expected, Stop};
 use crate::tidied::place_of;
 
-/// Whether a tidied call is that of a SAS device.
+/// Returns whether a tidied call is the call of a SAS device.
 fn is_sas(call: &[u8]) -> bool
     ensures { result ≡ is_sas call.now }
 {
     begins_with(b"SAS(", call) || begins_with(b"SASEx(", call)
 }
 
-/// Whether a tidied call is that of a serial port's flow control.
+/// Returns whether a tidied call is the call of a serial port's flow control.
 fn is_flow_control(call: &[u8]) -> bool
     ensures { result ≡ is_flow_control call.now }
 {
     begins_with(b"UARTFLOWCTRL(", call) || begins_with(b"UARTFLOWCONTROL(", call)
 }
 
-/// The words of which one has to stand in the first field of a tidied call.
+/// Returns the words that the first field of a tidied call accepts.
 fn first_choice(call: &[u8]) -> Option<Choice>
     ensures { result ≡ first_choice call.now }
 {
@@ -38,7 +37,7 @@ fn first_choice(call: &[u8]) -> Option<Choice>
     }
 }
 
-/// In the second.
+/// Returns the words that the second field of a tidied call accepts.
 fn second_choice(call: &[u8]) -> Option<Choice>
     ensures { result ≡ second_choice call.now }
 {
@@ -53,7 +52,7 @@ fn second_choice(call: &[u8]) -> Option<Choice>
     }
 }
 
-/// In the third.
+/// Returns the words that the third field of a tidied call accepts.
 fn third_choice(call: &[u8]) -> Option<Choice>
     ensures { result ≡ third_choice call.now }
 {
@@ -66,7 +65,7 @@ fn third_choice(call: &[u8]) -> Option<Choice>
     }
 }
 
-/// In a later one, by its number.
+/// Returns the words that a later field of a tidied call accepts, by the field's number.
 fn later_choice(call: &[u8], field: usize) -> Option<Choice>
     ensures { result ≡ later_choice call.now field }
 {
@@ -95,7 +94,8 @@ fn later_choice(call: &[u8], field: usize) -> Option<Choice>
     }
 }
 
-/// The words of which one has to stand in a field of a tidied call, by how many commas stand before it.
+/// Returns the words that a field of a tidied call accepts. The number of the field is the number of commas
+/// before it.
 fn choice_of(call: &[u8], field: usize) -> Option<Choice>
     ensures { result ≡ choice_of call.now field }
 {
@@ -110,7 +110,7 @@ fn choice_of(call: &[u8], field: usize) -> Option<Choice>
     }
 }
 
-/// What follows the first of these bytes in a text, or nothing.
+/// Returns the text after the first of these bytes, or an empty text.
 fn past_mark(mark: u8, text: &[u8]) -> &[u8]
     ensures { result.now ≡ past_mark mark text.now }
 {
@@ -120,7 +120,7 @@ fn past_mark(mark: u8, text: &[u8]) -> &[u8]
     }
 }
 
-/// A tidied call from a field on.
+/// Returns a tidied call from the start of a field.
 fn field_on(call: &[u8], field: usize) -> &[u8]
     ensures { result.now ≡ field_on call.now field }
 {
@@ -131,7 +131,7 @@ fn field_on(call: &[u8], field: usize) -> &[u8]
     rest
 }
 
-/// In which field of a tidied call this is left of it: how many commas stand before.
+/// Returns the number of the field where this much of a tidied call is left: the number of commas before.
 fn field_at(call: &[u8], left: usize) -> usize
     ensures { result ≡ field_at call.now left }
 {
@@ -139,7 +139,7 @@ fn field_at(call: &[u8], left: usize) -> usize
     front.iter().filter(|byte| **byte == b',').count()
 }
 
-/// Whether this is expected inside a word, or in place of one.
+/// Returns whether this is expected inside a word, or in place of a word.
 fn is_in_word(expected: Expected) -> bool
     ensures { result ≡ is_in_word expected }
 {
@@ -150,8 +150,8 @@ fn is_in_word(expected: Expected) -> bool
     }
 }
 
-/// Where a tidied call is wrong, by where it stops: at the start of a field, if one of some words has to
-/// stand there.
+/// Returns where a tidied call is wrong, from where it stops: at the start of the field, if the field
+/// accepts words.
 pub(crate) fn mistake(call: &[u8], stop: Stop) -> Stop
     ensures { result ≡ mistake call.now stop }
 {

@@ -1,4 +1,4 @@
-//! Names of calls that differ from those of the table in one letter.
+//! Names of calls that differ from a name of the table in one letter.
 #![tactic(auto)]
 
 ghost use Rattle.std.specs.Prelude.{◌≡◌};
@@ -9,7 +9,7 @@ use crate::form_places::{FormTest, form_place, start_at};
 use crate::lenient_table::begins_call_name;
 use uefi_node_table::rows::Row;
 
-/// Whether a text begins with the name of a call, but with its first two letters exchanged.
+/// Returns whether a text begins with the name of a call, except that its first two letters are exchanged.
 fn are_exchanged(start: &[u8], text: &[u8]) -> bool
     ensures { result ≡ are_exchanged start.now text.now }
 {
@@ -23,8 +23,8 @@ fn are_exchanged(start: &[u8], text: &[u8]) -> bool
     }
 }
 
-/// Whether a text begins with the name of a call, but for its first letter: another stands there, it is left
-/// out, it stands twice or after another, or it is exchanged with the next.
+/// Returns whether a text begins with the name of a call, except that its first letter is replaced, omitted,
+/// preceded by another letter, or exchanged with the second.
 fn is_mistyped(start: &[u8], text: &[u8]) -> bool
     ensures { result ≡ is_mistyped start.now text.now }
 {
@@ -39,7 +39,7 @@ fn is_mistyped(start: &[u8], text: &[u8]) -> bool
     }
 }
 
-/// Whether a text begins with the name of a call, but for one letter.
+/// Returns whether a text begins with the name of a call, except for one letter.
 fn is_near(start: &[u8], text: &[u8]) -> bool
     ensures { result ≡ is_near start.now text.now }
 {
@@ -64,7 +64,7 @@ struct NearName<'a> {
     call: &'a [u8],
 }
 
-/// The forms whose name it almost has.
+/// The test for forms whose name differs in one letter.
 impl FormTest for NearName<'_> {
     ghost test = { λ near form. is_near form.start near.call.now };
 
@@ -77,7 +77,8 @@ impl FormTest for NearName<'_> {
     }
 }
 
-/// What is expected of a tidied call without the name of a form: a near one.
+/// Returns what is expected of a tidied call that begins with no form's name: a similar name, if there is
+/// one.
 pub(crate) fn name_expected(call: &[u8]) -> Expected
     ensures { result ≡ name_expected call.now }
 {

@@ -1,5 +1,5 @@
-//! Fields of nodes at their places in the data, and the data after the fixed part, put into a buffer and
-//! counted.
+//! Fields of nodes at their places in the data, and the data after the fixed part. The data is put into a
+//! buffer, and counted.
 #![tactic(auto)]
 
 ghost use Rattle.std.specs.List.{list_all};
@@ -17,7 +17,7 @@ use crate::fields::{after, byte, read_value};
 use uefi_node_table::rows::{Item, Piece, Tail};
 use uefi_node_table::table::item_of;
 
-/// Puts the field that a text begins with into data. Returns what stands after its ending.
+/// Puts the field at the start of a text into data, and reads its ending. Returns the rest of the text.
 fn read_piece<'a>(piece: &Piece, content: &mut [u8], text: &'a [u8]) -> Option<&'a [u8]>
     requires { IsTrue (is_within (length content.old) (as_piece piece.now)) }
     ensures { option_map (λ rest. (content.new, rest.now)) result
@@ -29,7 +29,7 @@ fn read_piece<'a>(piece: &Piece, content: &mut [u8], text: &'a [u8]) -> Option<&
     after(piece.ending.as_bytes(), rest)
 }
 
-/// The same of fields.
+/// Puts the fields at the start of a text into data, and reads their endings. Returns the rest of the text.
 pub(crate) fn read_pieces<'a>(
     pieces: &[Piece],
     content: &mut [u8],
@@ -46,8 +46,8 @@ pub(crate) fn read_pieces<'a>(
     Some(rest)
 }
 
-/// Puts all bytes that stand as two digits each after `len` others. Returns how many bytes these are, and
-/// what stands after them.
+/// Puts all bytes of two digits each at the start of a text after `len` others. Returns the new number of
+/// bytes, and the rest of the text.
 pub(crate) fn push_run<'a>(places: &mut [u8], len: usize, text: &'a [u8]) -> (usize, &'a [u8])
     ensures state { (places.new, result.0) ≡ pushed_bytes (places.old, len) (run_read text.now).0 }
     ensures rest { result.1.now ≡ (run_read text.now).1 }
@@ -61,7 +61,7 @@ pub(crate) fn push_run<'a>(places: &mut [u8], len: usize, text: &'a [u8]) -> (us
     (count, rest)
 }
 
-/// Puts bytes that stand after a comma, or none.
+/// Puts the bytes after a comma, or nothing if the text begins with no comma.
 fn push_comma_bytes<'a>(places: &mut [u8], len: usize, text: &'a [u8]) -> Option<(usize, &'a [u8])>
     ensures { option_map (λ x. ((places.new, x.0), x.1.now)) result
         ≡ option_and_then (put_on (places.old, len)) (comma_read text.now) }
@@ -73,7 +73,7 @@ fn push_comma_bytes<'a>(places: &mut [u8], len: usize, text: &'a [u8]) -> Option
     Some(push_run(places, len, digits))
 }
 
-/// Puts an item of a list, whose fields a text begins with.
+/// Puts an item of a list, whose fields are at the start of a text.
 fn push_item<'a>(
     places: &mut [u8],
     len: usize,
@@ -92,7 +92,7 @@ fn push_item<'a>(
     Some((push_all(places, len, bytes), rest))
 }
 
-/// Puts all items of a list that a text begins with.
+/// Puts all items of a list at the start of a text.
 fn push_items<'a>(
     places: &mut [u8],
     len: usize,
@@ -117,7 +117,7 @@ fn push_items<'a>(
     Some((count, rest))
 }
 
-/// Puts a text and zeros after it, 32 bytes in all.
+/// Puts a text, padded with zeros to 32 bytes.
 fn push_padded<'a>(
     places: &mut [u8],
     len: usize,
@@ -133,7 +133,7 @@ fn push_padded<'a>(
     Some((push_all(places, len, &[0; 32][..spare]), rest))
 }
 
-/// Puts a string and a zero after it.
+/// Puts a string and a NUL.
 fn push_string(places: &mut [u8], len: usize, string: &[u8]) -> usize
     ensures { (places.new, result) ≡ pushed_bytes (pushed_bytes (places.old, len) string.now) (0 ∷ []) }
 {
@@ -141,7 +141,7 @@ fn push_string(places: &mut [u8], len: usize, string: &[u8]) -> usize
     push(places, len, 0)
 }
 
-/// Puts the strings of the IDs of a device in the order in which they lie.
+/// Puts the ID strings of a device in the order of the node's data.
 fn push_strings(places: &mut [u8], len: usize, hid: &[u8], cid: &[u8], uid: &[u8]) -> usize
     ensures { (places.new, result) ≡ pushed_bytes (places.old, len) (as_ids hid.now cid.now uid.now) }
 {
@@ -150,7 +150,7 @@ fn push_strings(places: &mut [u8], len: usize, hid: &[u8], cid: &[u8], uid: &[u8
     push_string(places, len, cid)
 }
 
-/// The same of strings that a text has.
+/// Puts the ID strings that a text contains in the order of the node's data.
 fn push_ids<'a>(
     places: &mut [u8],
     len: usize,
@@ -166,7 +166,8 @@ fn push_ids<'a>(
     Some((push_strings(places, len, hid, cid, uid), rest))
 }
 
-/// The same of the second alone, which a text begins with.
+/// Puts the ID strings of a device. The string of `_UID` is at the start of a text, and the others are
+/// empty.
 pub(crate) fn push_uid(places: &mut [u8], len: usize, stop: u8, text: &[u8]) -> usize
     ensures { (places.new, result)
         ≡ pushed_bytes (places.old, len) (as_ids [] [] (clear_run stop text.now).0) }
@@ -174,8 +175,8 @@ pub(crate) fn push_uid(places: &mut [u8], len: usize, stop: u8, text: &[u8]) -> 
     push_strings(places, len, &[], &[], cut_clear(stop, text).0)
 }
 
-/// Puts the data after the fixed part, which a text begins with before `close`, after `len` other bytes, as
-/// many as there is room for. Returns how many bytes these are, and what stands after the data.
+/// Puts the data after the fixed part, which comes before `close` in a text, after `len` other bytes, as
+/// far as there is room. Returns the new number of bytes, and the rest of the text.
 pub(crate) fn push_tail<'a>(
     tail: Tail,
     close: &[u8],

@@ -1,4 +1,4 @@
-//! One node read from its text.
+//! One node, read from its text.
 #![tactic(auto, unfolding(crate::specs::NamedFiles::node_read))]
 
 ghost use Rattle.std.specs.Prelude.{◌≡◌, ◌<◌, ◌≤◌, codes, length};
@@ -22,13 +22,14 @@ use crate::parsed_node::ParsedNode;
 use crate::plain_nodes::plain;
 use crate::table_reader::by_table;
 
-/// Reads the node whose text bytes begin with, and returns what stands after it, too; `None` exactly where no
-/// node that is told has such a text before a slash, a comma or the end. Takes no memory.
+/// Reads the node at the start of a text, exactly as it is printed, and returns the rest of the text too. The
+/// rest may begin with any byte. Returns `None` only if no node that its text describes completely has such a
+/// text before a slash, a comma or the end. Does not allocate.
 pub fn read_node(text: &[u8]) -> Option<(ParsedNode<'_>, &[u8])>
     ensures { option_map (λ x. (parsed_node x.0, x.1.now)) result ≡ node_read text.now }
 {
     if first_of(text) == b'\\' {
-        // No other text of a node begins so.
+        // No other text of a node begins with a backslash.
         return name(text);
     }
     if let Some(read) = by_table(text) {
@@ -40,7 +41,7 @@ pub fn read_node(text: &[u8]) -> Option<(ParsedNode<'_>, &[u8])>
     name(text)
 }
 
-/// What was read, where it ends as a node may end.
+/// Returns what was read, if a node may end there.
 pub(crate) fn ended<'s, 't>(
     read: Option<(ParsedNode<'s>, &'t [u8])>,
 ) -> Option<(ParsedNode<'s>, &'t [u8])>
@@ -54,7 +55,7 @@ pub(crate) fn ended<'s, 't>(
     None
 }
 
-/// The fault of a text that goes on where its node should end.
+/// Returns the fault of a text that continues past the end of its node.
 fn end_fault(text: &[u8], rest: &[u8]) -> NodeFault
     ensures { result ≡ end_fault text.now rest.now }
 {
@@ -64,8 +65,8 @@ fn end_fault(text: &[u8], rest: &[u8]) -> NodeFault
     }
 }
 
-/// What was read, where it ends as a node may end, perhaps with blanks after it, or else the fault of the
-/// text.
+/// Returns what was read, if a node may end there, perhaps with blanks after it. Otherwise returns the fault
+/// of the text.
 pub(crate) fn ended_at<'s, 't>(
     text: &[u8],
     read: (ParsedNode<'s>, &'t [u8]),
@@ -81,7 +82,7 @@ pub(crate) fn ended_at<'s, 't>(
     Err(end_fault(text, rest))
 }
 
-/// Reads the node whose call a text begins with.
+/// Reads the node at the start of a text that begins with a call.
 fn called<'s, 't: 's>(
     scratch: &'s mut [u8],
     text: &'t [u8],
@@ -96,7 +97,7 @@ fn called<'s, 't: 's>(
     }
 }
 
-/// Reads the node whose text a text begins with as people write it, but not as it is printed.
+/// Reads the node at the start of a text, in any form that people write except the printed one.
 fn written<'s, 't: 's>(
     is_rooted: bool,
     scratch: &'s mut [u8],
@@ -122,25 +123,29 @@ fn written<'s, 't: 's>(
     })
 }
 
-/// Reads the node that a text begins with, as people write it, and returns what stands after it, too:
-/// nothing, or a slash or a comma first. The buffer then holds anything.
+/// Reads the node at the start of a text, as people write it, and returns the rest of the text too. The rest
+/// is empty, or begins with a slash or a comma. The buffer is for a copy of the call or the name; afterwards
+/// its contents are unspecified. Does not allocate.
 ///
-/// A node that [`read_node`] reads there is read as the same. Else a call is read, up to its first `)`,
-/// in either case and without its blanks. A number stands in hexadecimal after `0x`, else in decimal,
-/// and may begin with zeros. Numbers at the end may be left out: they are then 0, or the default of
-/// their kind (UEFI Specification 2.10, section 10.6.1). The name of a file may stand in `File(..)`, or
-/// without its first backslash where it has no `(`, unless names are rooted there. Takes no memory but
-/// the buffer, for a copy of the call or of the name.
+/// A node that [`read_node`] reads there is read as the same node. Otherwise a call is read up to its first
+/// `)`, in either case and without its blanks:
 ///
-/// The text in a call of `Uri`, `UsbWwid`, `AcpiEx`, `iSCSI`, `Wi-Fi` or `BBS` is taken as it stands,
-/// without the blanks before it. The numbers of `AcpiAdr` after the first are as printed but for their
-/// case. An address of IP version 6 may be in any form of RFC 4291 in a call of `IPv6`.
+/// - A number is hexadecimal after `0x`, and otherwise decimal. It may have leading zeros.
+/// - Numbers at the end may be omitted. They are then 0, or the default of their kind (UEFI Specification
+///   2.10, section 10.6.1).
+/// - The text in a call of `Uri`, `UsbWwid`, `AcpiEx`, `iSCSI`, `Wi-Fi` or `BBS` is read unchanged, without
+///   the blanks before it.
+/// - The numbers of `AcpiAdr` after the first are as they are printed, except for their case.
+/// - An IPv6 address in a call of `IPv6` may have any form of RFC 4291.
 ///
-/// Returns why no node is read, too: the byte that is wrong, and what has to stand there. Several forms of
-/// nodes may have the name of the call. The one that was read furthest decides, and the first of these if
-/// there are several. The byte is the first that differs from the form's text, or the first of a field that
-/// can't be read, or of a field that has to be one of some words. If the text begins with a whole node, it is
-/// the first byte after that. If no form has the name of the call, but one almost has, the fault names it.
+/// The name of a file may be in `File(..)`. It may also omit its first backslash, unless `is_rooted`, if it
+/// contains another backslash, and no parenthesis, `:` or quotation mark.
+///
+/// An error gives the offset of the wrong byte, and what is expected there. If several forms have the name of
+/// the call, the first of those that were read furthest decides. The wrong byte is the first byte that
+/// differs from the form's text, or the first byte of a field that cannot be read or that accepts words.
+/// After a whole node, it is the first byte that follows the node. If no form has the name of the call, but a
+/// form has a name that differs in one letter, the error gives that name.
 #[tactic(auto, unfolding(crate::specs::LenientNodes::lenient_read))]
 pub fn read_lenient_node<'s, 't: 's>(
     is_rooted: bool,
@@ -164,8 +169,8 @@ pub fn read_lenient_node<'s, 't: 's>(
     }
 }
 
-/// What is read is told, and is printed so; and what is printed of a node that is told is read as that
-/// node, whatever may stand after it.
+/// A node that is read is completely described by its text, and is printed as that text. The text of a
+/// completely described node is read back as that node, before anything that may follow a node.
 pub fn nodes_are_read()
     ensures takes { NodeTakes }
     ensures again { NodeAgain }
@@ -173,12 +178,12 @@ pub fn nodes_are_read()
     ensures fits { NodeFits }
 {}
 
-/// Two nodes that are told and have the same text are the same, whatever stands after them.
+/// Two completely described nodes with the same text are equal, before anything that may follow a node.
 pub fn node_text_once()
     ensures { NodeTextOnce }
 {}
 
-/// Calls that differ in case and in blanks alone are read leniently as the same, if neither is read
+/// Calls that differ only in case and in blanks are read leniently as the same node, if neither is read
 /// exactly. A zero before the digits of a number changes nothing.
 pub fn texts_alike()
     ensures calls { CallsAlike }
@@ -186,10 +191,10 @@ pub fn texts_alike()
     ensures zeros_after_base { ZerosAlikeAfterBase }
 {}
 
-/// If a call is refused and the expected thing replaces the text from there on, the call is read, or is
-/// wrong only after that thing. The expected thing is a byte, a number, digits, a parity or stop bits. Two
-/// cases are excluded: the wrong byte is a `)`, before which numbers may be left out; or the new call lacks
-/// a `0x`.
+/// If a call is refused, and what is expected replaces the text from the wrong byte on, the call is read, or
+/// is wrong only after that replacement. The replacement is a byte, a number, digits, a parity or stop bits.
+/// Two cases are excluded: the wrong byte is a `)`, because numbers before it may be omitted; or the new call
+/// lacks a `0x`.
 pub fn expected_helps()
     ensures { ExpectedHelps }
 {}

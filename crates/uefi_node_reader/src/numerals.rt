@@ -1,11 +1,11 @@
-//! Numbers read from their digits, without zeros at their start.
+//! Numbers read from their digits, without leading zeros.
 #![tactic(auto)]
 
 ghost use Rattle.std.specs.Prelude.{◌≡◌, ◌+◌, ◌<◌};
 ghost use Rattle.std.specs.Option.{option_map};
 ghost use Rattle.uefi_node_reader.specs.Numerals.{digit_of, digits_after, number_read};
 
-/// The digit of a byte: 0 to 9, A to F in upper case, or 16 for another byte.
+/// Returns the value of a digit, from 0 to 9 or A to F in upper case, or 16 for another byte.
 pub(crate) fn digit_of(byte: u8) -> u64
     ensures { result ≡ digit_of byte }
 {
@@ -16,8 +16,8 @@ pub(crate) fn digit_of(byte: u8) -> u64
     }
 }
 
-/// The number of all digits that a text begins with, after those of `first`, and what stands after them.
-/// `None` where it is above `last`.
+/// Reads all digits at the start of a text, after digits with the value `first`. Returns the number and
+/// the rest of the text, or `None` if the number is above `last`.
 pub(crate) fn digits_after(base: u64, last: u64, first: u64, text: &[u8]) -> Option<(u64, &[u8])>
     ensures { option_map (λ x. (x.0, x.1.now)) result ≡ digits_after base (last + 1) first text.now }
 {
@@ -38,8 +38,7 @@ pub(crate) fn digits_after(base: u64, last: u64, first: u64, text: &[u8]) -> Opt
     Some((number, rest))
 }
 
-/// The number up to `last` whose digits a text begins with, without zeros at its start, and what stands
-/// after them.
+/// Reads a number up to `last`, without leading zeros, and returns the rest of the text too.
 pub(crate) fn number(base: u64, last: u64, text: &[u8]) -> Option<(u64, &[u8])>
     ensures { option_map (λ x. (x.0, x.1.now)) result ≡ number_read base (last + 1) text.now }
 {

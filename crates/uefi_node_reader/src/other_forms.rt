@@ -1,4 +1,4 @@
-//! Forms in which nodes are read, and never printed.
+//! Forms in which nodes are read but never printed.
 #![tactic(auto)]
 
 ghost use Rattle.std.specs.Prelude.{◌≡◌, map};
@@ -8,8 +8,8 @@ ghost use Rattle.uefi_node_reader.specs.OtherForms.{own_forms, pasted_forms};
 use uefi_node_table::packed::{OWN_ROWS, PASTED_ROWS};
 use uefi_node_table::rows::{Mode, PieceOf, Row, RowOf, Shape, Tail, WrittenRow};
 
-/// A form of these: the type, the sub-type, how many bytes the data have before a text, those that are fixed,
-/// what the text begins with, and the fields; and the text and the end, if it has one.
+/// Makes a form from its type, its sub-type, the length of the data before a text, the fixed bytes of the
+/// data, the start of the text, and the fields; and from the text and the end, if the form has one.
 macro_rules! form {
     ($kind:literal $sub_kind:literal $least:literal [$($at:literal = $byte:literal)*] $start:literal
         $([$shape:ident $place:literal $width:literal $ending:literal])*) => {
@@ -36,7 +36,7 @@ macro_rules! form {
     };
 }
 
-/// Forms in which libefivar alone prints nodes, in the letters of a tidied call.
+/// The forms that only libefivar prints, in the letters of a tidied call.
 #[rattlefmt::skip]
 const OWN: &[WrittenRow] = &[
     form!(3 1 4 [] "ATA(" [Decimal 0 1 ","] [Decimal 1 1 ","] [Decimal 2 2 ")"]),
@@ -44,8 +44,9 @@ const OWN: &[WrittenRow] = &[
         [Forth 7 1 "-"] [Forth 8 1 "-"] [Forth 9 1 "-"] [Forth 10 1 "-"] [Forth 11 1 ")"]),
 ];
 
-/// Forms that programs print and people paste: short names of vendors' nodes, as the UEFI Specification
-/// 2.10 lists them in section 10.6.1.6, and fields that other programs write otherwise or leave out.
+/// The forms that programs print and people paste: short names of vendor-defined nodes, which the UEFI
+/// Specification 2.10 lists in section 10.6.1.6, and forms whose fields other programs write differently or
+/// omit.
 #[rattlefmt::skip]
 const PASTED: &[WrittenRow] = &[
     form!(3 10 16 [0 = 0x53 1 = 0x47 2 = 0xc1 3 = 0xe0 4 = 0xbe 5 = 0xf9 6 = 0xd2 7 = 0x11
@@ -120,7 +121,7 @@ const PASTED: &[WrittenRow] = &[
     form!(2 2 12 [] "AcpiExp(" [Eisa 0 4 ","] [Eisa 8 4 ","]; Ids ")"),
 ];
 
-/// The forms of [`OWN`].
+/// Returns the forms of [`OWN`].
 #[tactic(auto, unfolding(crate::specs::OtherForms::own_forms, uefi_node_table::specs::Parts::packed_bytes, uefi_node_table::specs::Parts::packed_pieces, uefi_node_table::specs::Parts::packed_text))]
 pub(crate) fn own_forms() -> &'static [Row]
     ensures { map as_form result.now ≡ own_forms }
@@ -128,7 +129,7 @@ pub(crate) fn own_forms() -> &'static [Row]
     OWN_ROWS
 }
 
-/// The forms of [`PASTED`].
+/// Returns the forms of [`PASTED`].
 #[tactic(auto, unfolding(crate::specs::OtherForms::pasted_forms, uefi_node_table::specs::Parts::packed_bytes, uefi_node_table::specs::Parts::packed_pieces, uefi_node_table::specs::Parts::packed_text))]
 pub(crate) fn pasted_forms() -> &'static [Row]
     ensures { map as_form result.now ≡ pasted_forms }

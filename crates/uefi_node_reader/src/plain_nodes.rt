@@ -1,4 +1,4 @@
-//! Nodes of no kind, read from their types and their data.
+//! Nodes of no known kind, read from their types and their data.
 #![tactic(auto)]
 
 ghost use Rattle.std.specs.Prelude.{◌≡◌, ℕ, List, false, length};
@@ -23,7 +23,7 @@ use crate::stops::{exact_end, rest_end, stop_at};
 use uefi_node_table::printing::has_form;
 use uefi_node_table::rows::Tail;
 
-/// Whether a node of this many bytes of data is printed as the name of a file.
+/// Returns whether a node with this many bytes of data is printed as the name of a file.
 fn is_file(device_type: u8, sub_type: u8, len: usize) -> bool
     ensures { (content : List ℕ) → len ≡ length content
         → result ≡ is_irregular false (node_with device_type sub_type content) }
@@ -31,7 +31,8 @@ fn is_file(device_type: u8, sub_type: u8, len: usize) -> bool
     device_type == 4 && sub_type == 4 && len % 2 == 0
 }
 
-/// Whether a node has no form of its own, and may stand in a path without ending an instance.
+/// Returns whether a node has no form of its own, fits into a path, and does not end an instance or
+/// the path.
 fn is_plain(node: &ParsedNode<'_>) -> bool
     ensures { result ≡ is_plain (parsed_node node.now) }
 {
@@ -45,7 +46,7 @@ fn is_plain(node: &ParsedNode<'_>) -> bool
     device_type != 0x7f
 }
 
-/// The byte whose number in decimal a text begins with, and what stands after it.
+/// Reads a byte in decimal, and returns the rest of the text too.
 fn byte_number(text: &[u8]) -> Option<(u8, &[u8])>
     ensures { option_map (λ x. (x.0, x.1.now)) result ≡ number_read 10 256 text.now }
 {
@@ -53,7 +54,7 @@ fn byte_number(text: &[u8]) -> Option<(u8, &[u8])>
     Some((value as u8, rest))
 }
 
-/// The type and the sub-type that a text begins with, and what stands after them.
+/// Reads a type and a sub-type, and returns the rest of the text too.
 fn types(text: &[u8]) -> Option<(u8, u8, &[u8])>
     ensures { option_and_then (λ x. plain_rest x.0 x.1 x.2.now) result ≡ types_read text.now }
 {
@@ -63,7 +64,7 @@ fn types(text: &[u8]) -> Option<(u8, u8, &[u8])>
     Some((device_type, sub_type, rest))
 }
 
-/// Reads the node of a type and a sub-type from its data on.
+/// Reads a node of a type and a sub-type from its data on.
 fn plain_from<'a>(
     device_type: u8,
     sub_type: u8,
@@ -87,7 +88,7 @@ fn plain_from<'a>(
     Some((node, rest))
 }
 
-/// Reads a node of no kind from its type on. Returns what stands after it, too.
+/// Reads a node of no known kind from its type on, and returns the rest of the text too.
 fn plain_types(text: &[u8]) -> Option<(ParsedNode<'_>, &[u8])>
     ensures { option_map (λ x. (parsed_node x.0, x.1.now)) result ≡ types_read text.now }
 {
@@ -95,14 +96,14 @@ fn plain_types(text: &[u8]) -> Option<(ParsedNode<'_>, &[u8])>
     plain_from(device_type, sub_type, rest)
 }
 
-/// Reads a node of no kind. Returns what stands after it, too.
+/// Reads a node of no known kind, and returns the rest of the text too.
 pub(crate) fn plain(text: &[u8]) -> Option<(ParsedNode<'_>, &[u8])>
     ensures { option_map (λ x. (parsed_node x.0, x.1.now)) result ≡ plain_read text.now }
 {
     plain_types(after(b"Path(", text)?)
 }
 
-/// The byte whose number a tidied text begins with, and what stands after it.
+/// Reads a byte of a tidied text from its number, and returns the rest of the text too.
 fn any_byte(text: &[u8]) -> Option<(u8, &[u8])>
     ensures { option_map (λ x. (x.0, x.1.now)) result ≡ any_number 256 text.now }
 {
@@ -110,7 +111,7 @@ fn any_byte(text: &[u8]) -> Option<(u8, &[u8])>
     Some((value as u8, rest))
 }
 
-/// The type and the sub-type that a tidied text begins with, and what stands after them.
+/// Reads a type and a sub-type of a tidied text, and returns the rest of the text too.
 fn any_types(text: &[u8]) -> Option<(u8, u8, &[u8])>
     ensures { option_and_then (λ x. plain_rest x.0 x.1 x.2.now) result ≡ types_told text.now }
 {
@@ -120,7 +121,8 @@ fn any_types(text: &[u8]) -> Option<(u8, u8, &[u8])>
     Some((device_type, sub_type, rest))
 }
 
-/// Reads a node of no kind from its type on, as people write it. Returns what stands after it, too.
+/// Reads a node of no known kind from its type on, as people write it, and returns the rest of the
+/// text too.
 pub(crate) fn told_types(text: &[u8]) -> Option<(ParsedNode<'_>, &[u8])>
     ensures { option_map (λ x. (parsed_node x.0, x.1.now)) result ≡ types_told text.now }
 {
@@ -128,7 +130,7 @@ pub(crate) fn told_types(text: &[u8]) -> Option<(ParsedNode<'_>, &[u8])>
     plain_from(device_type, sub_type, rest)
 }
 
-/// What stands after a number of a byte.
+/// Reads the number of a byte, and returns the rest of the text.
 fn byte_end(text: &[u8]) -> Result<&[u8], Stop>
     ensures { result_map_both (λ x. x.now) (λ e. e) result
         ≡ ok_or (past (any_number 256 text.now)) (stop_at text.now (Number 255)) }
@@ -139,7 +141,8 @@ fn byte_end(text: &[u8]) -> Result<&[u8], Stop>
     }
 }
 
-/// What stands after a node of no kind as people write it, from its type on.
+/// Reads a node of no known kind from its type on, as people write it, and returns only the rest of
+/// the text.
 pub(crate) fn types_end(text: &[u8]) -> Result<&[u8], Stop>
     ensures { result_map_both (λ x. x.now) (λ e. e) result ≡ types_end text.now }
 {

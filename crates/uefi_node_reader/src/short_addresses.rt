@@ -1,5 +1,5 @@
-//! Nodes of connections over IP version 6, read from tidied calls whose addresses stand in any form of RFC
-//! 4291, section 2.2.
+//! Nodes of IPv6 connections, read from tidied calls whose addresses have any form of RFC 4291, section
+//! 2.2.
 #![tactic(auto)]
 
 ghost use Rattle.std.specs.Prelude.{◌≡◌, ◌≤◌, length, take};
@@ -21,14 +21,14 @@ use uefi_node_table::rows::Tail;
 /// The address `::`.
 const NO_ADDRESS: Address = Address { octets: [0; 16] };
 
-/// Whether a byte ends an address.
+/// Returns whether a byte ends an address.
 fn ends_address(byte: u8) -> bool
     ensures { result ≡ ends_address byte }
 {
     byte == b',' || byte == b')' || byte == b']'
 }
 
-/// How many bytes of a text stand before one that ends an address.
+/// Returns the number of bytes before the first byte that ends an address.
 fn address_len(text: &[u8]) -> usize
     ensures place { result ≡ position_or_len ends_address text.now }
     ensures within { result ≤ length text.now }
@@ -41,7 +41,7 @@ fn address_len(text: &[u8]) -> usize
     text.len()
 }
 
-/// The address that a text begins with, and what stands after it.
+/// Reads an address, and returns the rest of the text too.
 fn bare_address(text: &[u8]) -> Option<(Address, &[u8])>
     ensures { option_map (λ x. (x.0.octets, x.1.now)) result ≡ bare_address text.now }
 {
@@ -50,7 +50,7 @@ fn bare_address(text: &[u8]) -> Option<(Address, &[u8])>
     Some((address, rest))
 }
 
-/// The same of an address from the byte after `[` on.
+/// Reads an address from the byte after `[` on, and the `]`. Returns the rest of the text too.
 fn closed_address(text: &[u8]) -> Option<(Address, &[u8])>
     ensures { option_map (λ x. (x.0.octets, x.1.now)) result ≡ closed_address text.now }
 {
@@ -59,7 +59,7 @@ fn closed_address(text: &[u8]) -> Option<(Address, &[u8])>
     Some((address, rest))
 }
 
-/// The same of an address that may stand in brackets.
+/// Reads an address, perhaps in brackets, and returns the rest of the text too.
 fn address(text: &[u8]) -> Option<(Address, &[u8])>
     ensures { option_map (λ x. (x.0.octets, x.1.now)) result ≡ address_read text.now }
 {
@@ -69,7 +69,7 @@ fn address(text: &[u8]) -> Option<(Address, &[u8])>
     }
 }
 
-/// The protocol that a text begins with, by its name or its number, and what stands after it.
+/// Reads a protocol, by its name or its number, and returns the rest of the text too.
 fn protocol(text: &[u8]) -> Option<(u16, &[u8])>
     ensures { option_map (λ x. (x.0, x.1.now)) result ≡ protocol_read text.now }
 {
@@ -83,7 +83,7 @@ fn protocol(text: &[u8]) -> Option<(u16, &[u8])>
     Some((number as u16, rest))
 }
 
-/// The origin of an address that a text begins with, and what stands after it.
+/// Reads the origin of an address, and returns the rest of the text too.
 fn origin(text: &[u8]) -> Option<(u8, &[u8])>
     ensures { option_map (λ x. (x.0, x.1.now)) result ≡ origin_read text.now }
 {
@@ -97,14 +97,14 @@ fn origin(text: &[u8]) -> Option<(u8, &[u8])>
     Some((2, rest))
 }
 
-/// Whether a text is the end of a call: a `)` alone.
+/// Returns whether a text is only the `)` at the end of a call.
 fn closes_call(text: &[u8]) -> bool
     ensures { result ≡ closes_call text.now }
 {
     text.len() == 1 && text[0] == b')'
 }
 
-/// The prefix length and the gateway that end a call.
+/// Reads the prefix length and the gateway at the end of a call.
 fn last_fields(text: &[u8]) -> Option<(u8, Address)>
     ensures { option_map (λ x. (x.0, x.1.octets)) result ≡ last_fields text.now }
 {
@@ -116,14 +116,16 @@ fn last_fields(text: &[u8]) -> Option<(u8, Address)>
     Some((prefix_length as u8, gateway))
 }
 
-/// The same after a comma. A node without them has other data, and is read with whole addresses alone.
+/// Reads the prefix length and the gateway at the end of a call, after a comma. A node without them has
+/// other data, and is read only with whole addresses.
 fn gateway(text: &[u8]) -> Option<(u8, Address)>
     ensures { option_map (λ x. (x.0, x.1.octets)) result ≡ gateway_read text.now }
 {
     last_fields(after(b",", text)?)
 }
 
-/// The local address, the prefix length and the gateway that end a call, or zeros.
+/// Reads the local address, the prefix length and the gateway at the end of a call, or zeros if all are
+/// omitted.
 fn local(text: &[u8]) -> Option<(Address, u8, Address)>
     ensures { option_map (λ x. (x.0.octets, x.1, x.2.octets)) result ≡ local_read text.now }
 {
@@ -135,7 +137,7 @@ fn local(text: &[u8]) -> Option<(Address, u8, Address)>
     Some((local, prefix_length, gateway))
 }
 
-/// The data of a connection without ports, and eight zeros.
+/// Returns the data of a connection without ports, and eight zeros.
 fn connection(remote: Address, protocol: u16, origin: u8, local: (Address, u8, Address)) -> [u8; 64]
     ensures { take 56 result
         ≡ connection remote.octets protocol origin (local.0.octets, local.1, local.2.octets) }
@@ -154,7 +156,7 @@ fn connection(remote: Address, protocol: u16, origin: u8, local: (Address, u8, A
     data
 }
 
-/// The data that a call tells from after the remote address on, and eight zeros.
+/// Reads the end of a call after the remote address. Returns the data of the connection, and eight zeros.
 fn settings(remote: Address, text: &[u8]) -> Option<[u8; 64]>
     ensures { option_map (λ x. take 56 x) result ≡ settings_read remote.octets text.now }
 {
@@ -167,7 +169,7 @@ fn settings(remote: Address, text: &[u8]) -> Option<[u8; 64]>
     Some(connection(remote, protocol, origin, local))
 }
 
-/// The data that a whole call tells, and eight zeros.
+/// Reads a whole call. Returns the data of the connection, and eight zeros.
 fn call_data(text: &[u8]) -> Option<[u8; 64]>
     ensures { option_map (λ x. take 56 x) result ≡ call_data text.now }
 {
@@ -175,14 +177,14 @@ fn call_data(text: &[u8]) -> Option<[u8; 64]>
     settings(remote, rest)
 }
 
-/// Whether a form's data end with their fixed part.
+/// Returns whether a form's data ends with its fixed part.
 fn is_fixed(tail: Tail) -> bool
     ensures { result ≡ is_fixed tail }
 {
     matches!(tail, Tail::Nothing)
 }
 
-/// The node, if the text that it is printed in tells it.
+/// Returns the node, if it is completely described by the text that it is printed as.
 fn told_fixed<'a>(node: ParsedNode<'a>) -> Option<ParsedNode<'a>>
     ensures { option_map parsed_node result ≡ told_fixed (parsed_node node.entry) }
 {
@@ -194,7 +196,7 @@ fn told_fixed<'a>(node: ParsedNode<'a>) -> Option<ParsedNode<'a>>
     Some(node)
 }
 
-/// Reads the IPv6 node of a tidied call whose addresses stand in any form of RFC 4291, section 2.2.
+/// Reads an IPv6 node from a tidied call whose addresses have any form of RFC 4291, section 2.2.
 #[tactic(auto, unfolding(crate::specs::ShortAddresses::short_ipv6))]
 pub(crate) fn short_ipv6(text: &[u8]) -> Option<ParsedNode<'_>>
     ensures { option_map parsed_node result ≡ short_ipv6 text.now }

@@ -13,7 +13,7 @@ use crate::fields::after;
 use crate::node_tails::push_tail;
 use uefi_node_table::rows::Tail;
 
-/// A text that stops here, where this was expected.
+/// Returns the stop at the start of a text, where this was expected.
 pub(crate) fn stop_at(text: &[u8], expected: Expected) -> Stop
     ensures { result ≡ stop_at text.now expected }
 {
@@ -23,7 +23,7 @@ pub(crate) fn stop_at(text: &[u8], expected: Expected) -> Stop
     }
 }
 
-/// The one of two with less of the text left, or else the first.
+/// Returns the stop with less text left, or the first if neither has less.
 pub(crate) fn further(one: Option<Stop>, other: Option<Stop>) -> Option<Stop>
     ensures { result ≡ further one other }
 {
@@ -40,14 +40,15 @@ pub(crate) fn further(one: Option<Stop>, other: Option<Stop>) -> Option<Stop>
     }
 }
 
-/// What stands after a literal as it is printed.
+/// Reads a literal exactly as it is printed, and returns the rest of the text.
 pub(crate) fn exact_end<'a>(literal: &[u8], text: &'a [u8]) -> Result<&'a [u8], Stop>
     ensures { result_map_both (λ x. x.now) (λ e. e) result ≡ exact_end literal.now text.now }
 {
     after(literal, text).ok_or(stop_at(text, Expected::Byte(first_of(literal))))
 }
 
-/// Where the data after the fields stop: bytes in the first of them, and a list at its start.
+/// Returns where the data after the fields stops: in the first of its bytes, or at the start of a
+/// list.
 fn tail_stop(tail: Tail, text: &[u8]) -> Stop
     ensures { result ≡ tail_stop tail text.now }
 {
@@ -58,7 +59,7 @@ fn tail_stop(tail: Tail, text: &[u8]) -> Stop
     }
 }
 
-/// Where the end of a text stops: one more item may stand there, too, if a list ends here.
+/// Returns where the end of a text stops. If a list ends there, another item may follow as well.
 fn close_stop(tail: Tail, close: &[u8], text: &[u8]) -> Stop
     ensures { result ≡ close_stop tail close.now text.now }
 {
@@ -68,7 +69,7 @@ fn close_stop(tail: Tail, close: &[u8], text: &[u8]) -> Stop
     }
 }
 
-/// What stands after the data that follow the fields.
+/// Reads the data after the fields, and returns the rest of the text.
 pub(crate) fn tail_rest<'a>(tail: Tail, close: &[u8], text: &'a [u8]) -> Option<&'a [u8]>
     ensures { option_map (λ x. x.now) result ≡ past (tail_read tail close.now text.now) }
 {
@@ -76,7 +77,8 @@ pub(crate) fn tail_rest<'a>(tail: Tail, close: &[u8], text: &'a [u8]) -> Option<
     Some(rest)
 }
 
-/// What stands after the data that follow the fields, and after the end of the text.
+/// Reads the data after the fields and the end of the text. Returns the rest, or where the text
+/// stops.
 pub(crate) fn rest_end<'a>(tail: Tail, close: &[u8], text: &'a [u8]) -> Result<&'a [u8], Stop>
     ensures { result_map_both (λ x. x.now) (λ e. e) result ≡ rest_end tail close.now text.now }
 {
@@ -84,7 +86,8 @@ pub(crate) fn rest_end<'a>(tail: Tail, close: &[u8], text: &'a [u8]) -> Result<&
     after(close, rest).ok_or(close_stop(tail, close, rest))
 }
 
-/// Where a text stops being that of a node: if all of it was read, its text does not tell the node.
+/// Returns where the text of a node stops. If all of it was read, it does not describe the node
+/// completely.
 pub(crate) fn stop_of(read: Result<&[u8], Stop>) -> Stop
     ensures { result ≡ stop_of (result_map_both (λ x. x.now) (λ e. e) read.entry) }
 {

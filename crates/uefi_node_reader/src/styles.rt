@@ -1,4 +1,4 @@
-//! One node read from its text, in the style of those who write it.
+//! One node, read from its text in a style.
 #![tactic(auto)]
 
 ghost use Rattle.std.specs.Prelude.{◌≡◌, ◌<◌, length};
@@ -12,18 +12,18 @@ use crate::libefivar::{own, own_fault};
 use crate::nodes::{ended, ended_at, read_lenient_node, read_node};
 use crate::parsed_node::ParsedNode;
 
-/// Whose texts are read.
+/// The style of the texts to read.
 #[derive(Clone, Copy, Debug, PartialEq, Eq)]
 pub enum TextStyle {
-    /// Those that are printed to be read back, exactly.
+    /// Texts exactly as they are printed to be read back.
     Printed,
-    /// Those of the specification, as people write them.
+    /// Texts of the specification, as people write them.
     Lenient,
-    /// Those that libefivar prints, and efibootmgr with it.
+    /// Texts as libefivar and efibootmgr print them.
     Libefivar,
 }
 
-/// Whether calls and names are copied before they are read.
+/// Returns whether calls and names of a style are copied before they are read.
 pub fn is_copied(style: TextStyle) -> bool
     ensures { result ≡ is_copied style }
 {
@@ -34,8 +34,8 @@ pub fn is_copied(style: TextStyle) -> bool
     }
 }
 
-/// Reads the node that a text begins with as libefivar prints it, and returns what stands after it, too, or
-/// the fault of the text. The buffer then holds anything.
+/// Reads the node at the start of a text as libefivar prints it. Returns the rest of the text too, or the
+/// fault of the text. Afterwards the contents of the buffer are unspecified.
 #[tactic(auto, unfolding(crate::specs::Libefivar::libefivar_read))]
 fn read_libefivar_node<'s, 't: 's>(
     is_rooted: bool,
@@ -47,7 +47,7 @@ fn read_libefivar_node<'s, 't: 's>(
         ≡ libefivar_read is_rooted text.now }
 {
     if own(scratch, text).is_some() {
-        // Read again: what is returned borrows the buffer, which the lines below need if there is none.
+        // Read again, because the node borrows the buffer, and the lines below need the buffer.
         let Some(read) = own(scratch, text) else {
             unreachable!()
         };
@@ -59,11 +59,12 @@ fn read_libefivar_node<'s, 't: 's>(
     read_lenient_node(is_rooted, scratch, text)
 }
 
-/// Reads the node that a text begins with in a style, and returns what stands after it, too: nothing,
-/// or a slash or a comma first. A file's name has to begin with a backslash where it is rooted. The
-/// buffer then holds anything. Takes no memory but the buffer, for a copy of the call or of the name.
+/// Reads the node at the start of a text in a style, and returns the rest of the text too. The rest is
+/// empty, or begins with a slash or a comma. If `is_rooted`, the name of a file has to begin with a
+/// backslash. The buffer is for a copy of the call or the name; afterwards its contents are unspecified.
+/// Does not allocate.
 ///
-/// Returns why no node is read, too: the byte that is wrong, and what has to stand there.
+/// An error gives the offset of the wrong byte, and what is expected there.
 #[tactic(auto, unfolding(crate::specs::Styles::styled_read))]
 pub fn read_styled_node<'s, 't: 's>(
     style: TextStyle,
@@ -85,9 +86,9 @@ pub fn read_styled_node<'s, 't: 's>(
     }
 }
 
-/// What is read is told, and what stands after it is the rest of the text, which is empty or begins
-/// with a slash or a comma; the text begins with neither. What is read exactly before one of these is
-/// read as the same node in the styles of printed texts and of people.
+/// A node that is read is completely described by its text. The rest is shorter than the text, and is empty
+/// or begins with a slash or a comma. The text itself is not empty, and begins with neither. A node that is
+/// read exactly before such a rest is read as the same node in the styles `Printed` and `Lenient`.
 pub fn styled_nodes_are_read()
     ensures takes { StyledTakes }
     ensures ends { StyledEnds }
@@ -96,7 +97,7 @@ pub fn styled_nodes_are_read()
     ensures exactly { PrintedExactly }
 {}
 
-/// The wrong byte of a text lies in it, or at its end.
+/// The offset of the wrong byte is at most the length of the text.
 pub fn faults_lie_within()
     ensures { StyledFaultWithin }
 {}

@@ -1,4 +1,4 @@
-//! Nodes read by the table.
+//! Nodes read by the table of forms.
 #![tactic(auto)]
 
 ghost use Rattle.std.specs.List.{list_all};
@@ -21,8 +21,8 @@ use uefi_node_table::printing::{begin_with_kind, matches};
 use uefi_node_table::rows::{Mode, Row};
 use uefi_node_table::table::{GROUPS, group};
 
-/// The letters that the texts of the forms in each group begin with, a bit for each: that of a byte by its
-/// low six bits. Most groups have no form that begins with the first letter of a text.
+/// The first letters of the texts of the forms in each group, with a bit for each letter: the bit of a byte
+/// is the number of its low six bits. Most groups have no form that begins with the first letter of a text.
 const FIRST_LETTERS: [u64; GROUPS] = [
     0x0041_200c,
     0x0009_0842,
@@ -38,7 +38,7 @@ const FIRST_LETTERS: [u64; GROUPS] = [
     0x0000_0004,
 ];
 
-/// Puts bytes at their places.
+/// Puts bytes at their places in data.
 fn put_bytes(content: &mut [u8], bytes: &[(u8, u8)])
     requires { IsTrue (are_within (length content.old) bytes.now) }
     ensures { content.new ≡ put_all bytes.now content.old }
@@ -48,7 +48,7 @@ fn put_bytes(content: &mut [u8], bytes: &[(u8, u8)])
     }
 }
 
-/// The fixed part of a form's data, and zeros after it.
+/// Returns the fixed part of a form's data, with zeros after it.
 pub(crate) fn fixed_part(row: &Row) -> [u8; 64]
     requires { IsTrue (is_filled (as_form row.now)) }
     ensures { take row.now.least result ≡ blank (as_form row.now) }
@@ -59,8 +59,8 @@ pub(crate) fn fixed_part(row: &Row) -> [u8; 64]
     fixed
 }
 
-/// Reads a node of a form whose first fields were read, from the data after the fixed part on. Returns what
-/// stands after it, too.
+/// Reads the rest of a node of a form whose first fields were read, from the data after the fixed part on.
+/// Returns the rest of the text too.
 pub(crate) fn finish_row<'a>(
     row: &Row,
     fixed: [u8; 64],
@@ -86,7 +86,7 @@ pub(crate) fn finish_row<'a>(
     node.with_fields(row.rest.as_slice(), rest)
 }
 
-/// Reads a node of a form. Returns what stands after it, too.
+/// Reads a node of a form, and returns the rest of the text too.
 pub(crate) fn read_row<'a>(row: &Row, text: &'a [u8]) -> Option<(ParsedNode<'a>, &'a [u8])>
     requires sound { IsTrue (is_sound (as_form row.now)) }
     requires filled { IsTrue (is_filled (as_form row.now)) }
@@ -116,7 +116,7 @@ struct PrintedNode<'a> {
     content: &'a [u8],
 }
 
-/// The forms that it is printed in.
+/// The test for forms that the node is printed in.
 impl FormTest for PrintedNode<'_> {
     ghost test = { λ node. prints (node_with node.kind node.sub_kind node.content.now) };
 
@@ -129,8 +129,8 @@ impl FormTest for PrintedNode<'_> {
     }
 }
 
-/// Whether a text may begin with the start of a form, by the first two bytes of both: most forms go no
-/// further.
+/// Returns whether a text may begin with the start of a form, by the first two bytes of both. Most forms
+/// fail this test.
 #[inline(always)]
 fn begin_alike(start: &[u8], text: &[u8]) -> bool
     ensures { result ≡ false → after start.now text.now ≡ None }
@@ -141,7 +141,7 @@ fn begin_alike(start: &[u8], text: &[u8]) -> bool
     }
 }
 
-/// Reads a node of the form at a place of the table, if it is printed in that form.
+/// Reads a node of the form at an index of the table, if it is printed in that form.
 fn read_kept<'a>(row: &Row, place: usize, text: &'a [u8]) -> Option<(ParsedNode<'a>, &'a [u8])>
     requires sound { IsTrue (is_sound (as_form row.now)) }
     requires filled { IsTrue (is_filled (as_form row.now)) }
@@ -160,7 +160,8 @@ fn read_kept<'a>(row: &Row, place: usize, text: &'a [u8]) -> Option<(ParsedNode<
     Some((node, rest))
 }
 
-/// Reads the node that a text begins with, in one of these forms, before which this many stand in the table.
+/// Reads the node at the start of a text in one of these forms, which have the indices from `before` on in
+/// the table.
 fn read_group<'a>(rows: &[Row], before: usize, text: &'a [u8]) -> Option<(ParsedNode<'a>, &'a [u8])>
     requires sound { IsTrue (list_all is_sound (map as_form rows.now)) }
     requires filled { IsTrue (list_all is_filled (map as_form rows.now)) }
@@ -178,7 +179,7 @@ fn read_group<'a>(rows: &[Row], before: usize, text: &'a [u8]) -> Option<(Parsed
     None
 }
 
-/// Whether a text begins with one of these letters.
+/// Returns whether a text begins with one of these letters.
 fn begins_in(letters: u64, text: &[u8]) -> bool
     ensures { result ≡ begins_in letters text.now }
 {
@@ -188,7 +189,7 @@ fn begins_in(letters: u64, text: &[u8]) -> bool
     }
 }
 
-/// The letters that the texts of the forms in a group begin with.
+/// Returns the letters that the texts of the forms in a group begin with.
 fn first_letters(index: usize) -> u64
     requires { index < 12 }
     ensures { IsTrue (all_begin_in result (group_forms index)) }
@@ -196,7 +197,8 @@ fn first_letters(index: usize) -> u64
     FIRST_LETTERS[index]
 }
 
-/// The same in forms that begin with these letters.
+/// Reads the node at the start of a text in one of these forms, as [`read_group`] does. Their texts begin
+/// with these letters.
 fn read_letters<'a>(
     letters: u64,
     rows: &[Row],
@@ -216,7 +218,7 @@ fn read_letters<'a>(
     read_group(rows, before, text)
 }
 
-/// Reads the node that a text begins with, in a form of the table. Returns what stands after it, too.
+/// Reads the node at the start of a text in a form of the table, and returns the rest of the text too.
 pub(crate) fn by_table(text: &[u8]) -> Option<(ParsedNode<'_>, &[u8])>
     ensures { option_map (λ x. (parsed_node x.0, x.1.now)) result ≡ table_read forms text.now }
 {

@@ -1,4 +1,4 @@
-//! Calls that hold a text, as people write them: what stands around the text may differ from its printed
+//! Calls that contain a text, as people write them. The call around the text may differ from its printed
 //! form.
 #![tactic(auto)]
 
@@ -22,7 +22,7 @@ use crate::table_reader::fixed_part;
 use crate::tidied::{place_at, tidied_len};
 use uefi_node_table::rows::{Mode, Row, Tail};
 
-/// Whether a form is read, and holds a text.
+/// Returns whether a form is read and contains a text.
 fn holds_text(mode: Mode, tail: Tail) -> bool
     ensures { result ≡ holds_text mode tail }
 {
@@ -32,21 +32,21 @@ fn holds_text(mode: Mode, tail: Tail) -> bool
     }
 }
 
-/// Whether a form is read, and holds the IDs of a device.
+/// Returns whether a form is read and contains the IDs of a device.
 fn holds_ids(mode: Mode, tail: Tail) -> bool
     ensures { result ≡ holds_ids mode tail }
 {
     matches!((mode, tail), (Mode::Read, Tail::Ids))
 }
 
-/// What is left of the text of a call where this is left of the tidied call.
+/// Returns the rest of a call from this rest of the tidied call.
 fn left_of<'a>(front: &'a [u8], call: &[u8], left: &[u8]) -> &'a [u8]
     ensures { result.now ≡ left_of front.now call.now left.now }
 {
     &front[place_at(call.len().saturating_sub(left.len()), front)..]
 }
 
-/// A text, or the empty strings of the IDs of a device, if these are left out.
+/// Returns a text, or the commas between empty strings if the IDs of a device are omitted.
 fn or_commas(tail: Tail, text: &[u8]) -> &[u8]
     ensures { result.now ≡ or_commas tail text.now }
 {
@@ -56,7 +56,7 @@ fn or_commas(tail: Tail, text: &[u8]) -> &[u8]
     }
 }
 
-/// Where a tidied call stops of which this is left.
+/// Returns the stop of a tidied call before this rest of the call.
 fn stop_before(left: &[u8], expected: Expected) -> Stop
     ensures { result ≡ stop_before left.now expected }
 {
@@ -66,7 +66,7 @@ fn stop_before(left: &[u8], expected: Expected) -> Stop
     }
 }
 
-/// What is left from the end of the second string of IDs on, by what follows the first.
+/// Returns the rest of a text from the end of the second ID string on, given the text after the first.
 fn past_second(text: &[u8]) -> &[u8]
     ensures { result.now ≡ past_second text.now }
 {
@@ -76,7 +76,7 @@ fn past_second(text: &[u8]) -> &[u8]
     }
 }
 
-/// Where a text stops that is not read: one of the IDs of a device is left out, or a name is too long.
+/// Returns where a text stops that is not read, because an ID of a device is omitted or a name is too long.
 fn text_stop(tail: Tail, text: &[u8]) -> Stop
     ensures { result ≡ text_stop tail text.now }
 {
@@ -87,14 +87,14 @@ fn text_stop(tail: Tail, text: &[u8]) -> Stop
     }
 }
 
-/// The end of a tidied call where this is left of the call.
+/// Returns the end of a tidied call from this rest of the call.
 fn call_left<'a>(call: &'a [u8], left: &[u8]) -> &'a [u8]
     ensures { result.now ≡ call_left call.now left.now }
 {
     &call[call.len().saturating_sub(tidied_len(left))..]
 }
 
-/// Reads a node of a form with this fixed part, from its text on in its call, given the tidied call.
+/// Reads a node of a form with this fixed part, from the text in its call on and from the tidied call.
 fn text_told<'a>(
     row: &Row,
     fixed: [u8; 64],
@@ -130,7 +130,7 @@ fn text_told<'a>(
     }
 }
 
-/// The same, where the call holds the second of three strings of IDs alone.
+/// Reads a node of a form with this fixed part, if the call contains only the ID string of `_UID`.
 fn uid_told<'a>(row: &Row, fixed: [u8; 64], words: &'a [u8]) -> Result<ParsedNode<'a>, Stop>
     requires sound { IsTrue (is_sound (as_form row.now)) }
     requires filled { IsTrue (is_filled (as_form row.now)) }
@@ -158,7 +158,7 @@ fn uid_told<'a>(row: &Row, fixed: [u8; 64], words: &'a [u8]) -> Result<ParsedNod
     }
 }
 
-/// Puts the fields before a text into the fixed part of a form. Returns what is left of the tidied call.
+/// Puts the fields before a text into the fixed part of a form. Returns the rest of the tidied call.
 fn set_head<'a>(row: &Row, content: &mut [u8], call: &'a [u8]) -> Result<&'a [u8], Stop>
     requires sound { IsTrue (is_sound (as_form row.now)) }
     requires read { IsTrue (is_read row.now.mode) }
@@ -171,7 +171,7 @@ fn set_head<'a>(row: &Row, content: &mut [u8], call: &'a [u8]) -> Result<&'a [u8
     set_pieces(row.kind, row.sub_kind, row.pieces.as_slice(), content, rest)
 }
 
-/// Reads a node of a form that holds a text, from its call up to the `)`, given the tidied call.
+/// Reads a node of a form that contains a text, from the part of a call before its `)` and the tidied call.
 fn text_call<'a>(row: &Row, front: &'a [u8], call: &'a [u8]) -> Result<ParsedNode<'a>, Stop>
     requires sound { IsTrue (is_sound (as_form row.now)) }
     requires filled { IsTrue (is_filled (as_form row.now)) }
@@ -189,7 +189,7 @@ fn text_call<'a>(row: &Row, front: &'a [u8], call: &'a [u8]) -> Result<ParsedNod
     )
 }
 
-/// The same, where the call holds the second of three strings of IDs alone.
+/// Reads a node of a form whose call contains only the ID string of `_UID`.
 fn uid_call<'a>(row: &Row, front: &'a [u8], call: &'a [u8]) -> Result<ParsedNode<'a>, Stop>
     requires sound { IsTrue (is_sound (as_form row.now)) }
     requires filled { IsTrue (is_filled (as_form row.now)) }
@@ -202,7 +202,7 @@ fn uid_call<'a>(row: &Row, front: &'a [u8], call: &'a [u8]) -> Result<ParsedNode
     uid_told(row, fixed, left_of(front, call, rest))
 }
 
-/// A call with its text.
+/// An attempt that reads a call with its text.
 struct TextCall;
 
 impl Attempt for TextCall {
@@ -223,7 +223,7 @@ impl Attempt for TextCall {
     }
 }
 
-/// A call with the second of three strings of IDs alone.
+/// An attempt that reads a call whose only ID string is `_UID`.
 struct UidCall;
 
 impl Attempt for UidCall {
@@ -244,8 +244,8 @@ impl Attempt for UidCall {
     }
 }
 
-/// Reads a node from its call up to the `)`, given the tidied call, if a form that holds a text has its name,
-/// or says where that stops.
+/// Reads a call in a form that contains a text, from the part before its `)` and the tidied call. Fails with
+/// where the call stops, or with `None` if no such form has its name.
 pub(crate) fn try_texts<'a>(front: &'a [u8], call: &'a [u8]) -> Result<ParsedNode<'a>, Option<Stop>>
     ensures { result_map_both parsed_node (λ e. e) result ≡ texts_tried front.now call.now }
 {

@@ -1,4 +1,4 @@
-//! Calls without their blanks and in upper case, and where their bytes stand in the text.
+//! Calls in upper case and without blanks, and where their bytes are in the text.
 #![tactic(auto)]
 
 ghost use Rattle.std.specs.Option.{option_map};
@@ -7,14 +7,14 @@ ghost use Rattle.uefi_node_reader.specs.LenientCalls.{cut_call, is_blank, place_
 
 use crate::counted_bytes::push;
 
-/// Whether a byte of a call is passed over: a blank, a line end, or a brace around a GUID.
+/// Returns whether a byte of a call is skipped: a blank, a line end, or a brace around a GUID.
 pub(crate) fn is_blank(byte: u8) -> bool
     ensures { result ≡ is_blank byte }
 {
     byte.is_ascii_whitespace() || byte == b'{' || byte == b'}'
 }
 
-/// A byte in upper case, but an `x` as the table has it in `0x`.
+/// Returns a byte in upper case, except for `x`, which the table has in `0x`.
 fn tidied_byte(byte: u8) -> u8
     ensures { result ≡ tidied_byte byte }
 {
@@ -24,8 +24,8 @@ fn tidied_byte(byte: u8) -> u8
     }
 }
 
-/// Puts the text of a call up to its `)` into a buffer, in such bytes and without blanks. Returns how many
-/// bytes these are.
+/// Copies the part of a call before its `)` to a buffer, in upper case except for `x` and without blanks,
+/// and adds the `)`. Returns the number of bytes.
 pub(crate) fn tidy(scratch: &mut [u8], text: &[u8]) -> usize
     requires { length text.now < length scratch.old }
     ensures within { result ≤ length scratch.old }
@@ -40,7 +40,7 @@ pub(crate) fn tidy(scratch: &mut [u8], text: &[u8]) -> usize
     push(scratch, len, b')')
 }
 
-/// How many bytes a tidied call has.
+/// Returns the number of bytes of a tidied call.
 pub(crate) fn tidied_len(text: &[u8]) -> usize
     ensures { result ≡ length (tidied text.now) }
 {
@@ -53,7 +53,7 @@ pub(crate) fn tidied_len(text: &[u8]) -> usize
     len
 }
 
-/// Where a text has the first of these bytes.
+/// Returns the index of the first of these bytes in a text.
 pub(crate) fn place_of(mark: u8, text: &[u8]) -> Option<usize>
     ensures place { result ≡ position (λ c. c == mark) text.now }
     ensures within { IfSome result (λ place. place < length text.now) }
@@ -61,7 +61,7 @@ pub(crate) fn place_of(mark: u8, text: &[u8]) -> Option<usize>
     text.iter().position(|byte| *byte == mark)
 }
 
-/// What stands before the first `)`, and what after it.
+/// Splits a text at its first `)`, and omits that byte.
 pub(crate) fn cut_call(text: &[u8]) -> Option<(&[u8], &[u8])>
     ensures { option_map (λ x. (x.0.now, x.1.now)) result ≡ cut_call text.now }
 {
@@ -69,7 +69,7 @@ pub(crate) fn cut_call(text: &[u8]) -> Option<(&[u8], &[u8])>
     Some((&text[..place], &text[place + 1..]))
 }
 
-/// Where a byte stands that has this many bytes before it but blanks.
+/// Returns the index of the byte that this many other bytes precede, not counting blanks.
 pub(crate) fn place_at(count: usize, text: &[u8]) -> usize
     ensures place { result ≡ place_at count text.now }
     ensures within { result ≤ length text.now }

@@ -1,4 +1,4 @@
--- What is printed of a field, by its shape.
+-- The texts of fields, by their shapes.
 use Rattle.std.specs.Prelude.{ℕ, ◌+◌, nat_le, Bool, true, ◌==◌, ◌&&◌, if◌then◌else◌, List, codes}
 use Rattle.std.specs.Fmt.{decimal}
 use Rattle.uefi_text.specs.Packed.{little_endian}
@@ -7,7 +7,7 @@ use Rattle.uefi_node_table.specs.Words.{word_text, words_of}
 use Rattle.uefi_node_table.specs.declared.rows.Shape.{Shape}
 use Rattle.uefi_node_table.specs.declared.rows.Shape.TheVariants.{Hexadecimal, Decimal, OrDefault, Back, Forth, Dashed, Next, Eisa, Word}
 
--- a number in decimal, or a word in place of 0
+-- a number in decimal, or `DEFAULT` for 0
 abbrev pub default_text : ℕ → List ℕ
 default_text n = if n == 0 then codes "DEFAULT" else decimal n
 
@@ -23,7 +23,7 @@ field_text Next bytes = hex (little_endian bytes + 1)
 field_text Eisa bytes = eisa_text (little_endian bytes)
 field_text (Word words) bytes = word_text (words_of words) (little_endian bytes)
 
--- the test for a width that a field may have: one to eight bytes where it is a number
+-- whether a field of a shape may have a width: from one to eight bytes for a number
 abbrev pub fits_shape : Shape → ℕ → Bool
 fits_shape Hexadecimal width = nat_le 1 width && nat_le width 8
 fits_shape Decimal width = nat_le 1 width && nat_le width 8

@@ -7,20 +7,20 @@ use Rattle.uefi_node_table.specs.declared.parts.Pieces.{Pieces}
 use Rattle.uefi_node_table.specs.declared.parts.Text.{Text}
 use Rattle.uefi_node_table.specs.declared.rows.PieceOf.{PieceOf}
 
--- the part that has a number: from where it begins to where the next does
+-- the part with a number: from its start to the start of the next part
 abbrev pub part_of : {X : Type 0} → List X → List ℕ → ℕ → List X
 part_of items starts number =
     take (slice_index starts (number + 1) - slice_index starts number)
     (drop (slice_index starts number) items)
 
--- the text
+-- a packed text, unpacked
 unfoldable pub packed_text : Text → List ℕ
 packed_text t = part_of TEXTS TEXT_STARTS t.number
 
--- the bytes: where each lies, and what it is
+-- packed bytes, each with its offset and its value
 unfoldable pub packed_bytes : Bytes → List (ℕ × ℕ)
 packed_bytes b = part_of BYTES BYTE_STARTS b.number
 
--- the fields
+-- packed fields
 unfoldable pub packed_pieces : Pieces → List (PieceOf ℕ Text)
 packed_pieces p = part_of PIECES PIECE_STARTS p.number

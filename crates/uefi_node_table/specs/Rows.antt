@@ -1,4 +1,4 @@
--- The forms of nodes: how each is printed (UEFI Specification 2.10, section 10.6.1).
+-- The forms of nodes, and how they are printed (UEFI Specification 2.10, section 10.6.1).
 use Rattle.std.specs.Prelude.{ℕ, ◌+◌, ◌/◌, Bool, true, false, nat_le, ◌==◌, ◌&&◌, if◌then◌else◌, List, [], ◌∷◌, ◌++◌, length, drop, take, slice_range, slice_index, map, Option, Some, None}
 use Rattle.std.specs.List.{flat_map, list_all}
 use Rattle.std.specs.Simd.{first_chunks}
@@ -20,7 +20,7 @@ use Rattle.uefi_node_table.specs.declared.rows.Items.{Items}
 use Rattle.uefi_node_table.specs.declared.rows.Items.TheVariants.{Numbers, Ipv4, Ipv6}
 use Rattle.uefi_node_table.specs.declared.table.TheConstants.{NUMBERS, IPV4_ADDRESSES, IPV6_ADDRESSES}
 
--- a field: how it stands in the text, where it lies in the data, and what stands after it
+-- a field: its shape in the text, its offset and width in the data, and the text after it
 pub record Piece : Type 0 where
   pub shape : Shape
   pub place : ℕ
@@ -42,11 +42,11 @@ pub record Form : Type 0 where
   pub close : List ℕ
   pub rest : List Piece
 
--- the field that a packed one is
+-- a packed field, unpacked
 abbrev pub as_piece : PieceOf ℕ PackedText → Piece
 as_piece p = record { shape = p.shape; place = p.place; width = p.width; ending = packed_text p.ending }
 
--- the form that a packed one is
+-- a packed form, unpacked
 abbrev pub as_form : RowOf ℕ PackedText PackedBytes Pieces → Form
 as_form r = record {
   kind = r.kind;
@@ -63,11 +63,11 @@ as_form r = record {
   rest = map as_piece (packed_pieces r.rest);
 }
 
--- the field that a written one is
+-- a field in the source of the table
 abbrev pub const_piece : PieceOf ℕ (record { now : List ℕ }) → Piece
 const_piece p = record { shape = p.shape; place = p.place; width = p.width; ending = p.ending.now }
 
--- the form that a written one is
+-- a form in the source of the table
 abbrev pub const_form : RowOf ℕ (record { now : List ℕ }) (record { now : List (ℕ × ℕ) })
     (record { now : List (PieceOf ℕ (record { now : List ℕ })) }) → Form
 const_form r = record {
@@ -85,25 +85,25 @@ const_form r = record {
   rest = map const_piece r.rest.now;
 }
 
--- the bytes of a field in data
+-- the bytes of a field of data
 abbrev pub value_at : Piece → List ℕ → List ℕ
 value_at piece content = slice_range content piece.place (piece.place + piece.width)
 
--- the text of a field, and what stands after it
+-- the text of a field, and its ending
 abbrev pub piece_text : List ℕ → Piece → List ℕ
 piece_text content piece = field_text piece.shape (value_at piece content) ++ piece.ending
 
--- the text of fields
+-- the text of fields, and their endings
 abbrev pub pieces_text : List Piece → List ℕ → List ℕ
 pieces_text pieces content = flat_map (piece_text content) pieces
 
--- what each item of a list has: how many bytes, what its text begins with, and its fields
+-- an item of a list: the number of its bytes, the start of its text, and its fields
 pub record Item : Type 0 where
   pub size : ℕ
   pub start : List ℕ
   pub pieces : List Piece
 
--- the item that a packed one is
+-- a packed item, unpacked
 abbrev pub as_item : ItemOf PackedText Pieces → Item
 as_item i = record {
   size = i.size;
@@ -111,12 +111,12 @@ as_item i = record {
   pieces = map as_piece (packed_pieces i.pieces);
 }
 
--- the item that a written one is
+-- an item in the source of the table
 abbrev pub const_item :
     ItemOf (record { now : List ℕ }) (record { now : List (PieceOf ℕ (record { now : List ℕ })) }) → Item
 const_item i = record { size = i.size; start = i.start.now; pieces = map const_piece i.pieces.now }
 
--- the items of a list
+-- the item of a list
 unfoldable pub item_of : Items → Item
 item_of Numbers = const_item NUMBERS
 item_of Ipv4 = const_item IPV4_ADDRESSES
@@ -145,22 +145,22 @@ tail_text Padded bytes = shown_bytes (until_nul (take 32 bytes))
 tail_text Ids bytes = id_strings_text bytes
 tail_text (Repeated items) bytes = list_text (item_of items) bytes
 
--- the text of a node of a form, by its data
+-- the text of a node in a form, from its data
 abbrev pub form_text : Form → List ℕ → List ℕ
 form_text form content = form.start ++ (pieces_text form.pieces content
     ++ (tail_text form.tail (drop (form.least) content) ++ (form.close ++ pieces_text form.rest content)))
 
--- the test for data that hold these bytes
+-- whether data contains these bytes
 abbrev pub has_bytes : List (ℕ × ℕ) → List ℕ → Bool
 has_bytes bytes content = list_all (λ b. slice_index content b.0 == b.1) bytes
 
--- the test for a form that is used for a text, for display alone or not
+-- whether a form is used for a text, which may be only for display
 abbrev pub is_used : Bool → Mode → Bool
 is_used display_only Read = true
 is_used display_only Printed = true
 is_used display_only Display = display_only
 
--- the test for a form that a node of a type, a sub-type and data may have
+-- whether a form can print a node of a type, a sub-type and data
 abbrev pub matches : Bool → ℕ → ℕ → List ℕ → Form → Bool
 matches display_only kind sub_kind content form =
     ((form.kind == kind) && ((form.sub_kind == sub_kind) && is_used display_only form.mode))
@@ -171,17 +171,17 @@ abbrev pub find_form : (Form → Bool) → List Form → Option Form
 find_form test [] = None
 find_form test (form ∷ forms) = if test form then Some form else find_form test forms
 
--- the test for forms of nodes of one type
+-- whether all forms are for nodes of one type
 abbrev pub have_one_kind : List Form → Bool
 have_one_kind [] = true
 have_one_kind (form ∷ forms) = list_all (λ other. other.kind == form.kind) forms
 
--- the test for forms of which the first is for nodes of this type
+-- whether the first of these forms is for nodes of this type
 abbrev pub begin_with_kind : ℕ → List Form → Bool
 begin_with_kind kind [] = false
 begin_with_kind kind (form ∷ forms) = form.kind == kind
 
--- the test for a field that lies within this many bytes
+-- whether a field ends within `size` bytes, and its width fits its shape
 abbrev pub is_within : ℕ → Piece → Bool
 is_within size piece = nat_le (piece.place + piece.width) size && fits_shape piece.shape piece.width
 
@@ -189,6 +189,6 @@ is_within size piece = nat_le (piece.place + piece.width) size && fits_shape pie
 abbrev pub fields_of : Form → List Piece
 fields_of form = form.pieces ++ form.rest
 
--- the test for a form whose fields lie in the fixed part
+-- whether all fields of a form end within the fixed part
 abbrev pub is_laid_out : Form → Bool
 is_laid_out form = list_all (is_within (form.least)) (fields_of form)

@@ -18,7 +18,7 @@ group_forms index = if index == 0 then map const_form HARDWARE.now else
     if index == 10 then map const_form MEDIA.now else
     if index == 11 then map const_form BOOT.now else []
 
--- those of this many groups from one on
+-- the forms of `count` groups from a group on
 abbrev pub forms_from : ℕ → ℕ → List Form
 forms_from index zero = []
 forms_from index (suc count) = group_forms index ++ forms_from (index + 1) count
@@ -31,20 +31,20 @@ forms = forms_from 0 12
 abbrev pub form_of : Bool → ℕ → ℕ → List ℕ → Option Form
 form_of display_only kind sub_kind content = find_form (matches display_only kind sub_kind content) forms
 
--- the test for a form that was found
+-- whether a form was found
 abbrev pub is_found : Option Form → Bool
 is_found None = false
 is_found (Some form) = true
 
--- the text of data in a form, or nothing
+-- the text of data in a form, or an empty text if there is none
 abbrev pub text_in : Option Form → List ℕ → List ℕ
 text_in None content = []
 text_in (Some form) content = form_text form content
 
--- the test for a node that has a form of the table
+-- whether the table has a form for a node
 unfoldable pub has_form : Bool → ℕ → ℕ → List ℕ → Bool
 has_form display_only kind sub_kind content = is_found (form_of display_only kind sub_kind content)
 
--- the text of a node in its form of the table, or nothing
+-- the text of a node in its form of the table, or an empty text if it has none
 unfoldable pub table_text : Bool → ℕ → ℕ → List ℕ → List ℕ
 table_text display_only kind sub_kind content = text_in (form_of display_only kind sub_kind content) content

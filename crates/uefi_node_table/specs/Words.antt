@@ -7,17 +7,17 @@ use Rattle.uefi_node_table.specs.declared.words.Words.{Words}
 use Rattle.uefi_node_table.specs.declared.words.Words.TheVariants.{Parity, StopBits, Digests, Login, Protocol}
 use Rattle.uefi_node_table.specs.declared.words.WordOf.{WordOf}
 
--- a word: the bits of a number that count, what they are, and the text
+-- a word: the bits of a number that count, their value, and the text
 pub record Word : Type 0 where
   pub mask : ℕ
   pub number : ℕ
   pub text : List ℕ
 
--- the word that a packed one is
+-- a packed word, unpacked
 abbrev pub as_word : WordOf ℕ Text → Word
 as_word w = record { mask = w.mask; number = w.number; text = packed_text w.text }
 
--- the word that a written one is
+-- a word in the source of the table
 abbrev pub const_word : WordOf ℕ (record { now : List ℕ }) → Word
 const_word w = record { mask = w.mask; number = w.number; text = w.text.now }
 
@@ -29,11 +29,11 @@ words_of Digests = map const_word DIGESTS.now
 words_of Login = map const_word LOGIN.now
 words_of Protocol = map const_word PROTOCOL.now
 
--- the test for a word that stands for a number
+-- whether a word stands for a number
 abbrev pub suits : ℕ → Word → Bool
 suits n word = (word.mask == 0) || (bit_and n word.mask == word.number)
 
--- the first word for a number
+-- the first word for a number, or an empty text
 abbrev pub word_text : List Word → ℕ → List ℕ
 word_text [] n = []
 word_text (word ∷ words) n = if suits n word then word.text else word_text words n

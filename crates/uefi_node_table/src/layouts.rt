@@ -1,20 +1,21 @@
-//! The numbers of each kind of node, and where its fields lie (UEFI Specification 2.10, section 10.3). Views,
-//! builders, rows of the table and the header for C take them from here. No other file has them.
+//! The numbers of each kind of node, and the offsets of its fields (UEFI Specification 2.10, section 10.3).
+//! Views, builders, rows of the table and the header for C take them from here. No other file contains them.
 //!
 //! A kind has its sub-type, the least number of bytes of its data, and its fields: `SATA`, `SATA_LEAST` and
-//! `SATA_HBA_PORT_NUMBER`. The fields of a kind are in the order of their places.
+//! `SATA_HBA_PORT_NUMBER`. The fields of a kind are in the order of their offsets.
 #![tactic(auto)]
 
-/// Where a field lies in the data of a node.
+/// A field in the data of a node.
 #[derive(Clone, Copy)]
 pub struct Field {
-    /// The place of its first byte.
+    /// The offset of its first byte.
     pub place: usize,
-    /// How many bytes it has, or 0 if it has all that follow. Of a list of numbers, those of the first.
+    /// The number of its bytes, or 0 if it has all bytes to the end. For a list of numbers, the number of
+    /// bytes of the first.
     pub width: usize,
 }
 
-/// The field of a place and a width.
+/// Makes a field from its offset and its width.
 macro_rules! field {
     ($place:expr, $width:literal) => {
         Field { place: $place, width: $width }
@@ -23,13 +24,13 @@ macro_rules! field {
 
 /// The type of a device in the system's address space.
 pub const HARDWARE_TYPE: u8 = 1;
-/// The type of a device that ACPI names.
+/// The type of a device that the ACPI namespace describes.
 pub const ACPI_TYPE: u8 = 2;
-/// The type of a device that messages reach.
+/// The type of a device that is reached by messages.
 pub const MESSAGING_TYPE: u8 = 3;
 /// The type of a part of a medium.
 pub const MEDIA_TYPE: u8 = 4;
-/// The type of what a legacy BIOS can boot.
+/// The type of a device that a legacy BIOS can boot.
 pub const BIOS_BOOT_SPEC_TYPE: u8 = 5;
 
 /// A device on a PCI bus.
@@ -59,7 +60,7 @@ pub const MEMORY_MAPPED_STARTING_ADDRESS: Field = field!(4, 8);
 
 pub const MEMORY_MAPPED_ENDING_ADDRESS: Field = field!(12, 8);
 
-/// A node of a vendor's own, named by a GUID.
+/// A vendor-defined node, identified by a GUID.
 pub const HARDWARE_VENDOR: u8 = 4;
 
 pub const HARDWARE_VENDOR_LEAST: usize = 16;
@@ -95,7 +96,7 @@ pub const ACPI_UID: Field = field!(4, 4);
 
 /// A device that ACPI names by numbers or by strings.
 pub const EXPANDED: u8 = 2;
-/// How many bytes its numbers have. Three strings follow, each with a NUL at least.
+/// The number of bytes of its numbers. Three strings follow, each with at least a NUL.
 pub const EXPANDED_FIXED: usize = 12;
 
 pub const EXPANDED_LEAST: usize = EXPANDED_FIXED + 3;
@@ -189,7 +190,7 @@ pub const INFINIBAND_TARGET_PORT_ID: Field = field!(28, 8);
 
 pub const INFINIBAND_DEVICE_ID: Field = field!(36, 8);
 
-/// A node of a vendor's own, named by a GUID.
+/// A vendor-defined node, identified by a GUID.
 pub const MESSAGING_VENDOR: u8 = 10;
 
 pub const MESSAGING_VENDOR_LEAST: usize = 16;
@@ -211,7 +212,7 @@ pub const MAC_ADDRESS_INTERFACE_TYPE: Field = field!(32, 1);
 pub const IPV4: u8 = 12;
 
 pub const IPV4_LEAST: usize = 15;
-/// How many bytes it has with the fields that later versions of the standard added.
+/// The number of its bytes with the fields that later versions of the standard added.
 pub const IPV4_WHOLE: usize = 23;
 
 pub const IPV4_LOCAL_IP_ADDRESS: Field = field!(0, 4);
@@ -264,7 +265,7 @@ pub const UART_PARITY: Field = field!(13, 1);
 
 pub const UART_STOP_BITS: Field = field!(14, 1);
 
-/// Each USB device of a class.
+/// All USB devices of a class.
 pub const USB_CLASS: u8 = 15;
 
 pub const USB_CLASS_LEAST: usize = 7;
@@ -279,7 +280,7 @@ pub const USB_CLASS_DEVICE_SUBCLASS: Field = field!(5, 1);
 
 pub const USB_CLASS_DEVICE_PROTOCOL: Field = field!(6, 1);
 
-/// A USB device by its serial number.
+/// A USB device, identified by its serial number.
 pub const USB_WWID: u8 = 16;
 
 pub const USB_WWID_LEAST: usize = 6;
@@ -332,7 +333,7 @@ pub const VLAN_LEAST: usize = 2;
 
 pub const VLAN_VLAN_ID: Field = field!(0, 2);
 
-/// A device on Fibre Channel, by bytes in the order of the bus.
+/// A device on Fibre Channel, with its numbers as bytes in the order of the bus.
 pub const FIBRE_CHANNEL_EX: u8 = 21;
 
 pub const FIBRE_CHANNEL_EX_LEAST: usize = 20;
@@ -363,7 +364,7 @@ pub const NVME_NAMESPACE_NAMESPACE_IDENTIFIER: Field = field!(0, 4);
 
 pub const NVME_NAMESPACE_IEEE_EXTENDED_UNIQUE_IDENTIFIER: Field = field!(4, 8);
 
-/// What a URI names.
+/// A resource that a URI identifies.
 pub const URI: u8 = 24;
 
 pub const URI_LEAST: usize = 0;
@@ -416,7 +417,7 @@ pub const BLUETOOTH_LE_DEVICE_ADDRESS: Field = field!(0, 6);
 
 pub const BLUETOOTH_LE_ADDRESS_TYPE: Field = field!(6, 1);
 
-/// Name servers.
+/// The addresses of name servers.
 pub const DNS: u8 = 31;
 
 pub const DNS_LEAST: usize = 1;
@@ -484,7 +485,7 @@ pub const CD_ROM_PARTITION_START: Field = field!(4, 8);
 
 pub const CD_ROM_PARTITION_SIZE: Field = field!(12, 8);
 
-/// A node of a vendor's own, named by a GUID.
+/// A vendor-defined node, identified by a GUID.
 pub const MEDIA_VENDOR: u8 = 3;
 
 pub const MEDIA_VENDOR_LEAST: usize = 16;
@@ -541,7 +542,7 @@ pub const RAM_DISK_DISK_INSTANCE: Field = field!(32, 2);
 
 /// A device that a legacy BIOS can boot.
 pub const BOOT_SPECIFICATION: u8 = 1;
-/// How many bytes its numbers have. A string with its NUL follows.
+/// The number of bytes of its numbers. A string with its NUL follows.
 pub const BOOT_SPECIFICATION_FIXED: usize = 4;
 
 pub const BOOT_SPECIFICATION_LEAST: usize = BOOT_SPECIFICATION_FIXED + 1;

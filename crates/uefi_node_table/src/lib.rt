@@ -1,5 +1,5 @@
-//! The table of kinds of device path nodes, and nodes printed by it. No crate above uses it but those
-//! of device paths.
+//! The table of kinds of device path nodes, and the printing of nodes by the table. Only the crates
+//! of device paths use it.
 #![tactic(auto)]
 
 pub mod laws;

@@ -1,4 +1,4 @@
-//! The parts of the packed table, each of which has a number.
+//! The parts of the packed table, which are numbered.
 #![tactic(auto)]
 
 /// A text.
@@ -8,7 +8,7 @@ pub struct Text {
     pub number: u8,
 }
 
-/// Bytes of data: where each lies, and what it is.
+/// Bytes of data, each with its offset and its value.
 #[derive(Clone, Copy)]
 pub struct Bytes {
     /// Their number.

@@ -1,5 +1,5 @@
-//! Texts, fields and bytes of the packed table, each a part of one constant. So the table has no pointer, and
-//! firmware that loads a program has nothing in it to relocate.
+//! Texts, fields and bytes of the packed table, each kind in one constant. So the table contains no pointer,
+//! and firmware that loads a program relocates nothing in it.
 #![tactic(auto)]
 
 ghost use Rattle.std.specs.Prelude.{◌≡◌, slice_index};
@@ -9,7 +9,7 @@ use crate::packed::{BYTE_STARTS, BYTES, PIECE_STARTS, PIECES, TEXT_STARTS, TEXTS
 use crate::parts::{Bytes, Pieces, Text};
 use crate::rows::Piece;
 
-/// Where a part begins, or 0 after the last.
+/// Returns where a part begins, or 0 after the last part.
 fn start_of(starts: &[u16], number: usize) -> usize
     ensures { result ≡ slice_index starts.now number }
 {
@@ -19,7 +19,7 @@ fn start_of(starts: &[u16], number: usize) -> usize
     0
 }
 
-/// The part that has a number. It ends where the next begins.
+/// Returns the part with a number. It ends where the next part begins.
 pub(crate) fn part<'a, T>(items: &'a [T], starts: &[u16], number: u8) -> &'a [T]
     ensures { result.now ≡ part_of items.now starts.now number }
 {
@@ -31,7 +31,7 @@ pub(crate) fn part<'a, T>(items: &'a [T], starts: &[u16], number: u8) -> &'a [T]
 }
 
 impl Text {
-    /// The text.
+    /// Returns the text.
     #[tactic(auto, unfolding(crate::specs::Parts::packed_text))]
     pub fn as_str(self) -> &'static str
         ensures { result.now ≡ packed_text self }
@@ -40,7 +40,7 @@ impl Text {
         unsafe { str::from_utf8_unchecked(part(&TEXTS, &TEXT_STARTS, self.number)) }
     }
 
-    /// The bytes of the text.
+    /// Returns the bytes of the text.
     pub fn as_bytes(self) -> &'static [u8]
         ensures value { result.now ≡ packed_text self }
     {
@@ -49,7 +49,7 @@ impl Text {
 }
 
 impl Bytes {
-    /// The places and the bytes.
+    /// Returns the offsets and the values of the bytes.
     #[tactic(auto, unfolding(crate::specs::Parts::packed_bytes))]
     pub fn as_slice(self) -> &'static [(u8, u8)]
         ensures { result.now ≡ packed_bytes self }
@@ -59,7 +59,7 @@ impl Bytes {
 }
 
 impl Pieces {
-    /// The fields.
+    /// Returns the fields.
     #[tactic(auto, unfolding(crate::specs::Parts::packed_pieces))]
     pub fn as_slice(self) -> &'static [Piece]
         ensures { result.now ≡ packed_pieces self }

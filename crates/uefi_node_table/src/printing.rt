@@ -20,7 +20,7 @@ use uefi_field_texts::shown_texts::{put_byte_text, put_utf16_text, until_nul};
 use uefi_text::number_texts::put_digits;
 use uefi_text::text_sink::TextSink;
 
-/// The number that bytes encode, the low byte first.
+/// Returns the number that bytes encode, the low byte first.
 pub fn number_of(bytes: &[u8]) -> u64
     requires { length bytes.now ≤ 8 }
     ensures number { result ≡ little_endian bytes.now }
@@ -33,7 +33,7 @@ pub fn number_of(bytes: &[u8]) -> u64
     number
 }
 
-/// Puts a number in decimal, or a word in place of 0.
+/// Puts a number in decimal, or `DEFAULT` for 0.
 fn put_or_default<S: TextSink>(sink: &mut S, number: u64)
     ensures { WritesInCalls S.puts sink.old (default_text number) sink.new }
 {
@@ -44,7 +44,7 @@ fn put_or_default<S: TextSink>(sink: &mut S, number: u64)
     put_digits(sink, number, 10);
 }
 
-/// Puts the number after that of a byte, in hexadecimal.
+/// Puts one more than the number of a byte, in hexadecimal.
 fn put_next<S: TextSink>(sink: &mut S, bytes: &[u8])
     requires { length bytes.now ≡ 1 }
     ensures { WritesInCalls S.puts sink.old (hex (little_endian bytes.now + 1)) sink.new }
@@ -52,7 +52,7 @@ fn put_next<S: TextSink>(sink: &mut S, bytes: &[u8])
     put_digits(sink, number_of(bytes) + 1, 16);
 }
 
-/// Puts an ID of EISA.
+/// Puts an EISA ID.
 fn put_eisa<S: TextSink>(sink: &mut S, bytes: &[u8])
     requires { length bytes.now ≡ 4 }
     ensures { WritesInCalls S.puts sink.old (eisa_text (little_endian bytes.now)) sink.new }
@@ -60,7 +60,7 @@ fn put_eisa<S: TextSink>(sink: &mut S, bytes: &[u8])
     put_eisa_id(sink, "", number_of(bytes) as u32);
 }
 
-/// Puts the bytes of a field.
+/// Puts the text of a field's bytes.
 fn put_value<S: TextSink>(sink: &mut S, shape: Shape, bytes: &[u8])
     requires { IsTrue (fits_shape shape (length bytes.now)) }
     ensures { WritesInCalls S.puts sink.old (field_text shape bytes.now) sink.new }
@@ -78,7 +78,7 @@ fn put_value<S: TextSink>(sink: &mut S, shape: Shape, bytes: &[u8])
     }
 }
 
-/// Puts a field, and what stands after it.
+/// Puts a field and its ending.
 fn put_piece<S: TextSink>(sink: &mut S, piece: &Piece, content: &[u8])
     requires { IsTrue (is_within (length content.now) (as_piece piece.now)) }
     ensures { WritesInCalls S.puts sink.old (piece_text content.now (as_piece piece.now)) sink.new }
@@ -89,7 +89,7 @@ fn put_piece<S: TextSink>(sink: &mut S, piece: &Piece, content: &[u8])
     sink.put_str(piece.ending.as_str());
 }
 
-/// Puts the fields of a form.
+/// Puts the fields of a form, with their endings.
 fn put_pieces<S: TextSink>(sink: &mut S, pieces: &[Piece], content: &[u8])
     requires { IsTrue (list_all (is_within (length content.now)) (map as_piece pieces.now)) }
     ensures { WritesInCalls S.puts sink.old (pieces_text (map as_piece pieces.now) content.now) sink.new }
@@ -122,7 +122,7 @@ fn put_list<S: TextSink>(sink: &mut S, item: &Item, bytes: &[u8])
     }
 }
 
-/// Puts a text of bytes up to a zero, in 32 bytes.
+/// Puts a text of bytes up to a NUL, from at most 32 bytes.
 fn put_padded<S: TextSink>(sink: &mut S, bytes: &[u8])
     ensures { WritesInCalls S.puts sink.old (shown_bytes (until_nul (take 32 bytes.now))) sink.new }
 {
@@ -158,7 +158,7 @@ fn put_row<S: TextSink>(sink: &mut S, row: &Row, content: &[u8])
     put_pieces(sink, row.rest.as_slice(), content);
 }
 
-/// The byte at a place, or 0 after the last.
+/// Returns the byte at an index, or 0 after the last byte.
 fn byte_at(content: &[u8], place: usize) -> u8
     ensures { result ≡ slice_index content.now place }
 {
@@ -168,14 +168,14 @@ fn byte_at(content: &[u8], place: usize) -> u8
     0
 }
 
-/// Whether data hold these bytes.
+/// Returns whether data contains these bytes.
 fn has_bytes(bytes: &[(u8, u8)], content: &[u8]) -> bool
     ensures { result ≡ has_bytes bytes.now content.now }
 {
     bytes.iter().all(|(place, byte)| byte_at(content, usize::from(*place)) == *byte)
 }
 
-/// Whether a form is used for a text.
+/// Returns whether a form is used for a text.
 fn is_used(mode: Mode, display_only: bool) -> bool
     ensures { result ≡ is_used display_only mode }
 {
@@ -186,14 +186,14 @@ fn is_used(mode: Mode, display_only: bool) -> bool
     }
 }
 
-/// Whether data of this length are long enough for a form.
+/// Returns whether data of this length is long enough for a form.
 fn is_long_enough(row: &Row, len: usize) -> bool
     ensures { result ≡ nat_le (row.now.least + row.now.more) len }
 {
     usize::from(row.least) + usize::from(row.more) <= len
 }
 
-/// Whether a node may have a form.
+/// Returns whether a form can print a node.
 pub fn matches(row: &Row, display_only: bool, kind: u8, sub_kind: u8, content: &[u8]) -> bool
     ensures { result ≡ matches display_only kind sub_kind content.now (as_form row.now) }
 {
@@ -201,7 +201,7 @@ pub fn matches(row: &Row, display_only: bool, kind: u8, sub_kind: u8, content: &
     is_kind && is_long_enough(row, content.len()) && has_bytes(row.when.as_slice(), content)
 }
 
-/// The first form of these that a node may have.
+/// Returns the first of these forms that can print a node.
 fn find_row<'a>(
     rows: &'a [Row],
     display_only: bool,
@@ -220,7 +220,7 @@ fn find_row<'a>(
     None
 }
 
-/// Whether the first of these forms is for nodes of a type.
+/// Returns whether the first of these forms is for nodes of a type.
 pub fn begin_with_kind(rows: &[Row], kind: u8) -> bool
     ensures { result ≡ begin_with_kind kind (map as_form rows.now) }
 {
@@ -230,7 +230,8 @@ pub fn begin_with_kind(rows: &[Row], kind: u8) -> bool
     }
 }
 
-/// The same as [`find_row`] of forms that are for nodes of one type: no other node goes through them.
+/// Returns what [`find_row`] returns, for forms that are all for nodes of one type. Tests no form if the
+/// node has another type.
 fn find_in_group<'a>(
     rows: &'a [Row],
     display_only: bool,
@@ -248,7 +249,7 @@ fn find_in_group<'a>(
     find_row(rows, display_only, kind, sub_kind, content)
 }
 
-/// The form of the table that a node is printed in.
+/// Returns the form of the table that a node is printed in.
 pub fn form_of(display_only: bool, kind: u8, sub_kind: u8, content: &[u8]) -> Option<&'static Row>
     ensures { option_map (λ row. as_form row.now) result
         ≡ find_form (matches display_only kind sub_kind content.now) forms }
@@ -261,14 +262,14 @@ pub fn form_of(display_only: bool, kind: u8, sub_kind: u8, content: &[u8]) -> Op
     None
 }
 
-/// Whether a node has a form of the table.
+/// Returns whether the table has a form for a node.
 pub fn has_form(display_only: bool, kind: u8, sub_kind: u8, content: &[u8]) -> bool
     ensures { result ≡ has_form display_only kind sub_kind content.now }
 {
     form_of(display_only, kind, sub_kind, content).is_some()
 }
 
-/// Puts a node in its form of the table. Returns whether it has one, and puts nothing where it has none.
+/// Puts a node in its form of the table, and returns whether it has one. Otherwise puts nothing.
 pub fn put_form<S: TextSink>(
     sink: &mut S,
     display_only: bool,

@@ -1,145 +1,145 @@
-//! What a row of the table holds: a form of nodes, and where its fields lie.
+//! The rows of the table. A row is a form of nodes, with the offsets of its fields.
 #![tactic(auto)]
 
 use crate::parts::{Bytes, Pieces, Text};
 use crate::words::Words;
 
-/// How the bytes of a field stand in a text.
+/// How a text encodes the bytes of a field.
 #[derive(Clone, Copy)]
 pub enum Shape {
-    /// A number, its low byte first, in hexadecimal without zeros at its start.
+    /// A number, its low byte first, in hexadecimal without leading zeros.
     Hexadecimal,
-    /// The same in decimal.
+    /// A number, its low byte first, in decimal.
     Decimal,
-    /// The same in decimal, or the word `DEFAULT` where it is 0.
+    /// A number, its low byte first, in decimal, or the word `DEFAULT` for 0.
     OrDefault,
     /// Two digits for each byte, from the last byte to the first.
     Back,
-    /// The same from the first byte to the last.
+    /// Two digits for each byte, from the first byte to the last.
     Forth,
     /// Two digits for each byte, from the last to the first, with dashes between them.
     Dashed,
-    /// The number after that of a byte, in hexadecimal: of the first, 0, it is 1.
+    /// One more than the number of a byte, in hexadecimal: 1 for the byte 0.
     Next,
-    /// An ID of EISA, in four bytes.
+    /// An EISA ID, in four bytes.
     Eisa,
     /// A word that stands for a number.
     Word(Words),
 }
 
-/// A field in the order of the text. `N` is a number, and `T` a text: no contract can name a constant
-/// whose type has a reference of its own.
+/// A field in the order of the text. `N` is a number, and `T` a text. They are parameters because no
+/// contract can name a constant whose type has a reference of its own.
 #[derive(Clone, Copy)]
 pub struct PieceOf<N, T> {
-    /// How it stands in a text.
+    /// How the text encodes it.
     pub shape: Shape,
-    /// Where its first byte lies in the data.
+    /// The offset of its first byte in the data.
     pub place: N,
-    /// How many bytes it has.
+    /// The number of its bytes.
     pub width: N,
-    /// What stands after it.
+    /// The text after it.
     pub ending: T,
 }
 
-/// What the data hold after the fixed bytes.
+/// The data after the fixed bytes.
 #[derive(Clone, Copy)]
 pub enum Tail {
     /// Nothing that is printed.
     Nothing,
-    /// Bytes, which stand as two digits each after a comma, or no bytes and no comma.
+    /// A comma and then bytes, two digits each, or nothing if there are no bytes.
     Bytes,
     /// A text of bytes.
     Text,
     /// A text in UTF-16, up to a NUL.
     Utf16,
-    /// A text of bytes up to a zero.
+    /// A text of bytes up to a NUL.
     Name,
-    /// A text of bytes up to a zero, in 32 bytes.
+    /// A text of bytes up to a NUL, in 32 bytes.
     Padded,
-    /// The strings of the IDs of a device that ACPI names: they lie as `_HID`, `_UID` and `_CID`, each up to
-    /// a zero, and `_CID` stands before `_UID`.
+    /// The ID strings of a device that ACPI names, each up to a NUL. The data contains `_HID`, `_UID` and
+    /// `_CID` in this order; the text contains `_CID` before `_UID`.
     Ids,
-    /// Items of a list, as many as there are whole ones.
+    /// The whole items of a list.
     Repeated(Items),
 }
 
-/// A list, by its items.
+/// The kinds of lists, by their items.
 #[derive(Clone, Copy)]
 pub enum Items {
     /// Numbers of four bytes.
     Numbers,
-    /// Addresses of IP version 4 in 16 bytes.
+    /// IPv4 addresses, in 16 bytes each.
     Ipv4,
-    /// Addresses of IP version 6.
+    /// IPv6 addresses.
     Ipv6,
 }
 
-/// What each item of a list has.
+/// An item of a list.
 #[derive(Clone, Copy)]
 pub struct ItemOf<T, P> {
-    /// How many bytes it has.
+    /// The number of its bytes.
     pub size: usize,
-    /// What its text begins with.
+    /// The start of its text.
     pub start: T,
     /// Its fields, in the order of the text.
     pub pieces: P,
 }
 
-/// For which texts a form is used.
+/// The texts that a form is used for.
 #[derive(Clone, Copy)]
 pub enum Mode {
-    /// All texts, and it is read back.
+    /// All texts; the form is read back.
     Read,
-    /// All texts, and it is not read back.
+    /// All texts; the form is not read back.
     Printed,
-    /// Texts for display alone.
+    /// Texts that are only for display.
     Display,
 }
 
-/// A form of the nodes of one kind. A node is printed in the first form of the table that it fits.
+/// A form of the nodes of one kind. A node is printed in the first form of the table that fits it.
 #[derive(Clone, Copy)]
 pub struct RowOf<N, T, B, P> {
     /// The type.
     pub kind: u8,
     /// The sub-type.
     pub sub_kind: u8,
-    /// For which texts it is used.
+    /// The texts that it is used for.
     pub mode: Mode,
-    /// How many bytes the fixed part of the data has.
+    /// The number of bytes of the fixed part of the data.
     pub least: N,
-    /// How many bytes the data have after it at least.
+    /// The least number of bytes of data after the fixed part.
     pub more: N,
-    /// Bytes of the fixed part that distinguish this form from others of its kind: where each lies,
-    /// and what it is.
+    /// Bytes of the fixed part that distinguish this form from others of its kind, each with its offset and
+    /// its value.
     pub when: B,
-    /// Other bytes of the fixed part that are not zero in a node that is read, and lie in no field.
+    /// Other bytes of the fixed part that belong to no field, and that are not zero in a node that is read.
     pub also: B,
-    /// What the text begins with.
+    /// The start of the text.
     pub start: T,
     /// The fields, in the order of the text.
     pub pieces: P,
-    /// What the data hold after the fixed part.
+    /// The data after the fixed part.
     pub tail: Tail,
-    /// What stands after that.
+    /// The text after that data.
     pub close: T,
-    /// Further fields, which the text ends with.
+    /// Further fields at the end of the text.
     pub rest: P,
 }
 
 /// A field, packed.
 pub type Piece = PieceOf<u8, Text>;
 
-/// What each item has, packed.
+/// An item of a list, packed.
 pub type Item = ItemOf<Text, Pieces>;
 
 /// A form, packed.
 pub type Row = RowOf<u8, Text, Bytes, Pieces>;
 
-/// A field, as people write it.
+/// A field, as the source of the table writes it.
 pub type WrittenPiece = PieceOf<usize, &'static str>;
 
-/// What each item has, as people write it.
+/// An item of a list, as the source of the table writes it.
 pub type WrittenItem = ItemOf<&'static str, &'static [WrittenPiece]>;
 
-/// A form, as people write it.
+/// A form, as the source of the table writes it.
 pub type WrittenRow = RowOf<usize, &'static str, &'static [(usize, u8)], &'static [WrittenPiece]>;

@@ -1,6 +1,7 @@
-//! The table of kinds of nodes (UEFI Specification 2.10, sections 10.3 and 10.6.1): a row for each form in
-//! which a node is printed. A kind whose text a row can say stands here and nowhere else. `specs/Rows.antt`
-//! says what a row means. Definitions alone cite these constants: `packed.rt` is what is compiled.
+//! The table of kinds of nodes (UEFI Specification 2.10, sections 10.3 and 10.6.1), with a row for each form
+//! that a node is printed in. If a row can describe the text of a kind, only the table contains it.
+//! `specs/Rows.antt` defines what a row means. Only definitions cite these constants: the compiled table is
+//! `packed.rt`.
 #![tactic(auto)]
 
 ghost use Rattle.std.specs.Prelude.{◌≡◌, ◌<◌, ◌≤◌, IsTrue, length, map};
@@ -17,7 +18,7 @@ use crate::rows::{
 use crate::words::Words;
 use crate::{layouts, packed};
 
-/// A field of these.
+/// Makes a field from its shape, its offset, its width and its ending.
 macro_rules! field {
     (Word($words:ident), $place:expr, $width:expr, $ending:expr) => {
         PieceOf { shape: Shape::Word(Words::$words), place: $place, width: $width, ending: $ending }
@@ -27,7 +28,7 @@ macro_rules! field {
     };
 }
 
-/// A number of a kind, by its name or as it is.
+/// Makes a number of a kind, from its name or its value.
 macro_rules! number {
     ($name:ident) => {
         layouts::$name
@@ -37,7 +38,7 @@ macro_rules! number {
     };
 }
 
-/// Where a field begins, by the name of the field or by the number.
+/// Makes the offset of a field, from the name of the field or a number.
 macro_rules! place {
     ($field:ident) => {
         layouts::$field.place
@@ -47,8 +48,8 @@ macro_rules! place {
     };
 }
 
-/// The fields of a form: a GUID is five of them, and an address of IP four or eight. A field is named. A part
-/// of one has its place in the field, and its width.
+/// Makes the fields of a form. A GUID is five fields, and an IP address four or eight. A field is given by
+/// its name, and a part of a field by its offset in the field and its width.
 macro_rules! fields {
     ([$($done:expr),*]) => { &[$($done),*] };
     ([$($done:expr),*] [Guid $at:tt $ending:literal] $($rest:tt)*) => {
@@ -84,7 +85,7 @@ macro_rules! fields {
     };
 }
 
-/// What follows the fixed part: a tail, or a list of items.
+/// Makes the data after the fixed part: a tail, or a list of items.
 macro_rules! tail {
     ($tail:ident) => {
         Tail::$tail
@@ -94,8 +95,9 @@ macro_rules! tail {
     };
 }
 
-/// Bytes of fields, or of places. `Sas` and `Uart` are the first 16 of a vendor's node, its GUID: for SAS
-/// devices D487DDB4-008B-11D9-AFDC-001083FFCA4D, and for flow control 37499A9D-542F-4C89-A026-35DA142094E4.
+/// Makes bytes from fields or offsets. `Sas` and `Uart` are the first 16 bytes of a vendor-defined node, its
+/// GUID: D487DDB4-008B-11D9-AFDC-001083FFCA4D for SAS devices, and 37499A9D-542F-4C89-A026-35DA142094E4 for
+/// flow control.
 macro_rules! bytes {
     ([$($done:expr),*]) => { &[$($done),*] };
     ([] Sas $($rest:tt)*) => {
@@ -126,7 +128,7 @@ macro_rules! bytes {
     };
 }
 
-/// A form of these.
+/// Makes a form.
 macro_rules! row {
     ($kind:ident $sub_kind:ident $mode:ident $least:tt $(+ $more:tt)? [$($when:tt)*]
         [$($also:tt)*] $start:literal $([$($field:tt)*])* $($tail:ident)+ $close:literal
@@ -148,7 +150,7 @@ macro_rules! row {
     };
 }
 
-/// A form of USB devices of a class: vendor, product, sub-class and protocol.
+/// Makes a form of USB devices of a class: vendor, product, sub-class and protocol.
 macro_rules! usb_class {
     ($class:literal $start:literal) => {
         row!(MESSAGING_TYPE USB_CLASS Read USB_CLASS_LEAST [USB_CLASS_DEVICE_CLASS = $class] [] $start
@@ -158,7 +160,7 @@ macro_rules! usb_class {
     };
 }
 
-/// A form of SAS devices as a vendor's nodes of messages.
+/// Makes a form of SAS devices as vendor-defined messaging nodes.
 macro_rules! sas {
     ([$($when:tt)*] $ending:literal $([$($more:tt)*])*) => {
         row!(MESSAGING_TYPE MESSAGING_VENDOR Read 40 [Sas $($when)*] [] "SAS(0x" [Hexadecimal 20 8 ",0x"]
@@ -167,7 +169,7 @@ macro_rules! sas {
     };
 }
 
-/// A form of SAS devices as nodes of their own.
+/// Makes a form of SAS devices as nodes of their own kind.
 macro_rules! sas_ex {
     ([$($when:tt)*] $ending:literal $([$($more:tt)*])*) => {
         row!(MESSAGING_TYPE SAS_EX Read SAS_EX_LEAST [$($when)*] [] "SasEx(0x"
@@ -176,7 +178,7 @@ macro_rules! sas_ex {
     };
 }
 
-/// A form of devices that ACPI names by a number, with their bytes.
+/// Makes a form of devices that ACPI names by a number, with its bytes.
 macro_rules! acpi_device {
     ([$($hid:literal)*] $start:literal) => {
         row!(ACPI_TYPE ACPI Read ACPI_LEAST [ACPI_HID = [$($hid)*]] [] $start [Hexadecimal ACPI_UID ")"]
@@ -184,7 +186,7 @@ macro_rules! acpi_device {
     };
 }
 
-/// A form of connections over IP version 4: of a node with a gateway and a mask, and of one without.
+/// Makes a form of IPv4 connections, for nodes with a gateway and a mask or for nodes without.
 macro_rules! ipv4 {
     (whole [$($when:tt)*] [$($also:tt)*] $ending:literal $([$($more:tt)*])*) => {
         row!(MESSAGING_TYPE IPV4 Read IPV4_WHOLE [$($when)*] [$($also)*] "IPv4("
@@ -198,7 +200,7 @@ macro_rules! ipv4 {
     };
 }
 
-/// A form of connections over IP version 6: of a node with a prefix and a gateway, and of one without.
+/// Makes a form of IPv6 connections, for nodes with a prefix and a gateway or for nodes without.
 macro_rules! ipv6 {
     (whole [$($when:tt)*] [$($also:tt)*] $ending:literal $([$($more:tt)*])*) => {
         row!(MESSAGING_TYPE IPV6 Read IPV6_LEAST [$($when)*] [$($also)*] "IPv6("
@@ -212,7 +214,7 @@ macro_rules! ipv6 {
     };
 }
 
-/// A form of RAM disks of one type.
+/// Makes a form of RAM disks of one type.
 macro_rules! virtual_disk {
     ([$($guid:literal)*] $start:literal) => {
         row!(MEDIA_TYPE RAM_DISK Read RAM_DISK_LEAST [RAM_DISK_DISK_TYPE = [$($guid)*]] [] $start
@@ -221,7 +223,7 @@ macro_rules! virtual_disk {
     };
 }
 
-/// A form of devices of one type that a legacy BIOS can boot: for display alone, without the flags.
+/// Makes a form of devices of one type that a legacy BIOS can boot. The form for display omits the flags.
 macro_rules! boot {
     (Display $device:literal $start:literal) => {
         row!(BIOS_BOOT_SPEC_TYPE BOOT_SPECIFICATION Display BOOT_SPECIFICATION_FIXED + 1
@@ -293,7 +295,8 @@ const ACPI: &[WrittenRow] = &[
         [Hexadecimal ACPI_UID ")"] Nothing ""),
 ];
 
-/// SAS devices, as a vendor's nodes of messages, in no bay. They stand before the nodes of all vendors.
+/// SAS devices as vendor-defined messaging nodes, without a drive bay. They come before the nodes of all
+/// vendors.
 #[rattlefmt::skip]
 const SAS: &[WrittenRow] = &[
     sas!([36 = 0x00, 37 = 0x00] ",NoTopology,0,0,0,0x"),
@@ -307,7 +310,7 @@ const SAS: &[WrittenRow] = &[
     sas!([36 = 0x71, 37 = 0x00] ",SATA,External,Expanded,0,0x"),
 ];
 
-/// The same in a bay of a drive, and with a topology that no word tells.
+/// SAS devices as vendor-defined messaging nodes, in a drive bay, or with a topology that no word describes.
 #[rattlefmt::skip]
 const SAS_IN_BAYS: &[WrittenRow] = &[
     sas!([36 = 0x02] ",SAS,Internal,Direct,0x" [Next 37 1 ",0x"]),
@@ -321,7 +324,7 @@ const SAS_IN_BAYS: &[WrittenRow] = &[
     sas!([] ",0x" [Hexadecimal 36 2 ",0,0,0,0x"]),
 ];
 
-/// SAS devices, as nodes of their own.
+/// SAS devices as nodes of their own kind.
 #[rattlefmt::skip]
 const SAS_EX: &[WrittenRow] = &[
     sas_ex!([SAS_EX_INFO = [0x00 0x00]] ",NoTopology,0,0,0)"),
@@ -344,7 +347,7 @@ const SAS_EX: &[WrittenRow] = &[
     sas_ex!([] ",0x" [Hexadecimal SAS_EX_INFO ",0,0,0)"]),
 ];
 
-/// Nodes of type Messaging, but for those above and below.
+/// Nodes of type Messaging, except the forms above and below.
 #[rattlefmt::skip]
 const MESSAGING: &[WrittenRow] = &[
     row!(MESSAGING_TYPE ATAPI Display ATAPI_LEAST [] [] "Ata(0x"
@@ -428,7 +431,7 @@ const MESSAGING: &[WrittenRow] = &[
         [Forth BLUETOOTH_LE_DEVICE_ADDRESS ",0x"] [Forth BLUETOOTH_LE_ADDRESS_TYPE ")"] Nothing ""),
 ];
 
-/// Connections over IP version 4, with a gateway and a mask and without.
+/// IPv4 connections, with a gateway and a mask and without.
 #[rattlefmt::skip]
 const IPV4: &[WrittenRow] = &[
     row!(MESSAGING_TYPE IPV4 Display IPV4_LEAST [] [] "IPv4(" [Ipv4 IPV4_REMOTE_IP_ADDRESS ")"]
@@ -447,7 +450,7 @@ const IPV4: &[WrittenRow] = &[
     ipv4!(short [] [IPV4_IP_ADDRESS_ORIGIN = 0x01] ",0x" [Hexadecimal IPV4_PROTOCOL ",Static,"]),
 ];
 
-/// Connections over IP version 6, with a prefix and a gateway.
+/// IPv6 connections, with a prefix and a gateway.
 #[rattlefmt::skip]
 const IPV6: &[WrittenRow] = &[
     row!(MESSAGING_TYPE IPV6 Display 39 [] [] "IPv6(" [Ipv6 IPV6_REMOTE_IP_ADDRESS ")"] Nothing ""),
@@ -468,7 +471,7 @@ const IPV6: &[WrittenRow] = &[
         [Hexadecimal IPV6_PROTOCOL ",StatefulAutoConfigure,"]),
 ];
 
-/// Connections over IP version 6 of older nodes, without these.
+/// IPv6 connections of older nodes, without a prefix and a gateway.
 #[rattlefmt::skip]
 const IPV6_SHORT: &[WrittenRow] = &[
     ipv6!(short [IPV6_PROTOCOL = [0x06 0x00], IPV6_IP_ADDRESS_ORIGIN = 0x00] [] ",TCP,Static,"),
@@ -523,7 +526,7 @@ const USB_CLASSES: &[WrittenRow] = &[
         [Hexadecimal USB_CLASS_DEVICE_PROTOCOL ")"] Nothing ""),
 ];
 
-/// Nodes of type Media, but for those that name files.
+/// Nodes of type Media, except nodes that name files.
 #[rattlefmt::skip]
 const MEDIA: &[WrittenRow] = &[
     row!(MEDIA_TYPE HARD_DRIVE Read HARD_DRIVE_LEAST [HARD_DRIVE_SIGNATURE_TYPE = 0x01]
@@ -568,8 +571,8 @@ const MEDIA: &[WrittenRow] = &[
         [Decimal RAM_DISK_DISK_INSTANCE ","] [Guid RAM_DISK_DISK_TYPE ")"] Nothing ""),
 ];
 
-/// Devices that a legacy BIOS can boot, by their types (BIOS Boot Specification). Their flags are left out in
-/// texts for display alone.
+/// Devices that a legacy BIOS can boot, by their types (BIOS Boot Specification). Texts for display omit
+/// their flags.
 #[rattlefmt::skip]
 const BOOT: &[WrittenRow] = &[
     boot!(Display 0x01 "BBS(Floppy,"),
@@ -591,7 +594,7 @@ const BOOT: &[WrittenRow] = &[
         [Hexadecimal BOOT_SPECIFICATION_STATUS_FLAG ")"]),
 ];
 
-/// What each item of a list has.
+/// Returns the item of a list.
 #[tactic(auto, unfolding(crate::specs::Parts::packed_pieces, crate::specs::Parts::packed_text, crate::specs::Rows::item_of))]
 pub fn item_of(items: Items) -> Item
     ensures item { as_item result ≡ item_of items }
@@ -606,10 +609,10 @@ pub fn item_of(items: Items) -> Item
     }
 }
 
-/// How many groups of forms there are.
+/// The number of groups of forms.
 pub const GROUPS: usize = 12;
 
-/// The part of the packed rows that has a group.
+/// Returns the part number of a group's packed rows.
 #[tactic(auto, unfolding(crate::specs::Parts::packed_bytes, crate::specs::Parts::packed_pieces, crate::specs::Parts::packed_text, crate::specs::Table::group_forms))]
 fn part_of_group(index: usize) -> u8
     ensures forms { map as_form (part_of ROWS ROW_STARTS result) ≡ group_forms index }
@@ -633,7 +636,7 @@ fn part_of_group(index: usize) -> u8
     }
 }
 
-/// The forms of a group.
+/// Returns the forms of a group.
 pub fn group(index: usize) -> &'static [Row]
     ensures forms { map as_form result.now ≡ group_forms index }
     ensures few { length result.now ≤ 1000 }

@@ -9,7 +9,7 @@ use crate::packed::{WORD_STARTS, WORDS};
 use crate::pools::part;
 use crate::words::{Word, Words};
 
-/// The part of the packed words that has a list.
+/// Returns the part number of a list's packed words.
 #[tactic(auto, unfolding(crate::specs::Parts::packed_text, crate::specs::Words::words_of))]
 fn part_of_list(words: Words) -> u8
     ensures { map as_word (part_of WORDS WORD_STARTS result) ≡ words_of words }
@@ -23,21 +23,21 @@ fn part_of_list(words: Words) -> u8
     }
 }
 
-/// The words of a list.
+/// Returns the words of a list.
 pub fn words_of(words: Words) -> &'static [Word]
     ensures { map as_word result.now ≡ words_of words }
 {
     part(&WORDS, &WORD_STARTS, part_of_list(words))
 }
 
-/// Whether a word stands for a number.
+/// Returns whether a word stands for a number.
 pub fn suits(word: &Word, number: u64) -> bool
     ensures { result ≡ suits number (as_word word.now) }
 {
     word.mask == 0 || number & u64::from(word.mask) == u64::from(word.number)
 }
 
-/// The word for a number, or an empty text where no word suits it.
+/// Returns the word for a number, or an empty text if no word suits it.
 pub fn word_for(words: &[Word], number: u64) -> &'static str
     ensures { result.now ≡ word_text (map as_word words.now) number }
 {

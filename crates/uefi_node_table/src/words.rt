@@ -1,5 +1,5 @@
-//! Words that stand for numbers in texts of nodes (UEFI Specification 2.10, section 10.6.1), and in
-//! those of EDK II. `specs/Words.antt` says what a list means.
+//! Words that stand for numbers in the texts of nodes (UEFI Specification 2.10, section 10.6.1),
+//! and in EDK II's texts. `specs/Words.antt` defines what a list means.
 #![tactic(auto)]
 
 use crate::parts::Text;
@@ -9,22 +9,23 @@ use crate::parts::Text;
 pub enum Words {
     /// The parity of a serial port.
     Parity,
-    /// The stop bits of a serial port, and the end of its text.
+    /// The stop bits of a serial port, and the end of the text.
     StopBits,
     /// The digests of the headers and the data of iSCSI, by the low byte of the options.
     Digests,
-    /// How iSCSI logs in, by the high byte of the options.
+    /// The login method of iSCSI, by the high byte of the options.
     Login,
-    /// What carries iSCSI, and the end of its text.
+    /// The protocol below iSCSI, and the end of the text.
     Protocol,
 }
 
-/// A word of a list. A number has the first that suits it. `N` is a number, and `T` a text.
+/// A word of a list. The word for a number is the first that suits it. `N` is a number, and `T` a
+/// text.
 #[derive(Clone, Copy)]
 pub struct WordOf<N, T> {
-    /// The bits of a number that count. A word without any suits each number.
+    /// The bits of a number that count. A word without such bits suits every number.
     pub mask: N,
-    /// What these bits are, and the number that the word is read as.
+    /// The value of these bits, and the number that the word is read as.
     pub number: N,
     /// The word.
     pub text: T,
@@ -33,10 +34,10 @@ pub struct WordOf<N, T> {
 /// A word, packed.
 pub type Word = WordOf<u16, Text>;
 
-/// A word, as people write it.
+/// A word, as the source of the table writes it.
 type WrittenWord = WordOf<u64, &'static str>;
 
-/// A word of these.
+/// Makes a word.
 macro_rules! word {
     ($mask:literal $number:literal $text:literal) => {
         WordOf { mask: $mask, number: $number, text: $text }

@@ -1,4 +1,5 @@
-//! What a menu starts by itself, which number a variable's name has, and an order with one entry in front.
+//! Boot orders: the option that a menu starts by itself, the number in a variable's name, and an order with
+//! one entry in front.
 ghost use Rattle.std.specs.Prelude.{◌≡◌, ◌↔◌, ◌%◌, ◌^◌, ◌<◌, ℕ, Some, slice_get, length, IfOk, IsErr};
 ghost use Rattle.std.specs.Option.{option_map};
 ghost use Rattle.uefi_boot_variables.specs.Orders.{once_each, with_front};
@@ -12,8 +13,8 @@ use uefi_boot_variables::{
     LoadOptionKind, LoadOptionName, LoadOrder, OddLength, OrderBuffer, OrderFull,
 };
 
-/// What a menu starts where nobody chooses: the first option of `BootOrder` whose variable is there, with
-/// its number and bytes.
+/// Returns the option that a menu starts if nobody chooses: the first option of `BootOrder` whose variable
+/// exists, with its number and bytes. Fails if `BootOrder` has an odd number of bytes.
 pub fn first_option<'a>(
     order: &'a [u8],
     variables: &'a [(u16, &'a [u8])],
@@ -26,7 +27,7 @@ pub fn first_option<'a>(
     Ok(order.present(variables).next())
 }
 
-/// The number of a boot entry, by the name of its variable.
+/// Returns the number of a boot entry, from the name of its variable.
 pub fn boot_number(name: &str) -> Option<u16>
     ensures { (number : ℕ) → number < 2 ^ 16 → ((result ≡ Some number)
         ↔ (name.now ≡ name_text (record { kind = Boot; number = number }))) }
@@ -42,8 +43,8 @@ pub fn boot_number(name: &str) -> Option<u16>
     }
 }
 
-/// Puts an order into memory of the caller, each number once and one of them in front, and returns how many
-/// numbers it has.
+/// Copies an order to the caller's memory, each number once, with `number` in front if the order contains
+/// it. Returns the length of the copy, or fails if the memory has fewer places.
 pub fn with_first(
     order: &LoadOrder<'_>,
     number: u16,

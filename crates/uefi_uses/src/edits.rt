@@ -1,4 +1,4 @@
-//! Boot entries that a menu changes, and what it looks at in them.
+//! Boot entries that a menu changes or inspects.
 ghost use Rattle.std.specs.Prelude.{◌≡◌, ◌↔◌, ◌%◌, ◌∷◌, IfSome, IsTrue, None, Ok, OnErr, OnOk, length, slice_range};
 ghost use Rattle.uefi_device_path.specs.NodeViews.{data_of};
 ghost use Rattle.uefi_device_path.specs.Guids.{IsGuidText};
@@ -12,7 +12,8 @@ use uefi_device_path::media::HardDrive;
 use uefi_device_path::{CheckedNodes, Guid, LoadOption, LoadOptionError, set_attributes};
 use uefi_text::CStr16;
 
-/// Makes firmware start a boot entry by itself. Bytes that are no boot entry are unchanged.
+/// Makes firmware start a boot entry by itself, and clears its other attributes. Fails if the bytes are
+/// not a boot entry, and then leaves them unchanged.
 pub fn activate(bytes: &mut [u8]) -> Result<(), LoadOptionError>
     ensures ok { OnOk result ((entry : Entry) → IsEntry entry → bytes.old ≡ entry_bytes entry
         → bytes.new ≡ entry_bytes (with_attributes 1 entry)) }
@@ -21,8 +22,8 @@ pub fn activate(bytes: &mut [u8]) -> Result<(), LoadOptionError>
     set_attributes(bytes, 1)
 }
 
-/// Writes a boot entry under another name into a buffer, and returns how many bytes it has; or
-/// `None` where the buffer is too small.
+/// Writes a boot entry with another name to a buffer, and returns its number of bytes, or `None` if the
+/// buffer is too small.
 pub fn renamed(option: &LoadOption<'_>, name: CStr16<'_>, buffer: &mut [u8]) -> Option<usize>
     ensures { IfSome result (λ len. len
         ≡ length (entry_bytes (with_description (text_of name.entry) (entry_of option.now)))) }
@@ -30,14 +31,15 @@ pub fn renamed(option: &LoadOption<'_>, name: CStr16<'_>, buffer: &mut [u8]) -> 
     option.write_with_description(name, buffer).ok()
 }
 
-/// Whether the optional data of a boot entry may be a command line, which is made of code units.
+/// Returns whether the optional data of a boot entry may be a command line, which consists of code units.
 pub fn may_have_arguments(option: &LoadOption<'_>) -> bool
     ensures { IsTrue result ↔ (length (entry_of option.now).optional % 2 ≡ 0) }
 {
     option.optional_units().is_some()
 }
 
-/// Passes the next node of a path. Returns false at the end of the path, or if the next node is malformed.
+/// Advances past the next node of a path. Returns false at the end of the path, or if the next node is
+/// malformed.
 pub fn pass_node(nodes: &mut CheckedNodes<'_>) -> bool
     ensures bytes { checked_bytes nodes.new ≡ checked_bytes nodes.old }
     ensures passed { IsTrue result
@@ -49,7 +51,7 @@ pub fn pass_node(nodes: &mut CheckedNodes<'_>) -> bool
     matches!(nodes.next(), Some(Ok(_)))
 }
 
-/// Whether a partition is the one that a text names by its GUID.
+/// Returns whether a text is the GUID of a partition.
 pub fn is_partition(drive: &HardDrive<'_>, text: &str) -> bool
     ensures { IsTrue result → IsGuidText text.now (slice_range (data_of drive.now) 20 36) }
 {

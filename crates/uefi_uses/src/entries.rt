@@ -1,4 +1,5 @@
-//! Boot entries: which start by themselves, how a menu shows one, and the path of a new one.
+//! Boot entries: whether firmware starts one by itself, how a menu shows one, and the path of a new
+//! one.
 ghost use Rattle.std.specs.Prelude.{◌≡◌, ◌↔◌, ◌%◌, ◌∷◌, [], IfErr, IfOk, IsTrue};
 ghost use Rattle.uefi_device_path.specs.Building.{node_of_name};
 ghost use Rattle.uefi_device_path.specs.LoadOptions.{Entry, EntryRefusedFor, IsEntry, entry_bytes};
@@ -9,7 +10,7 @@ use uefi_device_path::build::media::HardDrive;
 use uefi_device_path::{BuildError, BuildNode, DevicePathBuf, LoadOption, LoadOptionError};
 use uefi_path::Path;
 
-/// Whether firmware starts a boot entry by itself, or why the bytes are no boot entry.
+/// Returns whether firmware starts a boot entry by itself, or why the bytes are not a boot entry.
 pub fn starts_by_itself(bytes: &[u8]) -> Result<bool, LoadOptionError>
     ensures ok { IfOk result (λ starts. (entry : Entry) × IsEntry entry
         × (bytes.now ≡ entry_bytes entry) × (IsTrue starts ↔ (entry.attributes % 2 ≡ 1))) }
@@ -19,7 +20,7 @@ pub fn starts_by_itself(bytes: &[u8]) -> Result<bool, LoadOptionError>
     Ok(entry.is_active())
 }
 
-/// What a boot entry is called, and its device paths as people read them.
+/// Formats the name of a boot entry and its device paths, as people read them.
 pub fn line_of_entry(alloc: Global, bytes: &[u8]) -> anyhow::Result<String>
     ensures ok { IfOk result (λ _. (entry : Entry) × IsEntry entry × (bytes.now ≡ entry_bytes entry)) }
 {
@@ -31,7 +32,7 @@ pub fn line_of_entry(alloc: Global, bytes: &[u8]) -> anyhow::Result<String>
     Ok(line)
 }
 
-/// The device path of a file on a partition, as a boot entry holds it.
+/// Creates the device path of a file on a partition, as in a boot entry.
 pub fn path_of_file(
     alloc: Global,
     partition: &HardDrive,

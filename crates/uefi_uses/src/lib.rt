@@ -1,7 +1,7 @@
-//! Callers of the library, with contracts of their own: what a boot menu does with its entries. The
-//! page of each crate shows one of them.
+//! Callers of the library, with contracts of their own: they do what a boot menu does with its
+//! entries. The page of each crate shows one of them.
 //!
-//! They stand where a crate of another repository would: on public clauses alone, with no proof file.
+//! They use only public clauses and no proof file, as a crate of another repository would.
 #![tactic(auto)]
 
 pub mod boot_orders;

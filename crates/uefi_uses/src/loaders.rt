@@ -1,4 +1,4 @@
-//! The files that a menu offers, and those below a folder.
+//! The files that a menu offers, and the files below a folder.
 ghost use Rattle.std.specs.Prelude.{◌≡◌, ◌↔◌, IsTrue};
 ghost use Rattle.uefi_path.specs.WithoutCase.{MatchesPath};
 ghost use Rattle.uefi_path.specs.Components.{StartsWith};
@@ -8,8 +8,9 @@ ghost use Rattle.uefi_text.specs.Case.{uppers};
 
 use uefi_path::Path;
 
-/// Whether a menu offers to start a file: its path matches a pattern such as `\EFI\*\*.efi`, and is
-/// not that of the menu itself. Case makes no difference to either, as it makes none to firmware.
+/// Returns whether a menu offers to start a file: whether its path matches a pattern such as
+/// `\EFI\*\*.efi`, and is not the path of the menu itself. Both tests ignore case, as firmware
+/// does.
 pub fn is_offered(file: Path<'_>, pattern: Path<'_>, menu: Path<'_>) -> bool
     ensures { IsTrue result ↔ MatchesPath (path_text pattern.entry) (path_text file.entry)
         × ¬ (uppers (canonical (path_text file.entry)) ≡ uppers (canonical (path_text menu.entry))) }
@@ -17,7 +18,8 @@ pub fn is_offered(file: Path<'_>, pattern: Path<'_>, menu: Path<'_>) -> bool
     file.matches(pattern) && !file.eq_ignore_case(menu)
 }
 
-/// Whether a file lies below a folder, component by component: `\EFIX` does not lie below `\EFI`.
+/// Returns whether a file is below a folder, or is the folder, component by component: `\EFIX` is
+/// not below `\EFI`.
 pub fn is_below(file: Path<'_>, folder: Path<'_>) -> bool
     ensures { IsTrue result ↔ StartsWith (path_text file.entry) (path_text folder.entry) }
 {

@@ -1,4 +1,4 @@
-//! The path of a menu's entry, made of two texts.
+//! The path of a menu's entry, made from two texts.
 ghost use Rattle.std.specs.Prelude.{◌≡◌, ◌⊎◌, None, Some, IfErr, IfOk, option_map};
 ghost use Rattle.std.specs.Result.{result_err};
 ghost use Rattle.std.specs.Str.{chars};
@@ -12,22 +12,22 @@ use std::alloc::Allocator;
 use uefi_path::{Path, PathBuf, PathError, validate_path};
 use uefi_text::{CString16, FromStrError};
 
-/// Why a folder and a file's name make no entry.
+/// The reason why a folder and a file's name are not made into an entry.
 #[derive(Clone, Copy, Debug, PartialEq, Eq)]
 pub enum EntryError {
-    /// One of the two is no text of UCS-2, or memory is refused for it.
+    /// One of the two is not a UCS-2 text, or memory ran out for it.
     Text(FromStrError),
 
-    /// The path of both names no file.
+    /// The path of both is not valid.
     Path(PathError),
 
-    /// Memory is refused for the path.
+    /// Memory ran out for the path.
     OutOfMemory,
 }
 
-/// The path of a menu's entry: the file pushed on the folder, each slash replaced by a separator, as
-/// `validate_path` accepts it; or what the folder is refused for, then the file, then the path of both,
-/// unless memory is refused before.
+/// Creates the path of a menu's entry: pushes the file onto the folder, and replaces each slash with a
+/// separator. Fails if the folder is not a text, then if the file is not a text, and then if
+/// `validate_path` refuses the path of both, unless memory runs out before.
 pub fn entry_path<A: Allocator + Copy>(
     alloc: A,
     folder: &str,

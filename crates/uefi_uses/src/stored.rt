@@ -1,4 +1,4 @@
-//! Bytes that firmware stored, compared with a path, and paths that commands change.
+//! Bytes that firmware stored, which are compared with a path, and paths that commands change.
 ghost use Rattle.std.specs.Prelude.{◌≡◌, ◌↔◌, ◌∷◌, [], List, ℕ, IfOk, IfSome, IsTrue, length};
 ghost use Rattle.uefi_path.specs.Components.{components_of};
 ghost use Rattle.uefi_path.specs.Separators.{canonical};
@@ -10,8 +10,8 @@ use std::alloc::Allocator;
 use uefi_path::{Path, PathBuf};
 use upath::{JudgeError, PathCommand, judge, pieces, run_commands};
 
-/// Whether the bytes that firmware stored hold the path of an entry, with or without one leading
-/// separator; or why they hold no path.
+/// Returns whether the bytes that firmware stored contain the path of an entry, with or without one
+/// leading separator, or why they contain no path.
 pub fn is_entry<A: Allocator + Copy>(
     alloc: A,
     bytes: &[u8],
@@ -24,7 +24,8 @@ pub fn is_entry<A: Allocator + Copy>(
     Ok(stored.as_path() == entry)
 }
 
-/// Turns the path of a file into that of another file in its folder, unless memory runs out.
+/// Changes the path of a file to the path of another file in its folder. Returns false if memory
+/// runs out.
 pub fn turn_to_sibling<A: Allocator + Copy>(alloc: A, path: &mut PathBuf<A>, name: Path<'_>) -> bool
     ensures { IsTrue result → path.new
         ≡ after_commands path.old (PathCommand.Parent ∷ PathCommand.Push name.entry ∷ []) }
@@ -32,7 +33,7 @@ pub fn turn_to_sibling<A: Allocator + Copy>(alloc: A, path: &mut PathBuf<A>, nam
     run_commands(alloc, path, &[PathCommand::Parent, PathCommand::Push(name)]).is_ok()
 }
 
-/// How many folders and files a path names.
+/// Returns the number of components of a path, or `None` if memory runs out.
 pub fn depth<A: Allocator>(alloc: A, path: Path<'_>) -> Option<usize>
     ensures { IfSome result (λ depth. depth ≡ length (components_of (path_text path.entry))) }
 {

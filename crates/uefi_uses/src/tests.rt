@@ -35,7 +35,7 @@ fn entries(rt: HostRuntime) -> Result<(), Fail> {
     Ok(())
 }
 
-/// Folders and files of which one is no text, or the path of both is refused.
+/// Folders and files that are refused: one is not a text, or the path of both is not valid.
 #[test]
 fn refused_entries(rt: HostRuntime) {
     for (folder, file, want) in [
@@ -83,7 +83,7 @@ fn names(rt: HostRuntime) {
     );
 }
 
-/// Whether the menu of `\EFI\menu\Menu.efi` offers a file.
+/// Returns whether the menu `\EFI\menu\Menu.efi` offers a file.
 fn offers(rt: &HostRuntime, file: &str) -> Result<bool, Fail> {
     let pattern = CString16::try_from_str(rt.alloc(), "\\EFI\\*\\*.efi")?;
     let menu = CString16::try_from_str(rt.alloc(), "\\EFI\\menu\\Menu.efi")?;
@@ -149,7 +149,7 @@ fn names_of_one_file(rt: HostRuntime) -> Result<(), Fail> {
     Ok(())
 }
 
-/// Whether an error prints this sentence.
+/// Returns whether an error prints this sentence.
 fn says<T: Display>(alloc: Global, error: &T, sentence: &str) -> bool {
     matches!(error.to_string(alloc), Ok(text) if text.as_str() == sentence)
 }
@@ -179,7 +179,7 @@ fn errors_of_names_and_orders(rt: HostRuntime) -> Result<(), Fail> {
     Ok(())
 }
 
-/// The name of a variable is written where it has room, and a shorter buffer is refused and unchanged.
+/// The name of a variable is written if it fits. A buffer that is too small is refused and unchanged.
 #[test]
 fn names_in_buffers(rt: HostRuntime) {
     let name = LoadOptionName {
