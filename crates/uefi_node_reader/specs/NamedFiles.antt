@@ -1,4 +1,4 @@
--- Nodes that name files, whose texts are the names, and all nodes that are read.
+-- Nodes of files, whose texts are their names, and all nodes that are read.
 use Rattle.std.specs.Prelude.{◌≡◌, ℕ, Bool, true, false, nat_le, not, ◌==◌, ◌&&◌, ◌||◌, ◌⊎◌, if◌then◌else◌, List, [], ◌∷◌, length, take, drop, Option}
 use Rattle.std.specs.Char.{is_ascii_whitespace}
 use Rattle.std.specs.Char.Escape.{encode_utf16}
@@ -13,57 +13,57 @@ use Rattle.uefi_node_reader.specs.FieldReading.{either_read, read_if}
 use Rattle.uefi_node_reader.specs.TableReading.{IsTabled, table_read}
 use Rattle.uefi_node_reader.specs.PlainNodes.{IsPlainNode, plain_read}
 
--- the test for a byte that ends a name: a slash or a comma
+-- whether a byte ends a name: a slash or a comma
 abbrev pub ends_name : ℕ → Bool
 ends_name byte = (byte == 47) || (byte == 44)
 
--- the test for a character of a name: none that is escaped, and none that ends it
+-- whether a character may be in a name: texts do not escape it, and it does not end the name
 abbrev pub is_name_char : ℕ → Bool
 is_name_char c = not (is_escaped c) && not (ends_name c)
 
--- the test for characters that begin with a backslash
+-- whether characters begin with a backslash
 abbrev pub begins_name : List ℕ → Bool
 begins_name [] = false
 begins_name (c ∷ cs) = c == 92
 
--- the data of a node that names a file: the name in UTF-16, and a NUL
+-- the data of a file's node: the name in UTF-16, and a NUL
 abbrev pub name_data : List ℕ → List ℕ
 name_data name = unit_bytes (nul_terminated (flat_map encode_utf16 name))
 
--- the test for characters that are the name of a node
+-- whether characters are the name of a file's node
 abbrev pub is_name : List ℕ → Bool
 is_name name = begins_name name && (list_all is_name_char name && nat_le (length (name_data name)) 0xfffb)
 
--- a node that holds a name, and nothing else
+-- a node whose data is a name and a NUL
 pub record IsNamedNode (node : Node) : Type 0 where
   pub name : List ℕ
   pub scalars : all_scalars name ≡ true
   pub is_name : is_name name ≡ true
   pub is : node ≡ node_with 4 4 (name_data name)
 
--- the bytes of a text before one that ends a name
+-- the bytes of a text before the first byte that ends a name
 abbrev pub name_bytes : List ℕ → List ℕ
 name_bytes text = take (position_or_len ends_name text) text
 
--- the node with the name that bytes begin with, and what stands after it
+-- the node of the name at the start of a text, and the rest of the text
 abbrev pub name_read : List ℕ → Option (Node × List ℕ)
 name_read text = read_if (is_utf8 (name_bytes text) && is_name (chars (name_bytes text)))
     (node_with 4 4 (name_data (chars (name_bytes text)))) (drop (position_or_len ends_name text) text)
 
--- a node whose text holds all that it holds
+-- a node that its text describes completely
 abbrev pub IsTold : Node → Type 0
 IsTold node = IsTabled forms node ⊎ (IsPlainNode node ⊎ IsNamedNode node)
 
--- the node whose text bytes begin with, and what stands after it
+-- the node at the start of a text, and the rest of the text
 unfoldable pub node_read : List ℕ → Option (Node × List ℕ)
 node_read text = either_read (table_read forms text) (either_read (plain_read text) (name_read text))
 
--- the test for bytes that may stand after a node: none, or a slash or a comma first
+-- whether a text may follow a node: no byte, or a slash or a comma first
 abbrev pub is_after_node : List ℕ → Bool
 is_after_node [] = true
 is_after_node (byte ∷ bytes) = ends_name byte
 
--- bytes without the blanks and line ends at their start
+-- a text without the blanks and line ends at its start
 abbrev pub past_spaces : List ℕ → List ℕ
 past_spaces [] = []
 past_spaces (byte ∷ bytes) = if is_ascii_whitespace byte then past_spaces bytes else byte ∷ bytes

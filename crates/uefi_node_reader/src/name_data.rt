@@ -1,4 +1,4 @@
-//! The data of a node that names a file, put into a buffer and counted.
+//! The data of a file's node, put into a buffer and counted.
 #![tactic(auto)]
 
 ghost use Rattle.std.specs.Prelude.{◌≡◌};
@@ -6,13 +6,13 @@ ghost use Rattle.std.specs.Char.Escape.{encode_utf16};
 ghost use Rattle.std.specs.List.{flat_map};
 ghost use Rattle.std.specs.Str.{chars};
 ghost use Rattle.uefi_text.specs.UnitBytes.{unit_bytes};
-ghost use Rattle.uefi_node_reader.specs.Counted.{pushed_bytes};
+ghost use Rattle.uefi_node_reader.specs.Counted.{pushed_byte, pushed_bytes};
 ghost use Rattle.uefi_node_reader.specs.NamedFiles.{name_data};
 
 use crate::counted_bytes::push;
 
-/// Puts the bytes of a character in UTF-16 after `len` others, the low byte of each unit first. Returns how
-/// many bytes these are.
+/// Puts the bytes of a character in UTF-16 after `len` bytes, the low byte of each unit first. Returns the
+/// number of bytes then.
 fn push_char(places: &mut [u8], len: usize, c: char) -> usize
     ensures { (places.new, result) ≡ pushed_bytes (places.old, len) (unit_bytes (encode_utf16 c)) }
 {
@@ -26,7 +26,21 @@ fn push_char(places: &mut [u8], len: usize, c: char) -> usize
     count
 }
 
-/// Writes bytes as units of UTF-16, as far as they fit, and returns how many bytes there are then.
+/// Puts the bytes of an ASCII character in UTF-16 after `len` bytes, and returns the number of bytes then.
+#[inline(always)]
+fn push_pair(places: &mut [u8], len: usize, byte: u8) -> usize
+    ensures { (places.new, result) ≡ pushed_byte (pushed_byte (places.old, len) byte) 0 }
+{
+    if len < places.len() && 2 <= places.len() - len {
+        places[len] = byte;
+        places[len + 1] = 0;
+        return len + 2;
+    }
+    let count = push(places, len, byte);
+    push(places, count, 0)
+}
+
+/// Puts the bytes of an ASCII text in UTF-16 after `len` bytes, and returns the number of bytes then.
 fn push_ascii(places: &mut [u8], len: usize, text: &[u8]) -> usize
     ensures { (places.new, result) ≡ pushed_bytes (places.old, len) (unit_bytes text.now) }
 {
@@ -36,13 +50,12 @@ fn push_ascii(places: &mut [u8], len: usize, text: &[u8]) -> usize
             // Nothing else fits, so the rest is only counted.
             return count.saturating_add((text.len() - place).saturating_mul(2));
         }
-        count = push(places, count, text[place]);
-        count = push(places, count, 0);
+        count = push_pair(places, count, text[place]);
     }
     count
 }
 
-/// Puts the bytes of a text in UTF-16.
+/// Puts the bytes of a text in UTF-16 after `len` bytes, and returns the number of bytes then.
 fn push_text(places: &mut [u8], len: usize, text: &str) -> usize
     ensures { (places.new, result)
         ≡ pushed_bytes (places.old, len) (unit_bytes (flat_map encode_utf16 (chars text.now))) }
@@ -57,7 +70,7 @@ fn push_text(places: &mut [u8], len: usize, text: &str) -> usize
     count
 }
 
-/// Puts the data of a node that has a name: the name in UTF-16, and a NUL.
+/// Puts the data of a file's node: the name in UTF-16, and a NUL.
 pub(crate) fn push_name(places: &mut [u8], len: usize, name: &str) -> usize
     ensures { (places.new, result) ≡ pushed_bytes (places.old, len) (name_data (chars name.now)) }
 {

@@ -1,4 +1,4 @@
-//! Nodes that name files, read from the names.
+//! Nodes of files, read from the names.
 #![tactic(auto)]
 
 ghost use Rattle.std.specs.Prelude.{◌≡◌, ◌≤◌, length};
@@ -11,14 +11,14 @@ ghost use Rattle.uefi_node_reader.specs.ParsedNodeViews.{parsed_node};
 use crate::parsed_node::ParsedNode;
 use uefi_field_texts::shown_texts::is_escaped;
 
-/// Whether a byte ends a name.
+/// Returns whether a byte ends a name.
 pub(crate) fn ends_name(byte: u8) -> bool
     ensures { result ≡ ends_name byte }
 {
     byte == b'/' || byte == b','
 }
 
-/// Whether a node may end before a text: before a slash, a comma or the end.
+/// Returns whether a node may end before a text: whether the text is empty, or begins with a slash or a comma.
 pub(crate) fn is_after_node(text: &[u8]) -> bool
     ensures { result ≡ is_after_node text.now }
 {
@@ -28,7 +28,7 @@ pub(crate) fn is_after_node(text: &[u8]) -> bool
     }
 }
 
-/// A text without the blanks and line ends at its start.
+/// Returns a text without the blanks and line ends at its start.
 pub(crate) fn past_spaces(text: &[u8]) -> &[u8]
     ensures rest { result.now ≡ past_spaces text.now }
     ensures within { length result.now ≤ length text.now }
@@ -36,7 +36,7 @@ pub(crate) fn past_spaces(text: &[u8]) -> &[u8]
     text.trim_ascii_start()
 }
 
-/// How many bytes of a text stand before a slash or a comma.
+/// Returns the number of bytes of a text before its first slash or comma.
 pub(crate) fn name_len(text: &[u8]) -> usize
     ensures place { result ≡ position_or_len ends_name text.now }
     ensures within { result ≤ length text.now }
@@ -49,7 +49,7 @@ pub(crate) fn name_len(text: &[u8]) -> usize
     text.len()
 }
 
-/// Whether a character may stand in a name: it is printed as it is, and ends none.
+/// Returns whether a character may be in a name: texts do not escape it, and it does not end a name.
 fn is_name_char(c: char) -> bool
     ensures { result ≡ is_name_char c }
 {
@@ -61,21 +61,31 @@ fn is_name_char(c: char) -> bool
     is_shown && c != '/' && c != ','
 }
 
-/// Whether a text begins with a backslash.
+/// Returns whether a text begins with a backslash.
 fn begins_name(text: &str) -> bool
     ensures { result ≡ begins_name (chars text.now) }
 {
     text.chars().next() == Some('\\')
 }
 
-/// Whether a text has only characters of names.
+/// Returns whether all bytes, each as a character, may be in a name.
+fn are_name_bytes(bytes: &[u8]) -> bool
+    ensures { result ≡ list_all is_name_char bytes.now }
+{
+    bytes.iter().all(|byte| is_name_char(char::from(*byte)))
+}
+
+/// Returns whether all characters of a text may be in a name.
 fn has_name_chars(text: &str) -> bool
     ensures { result ≡ list_all is_name_char (chars text.now) }
 {
+    if text.is_ascii() {
+        return are_name_bytes(text.as_bytes());
+    }
     text.chars().all(|c| is_name_char(c))
 }
 
-/// Reads the node with the name that a text begins with. Returns what stands after it, too.
+/// Reads the node of the name at the start of a text, and returns the rest of the text too.
 pub(crate) fn name(text: &[u8]) -> Option<(ParsedNode<'_>, &[u8])>
     ensures { option_map (λ x. (parsed_node x.0, x.1.now)) result ≡ name_read text.now }
 {

@@ -1,4 +1,4 @@
-//! Nodes whose texts were read. Their data are decoded where they go: reading takes no memory.
+//! Nodes that were read from texts. Their data is decoded when it is written, so reading does not allocate.
 #![tactic(auto, unfolding(crate::specs::ParsedNodeViews::parsed_node))]
 
 ghost use Rattle.std.specs.List.{list_all};
@@ -19,8 +19,8 @@ use crate::name_data::push_name;
 use crate::node_tails::{push_tail, push_uid, read_pieces};
 use uefi_node_table::rows::{Piece, Tail};
 
-/// A node whose text was read. A contract sees it as `parsed_node` of it. Its numbers are small, so that a
-/// move needs no call of `memcpy`, which firmware lacks.
+/// A node that was read from a text. A contract sees it as `parsed_node` of it. Its numbers are small so that
+/// a move does not call `memcpy`, which firmware lacks.
 #[derive(Clone, Copy)]
 pub struct ParsedNode<'a> {
     device_type: u8,
@@ -41,8 +41,8 @@ pub struct ParsedNode<'a> {
 impl<'a> ParsedNode<'a> {
     ghost use Rattle.uefi_node_reader.specs.ParsedNodeViews.{text_node_data, parsed_node};
 
-    /// The node with these fixed bytes, and the data that a text begins with before `close`, as a tail has
-    /// them; and what stands after these.
+    /// Returns the node with these fixed bytes, and the data that a tail reads at the start of a text, up to
+    /// `close`. Returns the rest of the text too.
     pub(crate) fn with_tail(
         device_type: u8,
         sub_type: u8,
@@ -76,7 +76,8 @@ impl<'a> ParsedNode<'a> {
         Some((node, rest))
     }
 
-    /// The node with further fields of its fixed part, which a text begins with; and what stands after them.
+    /// Returns the node with more fields of its fixed part, which are read at the start of a text, and the rest
+    /// of the text.
     pub(crate) fn with_fields<'b>(
         self,
         pieces: &[Piece],
@@ -105,7 +106,7 @@ impl<'a> ParsedNode<'a> {
         Some((node, rest))
     }
 
-    /// The node that a name tells, whole.
+    /// Returns the node of a file with this name, or `None` if its data is too long.
     pub(crate) fn with_name(name: &'a str) -> Option<Self>
         ensures { option_map parsed_node result ≡ (if nat_le (length (name_data (chars name.now))) 0xfffb
             then Some (node_with 4 4 (name_data (chars name.now))) else None) }
@@ -127,8 +128,8 @@ impl<'a> ParsedNode<'a> {
         })
     }
 
-    /// The node with these fixed bytes, and three strings of IDs, of which a text begins with the second
-    /// before `close`, and the others are empty.
+    /// Returns the node with these fixed bytes and three strings of IDs. The second string is read at the start
+    /// of a text, up to `close`; the others are empty.
     pub(crate) fn with_uid(
         device_type: u8,
         sub_type: u8,
@@ -163,7 +164,7 @@ impl<'a> ParsedNode<'a> {
         })
     }
 
-    /// The type and the sub-type.
+    /// Returns the type and the sub-type.
     pub fn types(&self) -> (u8, u8)
         ensures device_type { result.0 ≡ (parsed_node self.now).device_type }
         ensures sub_type { result.1 ≡ (parsed_node self.now).sub_type }
@@ -171,7 +172,7 @@ impl<'a> ParsedNode<'a> {
         (self.device_type, self.sub_type)
     }
 
-    /// How many bytes of data the node has.
+    /// Returns the number of bytes of data.
     pub fn data_len(&self) -> usize
         ensures count { result ≡ length (parsed_node self.now).content }
         ensures fits { result ≤ 0xfffb }
@@ -179,7 +180,7 @@ impl<'a> ParsedNode<'a> {
         usize::from(self.len)
     }
 
-    /// The first bytes of the data, at most 64.
+    /// Returns the first bytes of the data, at most 64.
     pub(crate) fn head(&self) -> &[u8]
         ensures { result.now ≡ take 64 (parsed_node self.now).content }
     {
@@ -189,7 +190,7 @@ impl<'a> ParsedNode<'a> {
         &self.head
     }
 
-    /// Writes the data to bytes, which are as many.
+    /// Writes the data to a buffer of the same length.
     pub fn write_data(&self, bytes: &mut [u8])
         requires { length bytes.old ≡ length (parsed_node self.now).content }
         ensures { bytes.new ≡ (parsed_node self.now).content }

@@ -50,6 +50,7 @@ enum Part {
 
 /// Returns whether a unit of a set takes another: as itself, or as the end of a range, if `-` is
 /// before it. `earlier` is before that.
+#[inline(always)]
 fn takes_here(earlier: u16, before: u16, c: u16, unit: u16) -> bool
     ensures { result ≡ unit_has earlier before c unit }
 {
@@ -88,6 +89,7 @@ fn set_takes(pattern: &mut CountedReader<'_>, start: usize, unit: u16) -> Option
 
 /// Returns the length of the unit or set at an index of the pattern, if that is not `*` and takes a
 /// unit. `first` is the unit at that index.
+#[inline(always)]
 fn part_that_takes(
     pattern: &mut CountedReader<'_>,
     at: usize,
@@ -122,6 +124,7 @@ fn part_that_takes(
 }
 
 /// Returns the part of the pattern at an index, for a unit of the text.
+#[inline(always)]
 fn part_at(pattern: &mut CountedReader<'_>, at: usize, unit: u16) -> Part
     requires { at ≤ length (read_units pattern.old) }
     ensures units { read_units pattern.new ≡ read_units pattern.old }

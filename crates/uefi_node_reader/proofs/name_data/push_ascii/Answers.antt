@@ -18,6 +18,5 @@ pub loop-place-preserved : goal.loop-place-preserved
 loop-place-preserved c =
     let start : List ℕ × ℕ = (c.args.places.now, c.args.len) in
     let byte : ℕ = slice_index c.args.text.now c.loop-place.place in
-    c.push-count-in-loop-place.ensures ∙ ap (λ (s : List ℕ × ℕ). pushed_byte s 0) c.push-count.ensures
-    ∙ ap (λ (s : List ℕ × ℕ). pushed_byte (pushed_byte s byte) 0) c.loop-place.invariant
+    c.push_pair-count.ensures ∙ ap (λ (s : List ℕ × ℕ). pushed_byte (pushed_byte s byte) 0) c.loop-place.invariant
     ∙ byte_more start c.args.text.now c.loop-place.place c.loop-place-test.true (c.type_inv.text c.loop-place.place).fits
