@@ -1,7 +1,5 @@
-use Rattle.std.proofs.Common.{◌≡◌, ◌+◌, ◌-◌, ◌*◌, ◌^◌, min, length, slice_index, List, ℕ, arith, sym, ap, ◌∙◌}
-use Rattle.std.proofs.lemmas.List.{take_all}
-use Rattle.uefi_text.specs.UnitBytes.{unit_bytes}
-use Rattle.uefi_node_reader.specs.Counted.{pushed_byte, pushed_bytes}
+use Rattle.std.proofs.Common.{◌≡◌, ◌+◌, ◌-◌, ◌*◌, ◌^◌, min, length, slice_index, List, ℕ, arith, ap, ◌∙◌}
+use Rattle.uefi_node_reader.specs.Counted.{pushed_byte}
 use Rattle.uefi_node_reader.proofs.NamedFiles.{byte_more, bytes_counted}
 use Rattle.uefi_node_reader.proofs.name_data.push_ascii.Goals as goal
 

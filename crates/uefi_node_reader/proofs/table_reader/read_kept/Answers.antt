@@ -7,9 +7,7 @@ use Rattle.uefi_node_table.specs.Table.{forms}
 use Rattle.uefi_device_nodes.specs.Nodes.{Node, node_with}
 use Rattle.uefi_node_reader.specs.FieldReading.{read_if}
 use Rattle.uefi_node_reader.specs.TableReading.{form_place, form_read, kept, prints}
-use Rattle.uefi_node_reader.specs.WordReading.{after}
 use Rattle.uefi_node_reader.specs.ParsedNodeViews.{text_node_data, parsed_node}
-use Rattle.uefi_node_reader.proofs.FirstLetters.{form_unread}
 use Rattle.uefi_node_reader.proofs.Heads.{place_shown}
 use Rattle.uefi_node_reader.proofs.ParsedNodes.{kept-fitting}
 use Rattle.uefi_node_reader.proofs.table_reader.read_kept.Goals as goal

@@ -1,5 +1,5 @@
 -- No form of another type prints a node.
-use Rattle.std.proofs.Common.{map, false, true, ◌≡◌, ◌∙◌, sym}
+use Rattle.std.proofs.Common.{map, false, ◌∙◌, sym}
 use Rattle.std.proofs.lemmas.Bool.{not-true}
 use Rattle.std.proofs.lemmas.List.{length-map}
 use Rattle.uefi_node_table.specs.Rows.{as_form, matches}
