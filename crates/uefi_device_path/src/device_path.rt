@@ -293,8 +293,10 @@ impl<'a> DevicePath<'a> {
     /// as UTF-16, with a NUL, and returns its length without the NUL. The rest of the buffer is
     /// unchanged.
     ///
-    /// Fails only if the buffer is too small, and then leaves it unchanged. Makes the text twice:
-    /// once to count its units, and once to write them. Does not allocate.
+    /// Fails only if the buffer is too small, and then leaves it unchanged. A buffer of
+    /// [`TEXT_UNITS_PER_BYTE`](crate::TEXT_UNITS_PER_BYTE) units for each byte of the path is never
+    /// too small. Makes the text twice: once to count its units, and once to write them. Does not
+    /// allocate.
     ///
     /// ```rust
     /// let path = DevicePathBuf::from_text(rt.alloc(), "SD(0x1)")?;

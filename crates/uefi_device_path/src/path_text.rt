@@ -13,6 +13,13 @@ use std::fmt;
 use uefi_device_nodes::{AllowShortcuts, DevicePathNode, DisplayOnly};
 use uefi_text::text_sink::{Printed, TextSink, print};
 
+/// How many code units a buffer needs for each byte of a device path or a node, so that the text in
+/// any style always fits with its NUL (law [`text_lengths`](crate::laws::text_lengths)).
+///
+/// No smaller number is enough: a node of 11 bytes prints
+/// `UsbDeviceFirmwareUpdate(0xFFFF,0xFFFF,0xFF)`, which needs 44 units with its NUL.
+pub const TEXT_UNITS_PER_BYTE: usize = 4;
+
 /// Returns the first of some nodes, given as bytes, and the bytes of the others.
 fn cut_node(bytes: &[u8]) -> (DevicePathNode<'_>, &[u8])
     requires are_nodes { AreNodes bytes.now }
