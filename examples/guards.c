@@ -720,6 +720,37 @@ static void try_size(const struct list *path)
     }
 }
 
+/*
+ * Nodes whose texts are long: a name of characters that are escaped, and a node whose text and NUL need all of the promised room.
+ * `left` is how much longer that room is than the text.
+ */
+static nard_byte turned[4 + 2 * 1000];
+static const struct {
+    struct list node;
+    nard_size left;
+} widest[] = {{{turned, sizeof turned, 1}, 16}, {BYTES("\3\17\13\0\xff\xff\xff\xff\xfe\1\xff"), 1}};
+
+/* The texts of a node, and of a path of it, in exactly the promised room. The end node of the path adds 16 units to it. */
+static void try_widest(const struct list *node, nard_size left)
+{
+    nard_byte path[sizeof turned + 4];
+    memcpy(path, node->at, node->count);
+    memcpy(path + node->count, END, 4);
+    for (int i = 0; i < 3; i++) {
+        nard_size count = node->count + (i == 0 ? 0 : 4), room = NARD_DEVICE_PATH_TEXT_ROOM(count), length = 0;
+        const nard_byte *bytes = put(0, path, count);
+        nard_unit *text = put(BUFFER, NULL, room * sizeof *text);
+        nard_result reason = i == 0   ? nard_node_text(bytes, count, false, false, text, room, &length)
+                             : i == 1 ? nard_device_path_text(bytes, count, false, false, text, room, &length)
+                                      : nard_device_path_libefivar_text(bytes, count, text, room, &length);
+        if (reason != NARD_OK || text[length] != 0 || room - length > left + (i == 0 ? 0 : 16)) {
+            printf("call %d in the promised room, for a node of %zu bytes: WRONG: %s, %zu units of %zu\n", i, node->count,
+                   nard_reason_text(reason), length, room);
+            failed = true;
+        }
+    }
+}
+
 static void try_row(const struct row *row)
 {
     size_t counts[] = {row->in[0].count, row->in[1].count, row->in[2].count};
@@ -750,6 +781,9 @@ int main(int argc, char **argv)
             return 2;
         areas[i] = pages + PAGE;
     }
+    memcpy(turned, (const nard_byte[]){4, 4, sizeof turned & 0xff, sizeof turned >> 8}, 4);
+    for (size_t i = 4; i < sizeof turned; i += 2)
+        memcpy(turned + i, "\x2e\x20", 2); /* U+202E, which is printed as \u{202E} */
     for (int turn = 0; turn < (is_uninitialized ? 1 : 3); turn++) {
         at_end = turn != 1;
         is_null = turn == 2;
@@ -765,6 +799,8 @@ int main(int argc, char **argv)
                 try_cased(&cased[i], room);
         for (size_t i = 0; i < sizeof unmeasured / sizeof unmeasured[0]; i++)
             try_size(&unmeasured[i]);
+        for (size_t i = 0; i < sizeof widest / sizeof widest[0]; i++)
+            try_widest(&widest[i].node, widest[i].left);
     }
     for (int i = 0; i < AREAS && is_uninitialized; i++)
         free(areas[i]);

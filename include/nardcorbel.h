@@ -592,9 +592,17 @@ nard_result NARD_CALL nard_device_path_file_path(const nard_byte *bytes, nard_si
                                                  nard_unit *buffer, nard_size room, nard_size *length);
 
 /*
+ * The room, in units, that is always enough for the text of a device path or a node of this many bytes and its NUL. The three calls
+ * below never return NARD_BUFFER_TOO_SMALL for a buffer of this room or more, so a caller need not ask for the length first. The calls
+ * for a path are then twice as fast, because they make the text once.
+ */
+#define NARD_DEVICE_PATH_TEXT_ROOM(byte_count) (4 * (byte_count))
+
+/*
  * Formats a device path as text. The text is UTF-16 with a NUL (section 10.6.1), for example
  *     PciRoot(0x0)/Pci(0x1F,0x2)/Sata(0x0,0xFFFF,0x0)/HD(1,GPT,...)
- * Control characters, and characters that change the direction of a text, are escaped.
+ * Control characters, and characters that change the direction of a text, are escaped. A buffer of
+ * NARD_DEVICE_PATH_TEXT_ROOM(byte_count) units always has enough room.
  *
  *   display_only      shorter forms that cannot be read back
  *   allow_shortcuts   short names such as VenPcAnsi()
@@ -613,7 +621,7 @@ nard_result NARD_CALL nard_device_path_text(const nard_byte *bytes, nard_size by
  * nard_device_path_text, but with File(..) around file names, and the numbers of a partition in lower case. For example
  *     HD(1,GPT,03020100-0504-0706-0809-0a0b0c0d0e0f,0x800,0x100000)/File(\EFI\debian\shimx64.efi)
  *
- * Returns as nard_device_path_text does.
+ * Returns as nard_device_path_text does. A buffer of NARD_DEVICE_PATH_TEXT_ROOM(byte_count) units always has enough room.
  */
 nard_result NARD_CALL nard_device_path_libefivar_text(const nard_byte *bytes, nard_size byte_count,
                                                       nard_unit *buffer, nard_size room, nard_size *length);
@@ -622,7 +630,8 @@ nard_result NARD_CALL nard_device_path_libefivar_text(const nard_byte *bytes, na
  * Formats one node as text. The text is as nard_device_path_text formats a path, for example
  *     Pci(0x1F,0x2)
  * The call does not read beyond the node. For a node of a path, pass the bytes from the node's offset on. A node that ends the path
- * is Path(127,255), and a node that ends an instance Path(127,1).
+ * is Path(127,255), and a node that ends an instance Path(127,1). A buffer of NARD_DEVICE_PATH_TEXT_ROOM units always has enough
+ * room: the macro's byte_count is the number of the node's bytes, or any larger number.
  *
  *   display_only, allow_shortcuts   as nard_device_path_text
  *

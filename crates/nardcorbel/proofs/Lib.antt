@@ -4,3 +4,4 @@ pub mod Options
 pub mod Written
 mod Judged
 mod Halves
+pub mod Rooms

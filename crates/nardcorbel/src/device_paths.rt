@@ -11,7 +11,7 @@ ghost use Rattle.uefi_device_path.specs.Paths.{BeginWithPath, path_bytes};
 ghost use Rattle.uefi_device_path.specs.declared.errors.DevicePathError.{DevicePathError};
 ghost use Rattle.uefi_device_path.specs.declared.errors.FilePathError.{FilePathError};
 ghost use Rattle.uefi_device_path.specs.declared.extent.PathExtent.{PathExtent};
-ghost use Rattle.uefi_device_path.specs.PathTexts.{libefivar_text, nodes_text};
+ghost use Rattle.uefi_device_path.specs.PathTexts.{libefivar_text, nodes_text, text_room};
 ghost use Rattle.uefi_text.specs.UnitTexts.{utf16_units};
 ghost use Rattle.nardcorbel.specs.DevicePaths.{GivesFilePath, ShowsExtent, file_outcome, node_in};
 ghost use Rattle.nardcorbel.specs.Outcomes.{Shows, ShowsNumber, when_read};
@@ -21,7 +21,7 @@ ghost use Rattle.nardcorbel.specs.Reasons.{node_reason};
 ghost use Rattle.nardcorbel.specs.declared.outcomes.Refusal.{Refusal};
 
 use crate::outcomes::{Refusal, read_path, refuse, refuse_room, report};
-use crate::reasons::{END_OF_PATH, NO_END_NODE, OK, node_reason};
+use crate::reasons::{BUFFER_TOO_SMALL, END_OF_PATH, NO_END_NODE, OK, node_reason};
 use uefi_device_path::{
     AllowShortcuts, DevicePath, DevicePathNode, DisplayOnly, FilePathWriteError, PathExtent,
     fault_place,
@@ -203,9 +203,10 @@ pub extern "C" fn nard_device_path_file_path(
 ///
 /// Bytes that do not begin with a device path are refused as by [`nard_device_path_check`].
 /// Otherwise `place` becomes the number of units of the text, without its NUL, at most `usize::MAX
-/// - 1`, and exactly a buffer with at most that many places is refused as `BUFFER_TOO_SMALL`. If
-/// the call fails, the buffer is unchanged. Units after the NUL are never changed. Does not
-/// allocate (UEFI Specification 2.10, section 10.6.1).
+/// - 1`, and exactly a buffer with at most that many places is refused as `BUFFER_TOO_SMALL`. A
+/// buffer of [`TEXT_UNITS_PER_BYTE`](uefi_device_path::TEXT_UNITS_PER_BYTE) units for each byte
+/// always has room. If the call fails, the buffer is unchanged. Units after the NUL are never
+/// changed. Does not allocate (UEFI Specification 2.10, section 10.6.1).
 #[unsafe(no_mangle)]
 pub extern "C" fn nard_device_path_text(
     bytes: &[u8],
@@ -214,9 +215,10 @@ pub extern "C" fn nard_device_path_text(
     buffer: &mut [u16],
     place: &mut usize,
 ) -> u32
-    ensures { Shows (when_read (read_path bytes.now) (λ nodes.
+    ensures shows { Shows (when_read (read_path bytes.now) (λ nodes.
         Text (utf16_units (nodes_text display_only allow_shortcuts nodes))))
         place.old buffer.old result place.new buffer.new }
+    ensures room_is_enough { text_room bytes.now ≤ length buffer.old → result ≢ BUFFER_TOO_SMALL }
 {
     let path = match read_path(bytes) {
         Ok(path) => path,
@@ -238,8 +240,10 @@ pub extern "C" fn nard_device_path_libefivar_text(
     buffer: &mut [u16],
     place: &mut usize,
 ) -> u32
-    ensures { Shows (when_read (read_path bytes.now) (λ nodes. Text (utf16_units (libefivar_text nodes))))
+    ensures shows { Shows (when_read (read_path bytes.now) (λ nodes.
+        Text (utf16_units (libefivar_text nodes))))
         place.old buffer.old result place.new buffer.new }
+    ensures room_is_enough { text_room bytes.now ≤ length buffer.old → result ≢ BUFFER_TOO_SMALL }
 {
     let path = match read_path(bytes) {
         Ok(path) => path,

@@ -1,3 +1,4 @@
 pub mod SoundNodes
 pub mod ShownNodes
 pub mod FieldsRead
+pub mod NodeLengths

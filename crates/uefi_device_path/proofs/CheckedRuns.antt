@@ -153,7 +153,7 @@ node_within : (bytes : List ℕ) → node_fault bytes ≡ None → (4 ≤ stated
 node_within bytes none = (grind (arith, nat_tests, none), grind (arith, nat_tests, none))
 
 -- where there is no fault, bytes begin with a node
-begins_node : (bytes : List ℕ) → All IsByte bytes → node_fault bytes ≡ None
+pub begins_node : (bytes : List ℕ) → All IsByte bytes → node_fault bytes ≡ None
     → IsSound (first_node bytes) × (bytes ≡ node_bytes (first_node bytes) ++ drop (stated_length bytes) bytes)
 begins_node (a ∷ b ∷ c ∷ d ∷ rest) byte none =
     let bytes : List ℕ = a ∷ b ∷ c ∷ d ∷ rest in

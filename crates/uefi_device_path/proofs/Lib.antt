@@ -26,3 +26,4 @@ mod PastedTexts
 pub mod StyledReading
 pub mod StyledPushes
 pub mod PrintedReading
+pub mod TextRoom

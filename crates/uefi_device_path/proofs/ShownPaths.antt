@@ -22,7 +22,7 @@ module _ {X : Type 0} (P : X → Type 0) (test : X → Bool) where
   onto x (part ∷ parts) one all =
       All-cons (All P) (x ∷ part) parts (All-cons P x part one (All-head (All P) part parts all)) (All-tail (All P) part parts all)
 
-  parts_all : (xs : List X) → All P xs → All (All P) (slice_split test xs)
+  pub parts_all : (xs : List X) → All P xs → All (All P) (slice_split test xs)
   parts_all [] all = All-cons (All P) [] [] (All-nil P) (All-nil (All P))
   parts_all (x ∷ xs) all = by (test x) (parts_all xs (All-tail P x xs all))
     where
@@ -52,7 +52,7 @@ module _ (joined : JoinedShown) (ascii : AsciiShown) (nodes_shown : NodesShown) 
       join_shown HasBytes (node_text display_only shortcuts) (nodes_shown display_only shortcuts) (codes "/") (ascii (codes "/") refl) nodes all
 
   -- a node as libefivar prints it
-  own_shown : (node : Node) → HasBytes node → IsShown (libefivar_node_text node)
+  pub own_shown : (node : Node) → HasBytes node → IsShown (libefivar_node_text node)
   unfolding libefivar_node_text
   own_shown node all = by (node_text false false node) (is_file_node node) (is_partition node) (nodes_shown false false node all)
     where

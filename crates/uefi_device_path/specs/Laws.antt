@@ -1,12 +1,13 @@
 -- The laws of device paths and load options, over the definitions that contracts of working calls cite.
-use Rattle.std.specs.Prelude.{◌≡◌, ◌↔◌, ◌≢◌, ℕ, ◌+◌, ◌-◌, ◌≤◌, length, Bool, true, false, List, [], ◌∷◌, ◌++◌, All, filter, fold, take, Result, Ok, Err}
+use Rattle.std.specs.Prelude.{◌≡◌, ◌↔◌, ◌≢◌, ℕ, ◌+◌, ◌-◌, ◌<◌, ◌≤◌, length, Bool, true, false, List, [], ◌∷◌, ◌++◌, All, filter, fold, take, Result, Ok, Err}
 use Rattle.std.specs.List.{flat_map}
 use Rattle.uefi_path.specs.Components.{components_of}
 use Rattle.uefi_path.specs.Laws.{IsRelative}
 use Rattle.uefi_path.specs.Pushing.{pushed}
 use Rattle.uefi_path.specs.Separators.{with_separators}
 use Rattle.uefi_device_nodes.specs.FileNodes.{is_file}
-use Rattle.uefi_device_nodes.specs.Nodes.{Node, IsInner}
+use Rattle.uefi_device_nodes.specs.Nodes.{Node, IsInner, node_bytes}
+use Rattle.uefi_device_nodes.specs.NodeTexts.{node_text}
 use Rattle.uefi_device_nodes.specs.NodeFaults.{fault_place}
 use Rattle.uefi_device_nodes.specs.declared.errors.NodeError.{NodeError}
 use Rattle.uefi_device_nodes.specs.declared.errors.NodeError.TheVariants.{Missing, TruncatedHeader, UnknownEnd, LengthBelowHeader, EndWithData, BeyondEnd}
@@ -16,8 +17,10 @@ use Rattle.uefi_device_path.specs.AroundNodes.{is_mark, is_quoted, is_spaces}
 use Rattle.uefi_device_path.specs.StyledReading.{IsReadAs, Reads, ReadingStopsAt, StopsBeingRead, path_read}
 use Rattle.uefi_device_path.specs.PathReading.{AreTold, StopsAt}
 use Rattle.uefi_text.specs.Packed.{IsByte}
+use Rattle.uefi_text.specs.UnitTexts.{utf16_units}
 use Rattle.uefi_field_texts.specs.ShownTexts.{IsShown}
-use Rattle.uefi_device_path.specs.PathTexts.{instance_text, libefivar_text, nodes_text}
+use Rattle.uefi_device_path.specs.LibefivarTexts.{libefivar_node_text}
+use Rattle.uefi_device_path.specs.PathTexts.{instance_text, libefivar_text, nodes_text, text_room}
 use Rattle.uefi_device_path.specs.Paths.{BeginWithPath, path_bytes}
 use Rattle.uefi_device_path.specs.Faults.{RefusedFor}
 use Rattle.uefi_device_path.specs.FilePaths.{file_names, file_path, name_in}
@@ -232,3 +235,23 @@ abbrev pub InstancesShown : Type 0
 InstancesShown = (display_only shortcuts : Bool) (nodes : List Node)
     → All (λ node. All IsByte node.content) nodes
     → IsShown (instance_text display_only shortcuts nodes)
+
+-- the text of a path has fewer code units than the room that is chosen by the path's bytes
+abbrev pub PathTextsFit : Type 0
+PathTextsFit = (display_only shortcuts : Bool) (nodes : List Node) → All IsByte (path_bytes nodes)
+    → length (utf16_units (nodes_text display_only shortcuts nodes)) < text_room (path_bytes nodes)
+
+-- so has the text that libefivar prints of it
+abbrev pub LibefivarTextsFit : Type 0
+LibefivarTextsFit = (nodes : List Node) → All IsByte (path_bytes nodes)
+    → length (utf16_units (libefivar_text nodes)) < text_room (path_bytes nodes)
+
+-- the text of a node has fewer code units than the room that is chosen by the node's bytes
+abbrev pub NodeTextsFit : Type 0
+NodeTextsFit = (display_only shortcuts : Bool) (node : Node) → All IsByte (node_bytes node)
+    → length (utf16_units (node_text display_only shortcuts node)) < text_room (node_bytes node)
+
+-- so has the text that libefivar prints of it
+abbrev pub LibefivarNodeTextsFit : Type 0
+LibefivarNodeTextsFit = (node : Node) → All IsByte (node_bytes node)
+    → length (utf16_units (libefivar_node_text node)) < text_room (node_bytes node)

@@ -1,5 +1,5 @@
 -- What is printed of device paths, in UTF-8 (UEFI Specification 2.10, section 10.6.1).
-use Rattle.std.specs.Prelude.{ℕ, Bool, List, codes}
+use Rattle.std.specs.Prelude.{ℕ, ◌*◌, Bool, List, codes, length}
 use Rattle.std.specs.List.{join_by}
 use Rattle.uefi_device_nodes.specs.Nodes.{Node}
 use Rattle.uefi_device_nodes.specs.NodeTexts.{node_text}
@@ -7,6 +7,7 @@ use Rattle.uefi_device_path.specs.Instances.{instances}
 use Rattle.uefi_device_path.specs.LibefivarTexts.{libefivar_node_text}
 use Rattle.uefi_device_path.specs.declared.path_text.Form.{Form}
 use Rattle.uefi_device_path.specs.declared.path_text.Form.TheVariants.{Specified, Libefivar}
+use Rattle.uefi_device_path.specs.declared.path_text.TheConstants.{TEXT_UNITS_PER_BYTE}
 
 -- an instance: the texts of its nodes, with a slash between each two
 unfoldable pub instance_text : Bool → Bool → List Node → List ℕ
@@ -34,3 +35,7 @@ instance_text_in form nodes = join_by (node_text_in form) (codes "/") nodes
 -- a path in a form
 abbrev pub path_text_in : Form → List Node → List ℕ
 path_text_in form nodes = join_by (instance_text_in form) (codes ",") (instances nodes)
+
+-- how many code units always hold the text of a path or a node with these bytes, and its NUL
+abbrev pub text_room : List ℕ → ℕ
+text_room bytes = TEXT_UNITS_PER_BYTE * length bytes

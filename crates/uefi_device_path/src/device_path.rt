@@ -23,8 +23,9 @@ ghost use Rattle.std.specs.Cmp.Lexicographic.{nat_list_eq_equiv, pointwise, on_t
 use crate::errors::{DevicePathError, FilePathCause, FilePathError, FilePathWriteError};
 use crate::file_path::{file_path_in, write_file_path_in};
 use crate::instance::DevicePathInstanceIterator;
+use crate::laws::text_lengths;
 use crate::node_iterator::DevicePathNodeIterator;
-use crate::path_text::PathText;
+use crate::path_text::{PathText, most_units};
 use std::alloc::Allocator;
 use std::fmt;
 use std::hash::{Hash, Hasher};
@@ -33,7 +34,7 @@ use uefi_device_nodes::{AllowShortcuts, DisplayOnly};
 use uefi_path::PathBuf;
 use uefi_text::CStr16;
 use uefi_text::text_sink::print;
-use uefi_text::unit_sink::{BufferTooSmall, write_units};
+use uefi_text::unit_sink::{BufferTooSmall, write_bounded_units};
 
 /// A device path in borrowed bytes: nodes one after the other, and the end node. A contract sees it
 /// as `nodes_of` it: the list of its nodes, without the end node.
@@ -294,8 +295,10 @@ impl<'a> DevicePath<'a> {
     /// as UTF-16, with a NUL, and returns its length without the NUL. The rest of the buffer is
     /// unchanged.
     ///
-    /// Fails only if the buffer is too small, and then leaves it unchanged. Makes the text twice:
-    /// once to count its units, and once to write them. Does not allocate.
+    /// Fails only if the buffer is too small, and then leaves it unchanged. A buffer of
+    /// [`TEXT_UNITS_PER_BYTE`](crate::TEXT_UNITS_PER_BYTE) units for each byte of the path is never
+    /// too small, and the call then makes the text once. For a smaller buffer it makes the text
+    /// twice: once to count its units, and once to write them. Does not allocate.
     ///
     /// ```rust
     /// let path = DevicePathBuf::from_text(rt.alloc(), "SD(0x1)")?;
@@ -316,7 +319,9 @@ impl<'a> DevicePath<'a> {
         ensures buffer { buffer.new ≡ with_prefix (nul_terminated
             (utf16_units (nodes_text display_only.0 allow_shortcuts.0 (nodes_of self.now)))) buffer.old }
     {
-        write_units(buffer, &self.display(display_only, allow_shortcuts))
+        text_lengths();
+        let most = most_units(self.bytes);
+        write_bounded_units(buffer, &self.display(display_only, allow_shortcuts), most)
     }
 
     /// Writes the text that [`DevicePath::display`] prints to the start of a buffer, and borrows it
@@ -376,7 +381,9 @@ impl<'a> DevicePath<'a> {
         ensures buffer { buffer.new
             ≡ with_prefix (nul_terminated (utf16_units (libefivar_text (nodes_of self.now)))) buffer.old }
     {
-        write_units(buffer, &self.display_libefivar())
+        text_lengths();
+        let most = most_units(self.bytes);
+        write_bounded_units(buffer, &self.display_libefivar(), most)
     }
 
     /// Returns an iterator over the instances of the path, in order: the parts between the nodes

@@ -1,6 +1,6 @@
 //! The laws of device paths and load options, for proofs of callers. They are about the definitions
 //! that other contracts cite. Each law is a function that does nothing: its contract is the law.
-ghost use Rattle.uefi_device_path.specs.Laws.{AcceptedWithMore, BuiltIsRead, BytesOnce, FaultsWithin, InstancesShown, LibefivarShown, NamesInARow, NeverBoth, OneName, OnlyFilesCount, OptionsNeverBoth, OptionsOnce, PathsAreRead, PathsOnce, PathsShown, PrintedIsRead, PrintedStops, PushedAtRefused, PushedAtWritten, QuotedIsRead, ReadIsPrinted, ReadMeans, ReadNeverStops, ReadOnce, ReadTold, ReadingStopsOnce, RefusalsAreRead, RefusedByHeader, RelativeNamesArePushed, SlashedIsRead, StopMeans, StopsOnce, TextsNeverBoth, TextsOnce};
+ghost use Rattle.uefi_device_path.specs.Laws.{AcceptedWithMore, BuiltIsRead, BytesOnce, FaultsWithin, InstancesShown, LibefivarNodeTextsFit, LibefivarShown, LibefivarTextsFit, NamesInARow, NeverBoth, NodeTextsFit, OneName, OnlyFilesCount, OptionsNeverBoth, OptionsOnce, PathTextsFit, PathsAreRead, PathsOnce, PathsShown, PrintedIsRead, PrintedStops, PushedAtRefused, PushedAtWritten, QuotedIsRead, ReadIsPrinted, ReadMeans, ReadNeverStops, ReadOnce, ReadTold, ReadingStopsOnce, RefusalsAreRead, RefusedByHeader, RelativeNamesArePushed, SlashedIsRead, StopMeans, StopsOnce, TextsNeverBoth, TextsOnce};
 
 use uefi_device_nodes::laws::nodes_are_shown;
 pub use uefi_device_nodes::laws::{units_in_bytes, view_of_built};
@@ -127,3 +127,14 @@ pub fn nothing_is_hidden()
     fields_are_shown();
     nodes_are_shown();
 }
+
+/// The text of a device path or a node has fewer code units than
+/// [`TEXT_UNITS_PER_BYTE`](crate::TEXT_UNITS_PER_BYTE) times its bytes, so that a buffer of that
+/// many units has room for the text and its NUL. This holds in libefivar's style too, for display
+/// alone and with shortcuts.
+pub fn text_lengths()
+    ensures paths { PathTextsFit }
+    ensures libefivar { LibefivarTextsFit }
+    ensures nodes { NodeTextsFit }
+    ensures libefivar_nodes { LibefivarNodeTextsFit }
+{}

@@ -2,16 +2,35 @@
 #![tactic(auto, using(uefi_text::proofs::Puts::puts), unfolding(crate::specs::Views::printed_path))]
 
 ghost use Rattle.std.specs.Fmt.{WritesInCalls};
-ghost use Rattle.std.specs.Prelude.{◌≡◌, ◌≢◌, ◌<◌, ◌∷◌, length, Some};
+ghost use Rattle.std.specs.Prelude.{◌≡◌, ◌≢◌, ◌-◌, ◌^◌, ◌<◌, ◌∷◌, All, length, min, Some};
 ghost use Rattle.uefi_device_nodes.specs.NodeViews.{node_of};
 ghost use Rattle.uefi_device_path.specs.Paths.{AreNodes, nodes_in};
-ghost use Rattle.uefi_device_path.specs.PathTexts.{instance_text_in, libefivar_text, node_text_in, nodes_text, path_text_in};
+ghost use Rattle.uefi_device_path.specs.PathTexts.{instance_text_in, libefivar_text, node_text_in, nodes_text, path_text_in, text_room};
+ghost use Rattle.uefi_text.specs.Packed.{IsByte};
 
 use crate::instance::cut_instance;
 use crate::libefivar_nodes;
 use std::fmt;
 use uefi_device_nodes::{AllowShortcuts, DevicePathNode, DisplayOnly};
 use uefi_text::text_sink::{Printed, TextSink, print};
+
+/// How many code units a buffer needs for each byte of a device path or a node, so that the text in
+/// any style always fits with its NUL (law [`text_lengths`](crate::laws::text_lengths)).
+///
+/// No smaller number is enough: a node of 11 bytes prints
+/// `UsbDeviceFirmwareUpdate(0xFFFF,0xFFFF,0xFF)`, which needs 44 units with its NUL.
+pub const TEXT_UNITS_PER_BYTE: usize = 4;
+
+/// Returns the most code units that the text of a path or a node with these bytes can have, as far
+/// as a `usize` counts.
+pub(crate) fn most_units(bytes: &[u8]) -> usize
+    ensures most { result ≡ min (text_room bytes.now) (2 ^ 64 - 1) - 1 }
+    ensures bytes { All IsByte bytes.now }
+{
+    TEXT_UNITS_PER_BYTE
+        .saturating_mul(bytes.len())
+        .saturating_sub(1)
+}
 
 /// Returns the first of some nodes, given as bytes, and the bytes of the others.
 fn cut_node(bytes: &[u8]) -> (DevicePathNode<'_>, &[u8])

@@ -5,7 +5,7 @@ use crate::pasted_texts::{READ_BY_EDK2, READ_BY_PEOPLE, fault_words};
 use for_tests::{bytes, split_row};
 use std::alloc::Global;
 use std::test::Fail;
-use uefi_device_path::DevicePathBuf;
+use uefi_device_path::{DevicePathBuf, LenientTextError};
 
 /// Paths that libefivar makes, without the node that ends them, and the texts that it prints of them.
 pub(crate) const BY_LIBEFIVAR: &str = "\

@@ -5,6 +5,7 @@ use for_tests::{bytes, shows, split_row};
 use std::test::Fail;
 use uefi_device_path::{
     AllowShortcuts, BufferTooSmall, DevicePath, DevicePathInstance, DevicePathNode, DisplayOnly,
+    TEXT_UNITS_PER_BYTE,
 };
 
 /// Paths in the form that can be read back.
@@ -183,6 +184,30 @@ fn nodes(rt: HostRuntime) -> Result<(), Fail> {
         let buffer = places.get_mut(..room).unwrap_or_default();
         let said = node.write_text(buffer, DisplayOnly(false), AllowShortcuts(false));
         assert!(rt; (said, places) == written("a😀\u{fffd}", room), "{room}");
+    }
+    Ok(())
+}
+
+/// Nodes whose texts are long for their bytes. The text of the first, with its NUL, needs the whole room.
+const LONG_TEXTS: &str = "\
+030f0b00fffffffffe01ff UsbDeviceFirmwareUpdate(0xFFFF,0xFFFF,0xFF)
+04040c002e202e202e202e20 \\u{202E}\\u{202E}\\u{202E}\\u{202E}";
+
+#[test]
+fn rooms(rt: HostRuntime) -> Result<(), Fail> {
+    for line in LONG_TEXTS.split('\n') {
+        let (digits, want) = split_row(line);
+        let bytes = bytes(rt.alloc(), digits)?;
+        let (node, _) = DevicePathNode::split_first(&bytes)?;
+        let room = bytes.len().saturating_mul(TEXT_UNITS_PER_BYTE);
+        let mut places = [0xffff; 256];
+        let buffer = places.get_mut(..room).unwrap_or_default();
+        let said = node.write_text(buffer, DisplayOnly(false), AllowShortcuts(false));
+        assert!(rt; (said, places) == written(want, room), "{want}");
+        assert!(rt;
+            said.is_ok() && room <= want.len().saturating_add(16),
+            "{want}"
+        );
     }
     Ok(())
 }

@@ -4,3 +4,4 @@ pub mod UnitsShown
 pub mod ShownTexts
 pub mod GuidTexts
 pub mod HexBlocks
+pub mod FieldLengths

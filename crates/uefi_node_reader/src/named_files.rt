@@ -18,7 +18,7 @@ pub(crate) fn ends_name(byte: u8) -> bool
     byte == b'/' || byte == b','
 }
 
-/// Returns whether a node may end before a text: whether the text is empty, or begins with a slash or a comma.
+/// Returns whether a node may end before a text: before no byte, a slash or a comma.
 pub(crate) fn is_after_node(text: &[u8]) -> bool
     ensures { result ≡ is_after_node text.now }
 {

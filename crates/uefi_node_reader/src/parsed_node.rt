@@ -76,8 +76,8 @@ impl<'a> ParsedNode<'a> {
         Some((node, rest))
     }
 
-    /// Returns the node with more fields of its fixed part, which are read at the start of a text, and the rest
-    /// of the text.
+    /// Returns the node with more fields of its fixed part, which are read at the start of a text, and
+    /// the rest of the text.
     pub(crate) fn with_fields<'b>(
         self,
         pieces: &[Piece],
@@ -128,8 +128,8 @@ impl<'a> ParsedNode<'a> {
         })
     }
 
-    /// Returns the node with these fixed bytes and three strings of IDs. The second string is read at the start
-    /// of a text, up to `close`; the others are empty.
+    /// Returns the node with these fixed bytes and three strings of IDs. The second string is read at
+    /// the start of a text, up to `close`; the others are empty.
     pub(crate) fn with_uid(
         device_type: u8,
         sub_type: u8,

@@ -4,3 +4,4 @@ pub mod Items
 pub mod Forms
 pub mod Groups
 pub mod ShownTexts
+pub mod RowLengths

@@ -30,3 +30,4 @@ pub mod Puts
 pub mod SunkUnits
 pub mod Numerals
 pub mod Surrogates
+pub mod TextLengths

@@ -1,7 +1,7 @@
 //! Texts that are written to a caller's buffer as UTF-16.
 #![tactic(auto, using(crate::proofs::Puts::puts))]
 
-ghost use Rattle.std.specs.Prelude.{◌≡◌, ℕ, ◌∷◌, ◌++◌, ◌+◌, ◌-◌, ◌≤◌, [], List, length, map, min, take, Some};
+ghost use Rattle.std.specs.Prelude.{◌≡◌, ℕ, ◌∷◌, ◌++◌, ◌+◌, ◌-◌, ◌<◌, ◌≤◌, [], List, length, map, min, take, Some};
 ghost use Rattle.std.specs.Char.Escape.{encode_utf16};
 ghost use Rattle.uefi_text.specs.UnalignedCStr16.{with_prefix};
 ghost use Rattle.uefi_text.specs.UnitTexts.{AreSunk, utf16_units, written_len, buffer_too_small_text};
@@ -220,6 +220,29 @@ pub fn write_units<P: Printed>(buffer: &mut [u16], value: &P) -> Result<usize, B
         return Err(BufferTooSmall(len.saturating_add(1)));
     }
     fill_units(buffer, value);
+    buffer[len] = 0;
+    Ok(len)
+}
+
+/// Writes the text of a value as [`write_units`] does, but makes it only once if the buffer has
+/// more than `most` places. The text must then have at most `most` units.
+///
+/// Hidden: the crates of device paths know such a number, and the call may change.
+#[doc(hidden)]
+pub fn write_bounded_units<P: Printed>(
+    buffer: &mut [u16],
+    value: &P,
+    most: usize,
+) -> Result<usize, BufferTooSmall>
+    requires { most < length buffer.old → length (utf16_units (P.printed value.now)) ≤ most }
+    ensures len { result ≡ written_len (utf16_units (P.printed value.now)) buffer.old }
+    ensures buffer { buffer.new
+        ≡ with_prefix (nul_terminated (utf16_units (P.printed value.now))) buffer.old }
+{
+    if buffer.len() <= most {
+        return write_units(buffer, value);
+    }
+    let len = fill_units(buffer, value);
     buffer[len] = 0;
     Ok(len)
 }
