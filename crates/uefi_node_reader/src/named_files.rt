@@ -1,10 +1,10 @@
 //! Nodes of files, read from the names.
 #![tactic(auto)]
 
-ghost use Rattle.std.specs.Prelude.{◌≡◌, ◌≤◌, length};
+ghost use Rattle.std.specs.Prelude.{◌≡◌, ◌<◌, ◌≤◌, ℕ, false, length, slice_index, true};
 ghost use Rattle.std.specs.List.{list_all, position_or_len};
 ghost use Rattle.std.specs.Option.{option_map};
-ghost use Rattle.std.specs.Str.{chars};
+ghost use Rattle.std.specs.Str.{IsAscii, chars};
 ghost use Rattle.uefi_node_reader.specs.NamedFiles.{begins_name, ends_name, is_after_node, is_name_char, name_read, past_spaces};
 ghost use Rattle.uefi_node_reader.specs.ParsedNodeViews.{parsed_node};
 
@@ -36,12 +36,42 @@ pub(crate) fn past_spaces(text: &[u8]) -> &[u8]
     text.trim_ascii_start()
 }
 
+/// The number of bytes that are tested together. Without an early exit among them, the test becomes
+/// vector code.
+const BLOCK: usize = 16;
+
+/// Returns `true` only if no byte of a block ends a name.
+#[inline(always)]
+fn is_inside_name(block: &[u8]) -> bool
+    ensures { result ≡ true → (k : ℕ) → k < length block.now → ends_name (slice_index block.now k) ≡ false }
+{
+    let mut is_inside = true;
+    for i in 0..block.len() {
+        is_inside &= (block[i] != b'/') & (block[i] != b',');
+    }
+    is_inside
+}
+
+/// Returns an index before which no byte of a text ends a name. Tests the bytes in blocks, up to a
+/// block with a byte that does, or to less than a block.
+#[inline(always)]
+fn inner_blocks_end(text: &[u8]) -> usize
+    ensures within { result ≤ length text.now }
+    ensures inside { (k : ℕ) → k < result → ends_name (slice_index text.now k) ≡ false }
+{
+    let mut end = 0;
+    while BLOCK <= text.len() - end && is_inside_name(&text[end..end + BLOCK]) {
+        end += BLOCK;
+    }
+    end
+}
+
 /// Returns the number of bytes of a text before its first slash or comma.
 pub(crate) fn name_len(text: &[u8]) -> usize
     ensures place { result ≡ position_or_len ends_name text.now }
     ensures within { result ≤ length text.now }
 {
-    for place in 0..text.len() {
+    for place in inner_blocks_end(text)..text.len() {
         if ends_name(text[place]) {
             return place;
         }
@@ -68,11 +98,26 @@ fn begins_name(text: &str) -> bool
     text.chars().next() == Some('\\')
 }
 
-/// Returns whether all bytes, each as a character, may be in a name.
-fn are_name_bytes(bytes: &[u8]) -> bool
-    ensures { result ≡ list_all is_name_char bytes.now }
+/// Returns whether an ASCII character may be in a name.
+#[inline(always)]
+fn is_name_byte(byte: u8) -> bool
+    requires { byte < 128 }
+    ensures { result ≡ is_name_char byte }
 {
-    bytes.iter().all(|byte| is_name_char(char::from(*byte)))
+    (0x20 <= byte) & (byte < 0x7f) & (byte != b'/') & (byte != b',')
+}
+
+/// Returns whether all characters of an ASCII text may be in a name. Without an early exit, the
+/// loop becomes vector code.
+fn are_name_bytes(text: &[u8]) -> bool
+    requires { IsAscii text.now }
+    ensures { result ≡ list_all is_name_char text.now }
+{
+    let mut are_all = true;
+    for i in 0..text.len() {
+        are_all &= is_name_byte(text[i]);
+    }
+    are_all
 }
 
 /// Returns whether all characters of a text may be in a name.
