@@ -129,14 +129,14 @@ impl FormTest for PrintedNode<'_> {
     }
 }
 
-/// Returns whether a text may begin with the start of a form, by the first two bytes of both. Most forms
+/// Returns whether a text may begin with the start of a form, by the first three bytes of both. Most forms
 /// fail this test.
 #[inline(always)]
 fn begin_alike(start: &[u8], text: &[u8]) -> bool
     ensures { result ≡ false → after start.now text.now ≡ None }
 {
     match (start, text) {
-        ([first, second, ..], [byte, next, ..]) => first == byte && second == next,
+        ([a, b, c, ..], [x, y, z, ..]) => a == x && b == y && c == z,
         _ => true,
     }
 }
