@@ -157,6 +157,8 @@ impl DevicePath {
     /// Formats the path as text, such as `PciRoot(0x0)/Pci(0x1F,0x2)`, into a buffer, and returns its UTF-16 without the NUL.
     ///
     /// `display_only` asks for shorter forms that cannot be read back, `allow_shortcuts` for names such as `VenPcAnsi()`.
+    ///
+    /// A buffer of four units for each byte of the path always has room.
     pub fn text_in_buf<'b>(
         &self,
         display_only: bool,
