@@ -1,7 +1,7 @@
-//! What the test crates share: an allocator that refuses a request, the runs that refuse each request in
-//! turn, places at which a fault is hidden, and texts: as strings, printed, and as hexadecimal bytes.
+//! Helpers that the test crates share: an allocator that refuses one request, runs that refuse each request
+//! in turn, positions at which to hide a fault, and texts as strings, in print and as hexadecimal bytes.
 //!
-//! No product crate depends on it or on a test crate.
+//! No product crate depends on this crate or on a test crate.
 #![tactic(auto)]
 
 pub mod hostile;

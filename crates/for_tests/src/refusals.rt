@@ -1,36 +1,36 @@
-//! Runs of one call, each with another of its requests for memory refused.
+//! Repeats a call, and refuses another of its memory requests each time.
 
 use crate::refusing::Refusing;
 use std::alloc::{AllocError, Global};
 use std::test::Fail;
 
-/// No run in a test makes more requests than this.
+/// The limit for the memory requests of one run.
 const MOST_REQUESTS: u64 = 1000;
 
-/// How the runs ended that had a request refused.
+/// How many runs failed, and how many succeeded, after a refused request.
 #[derive(Clone, Copy, Debug, Drop, PartialEq)]
 pub struct Refusals {
-    /// The runs that reported that memory ran out.
+    /// Runs that reported that memory ran out.
     pub failed: u64,
-    /// The runs that gave the result of ample memory all the same.
+    /// Runs that nevertheless gave the result of ample memory.
     pub answered: u64,
 }
 
-/// Why the runs of a call are not what they should be.
+/// How the runs of a call can be wrong.
 #[derive(Debug, Drop)]
 pub enum RefusalError {
-    /// The result was wrong in the run that refuses this request.
+    /// The run that refuses this request gave a wrong result.
     WrongAnswer(u64),
-    /// Memory ran out in the run that refuses this request, though none was refused.
+    /// The run that would refuse this request reported that memory ran out, but never made the request.
     OutOfMemory(u64),
-    /// A refused request did not end the run.
+    /// A run succeeded although a request was refused.
     AnsweredWithoutMemory,
-    /// Each run had a request refused, up to the most that a test expects.
+    /// Every run up to the limit had a request refused.
     TooManyRequests,
 }
 
-/// What a call returns to [`refused_in_turn`] once memory ran out: `AllocError` if all that it works on
-/// is as a refusal has to leave it, and else a wrong result.
+/// Returns the answer that a call gives to [`refused_in_turn`] when memory ran out: `AllocError` if the call
+/// left everything as promised, otherwise a wrong result.
 pub fn out_of_memory(is_as_promised: bool) -> Result<bool, AllocError> {
     if is_as_promised {
         Err(AllocError)
@@ -39,7 +39,8 @@ pub fn out_of_memory(is_as_promised: bool) -> Result<bool, AllocError> {
     }
 }
 
-/// The same of a call that answered, or was refused with the error for memory that ran out.
+/// Returns the answer that a call gives to [`refused_in_turn`]: success, [`out_of_memory`] if its error is
+/// `memory`, or a wrong result after any other error.
 pub fn is_answered<T: Drop, E: PartialEq + Drop>(
     answer: Result<T, E>,
     memory: E,
@@ -50,12 +51,12 @@ pub fn is_answered<T: Drop, E: PartialEq + Drop>(
     }
 }
 
-/// Runs a call with each request after the first `setup` ones refused in turn, until a run ends with
-/// none refused.
+/// Runs a call repeatedly, and refuses the first request after the first `setup` ones, then the second and so
+/// on, until a run makes all its requests.
 ///
-/// The call returns whether its result is that of ample memory, or [`out_of_memory`] of what it finds
-/// where it reports that.
-/// The `setup` requests are those that build what the call works on.
+/// The call returns whether its result equals the result of ample memory. If memory runs out, it returns
+/// [`out_of_memory`] of whether it left everything as promised. The `setup` requests build the values that
+/// the call works on.
 pub fn refused_in_turn<F: Fn(&Refusing<Global>) -> Result<bool, AllocError>>(
     alloc: Global,
     setup: u64,
@@ -82,8 +83,8 @@ pub fn refused_in_turn<F: Fn(&Refusing<Global>) -> Result<bool, AllocError>>(
     Err(RefusalError::TooManyRequests.into())
 }
 
-/// Counts the requests of a call after the first `setup` ones, each of which it needs: refused one of
-/// them, it reports that memory ran out.
+/// Counts the requests that a call makes after the first `setup` ones. Returns an error if the call succeeds
+/// although a request was refused.
 pub fn requests<F: Fn(&Refusing<Global>) -> Result<bool, AllocError>>(
     alloc: Global,
     setup: u64,

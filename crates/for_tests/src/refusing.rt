@@ -1,19 +1,20 @@
-//! An allocator for tests, which refuses one of the requests that it gets.
+//! An allocator for tests that refuses one request.
 
 use std::alloc::{AllocError, Allocator};
 use std::cell::Cell;
 
-/// Passes each request on to another allocator, but for one, which it refuses.
+/// Passes all requests to another allocator, except one request, which it refuses.
 ///
-/// So code over a `&Refusing<B>` can run out of memory at each of its requests in turn.
+/// Code over a `&Refusing<B>` can thus run out of memory at each of its requests in turn.
 pub struct Refusing<B: Allocator> {
     inner: B,
-    /// The number of the request to refuse among those to come, and 0 once it has come.
+    /// The number of the request to refuse, counted from the next one, or 0 if none is left to refuse.
     left: Cell<u64>,
 }
 
 impl<B: Allocator> Refusing<B> {
-    /// Refuses the request of that number, counted from 1. At 0 it refuses none.
+    /// Creates an allocator that refuses the request with this number, counted from 1, or no request if the
+    /// number is 0.
     pub fn new(inner: B, number: u64) -> Refusing<B> {
         Refusing {
             inner,
@@ -21,7 +22,7 @@ impl<B: Allocator> Refusing<B> {
         }
     }
 
-    /// Whether no request is left to refuse: it has come, or the number was 0.
+    /// Returns whether the request to refuse has come, or the number was 0.
     pub fn has_refused(&self) -> bool {
         self.left.get() == 0
     }
@@ -33,14 +34,14 @@ impl<B: Allocator> Drop for Refusing<B> {
     }
 }
 
-/// Counts a request, and says whether it is the one to refuse.
+/// Counts a request, and returns whether it is the one to refuse.
 fn refuses(left: &Cell<u64>) -> bool {
     let number = left.get();
     left.set(number.saturating_sub(1));
     number == 1
 }
 
-// `grow` and `shrink` keep the trait's bodies, so that each of them makes one request.
+// `grow` and `shrink` keep the trait's bodies, so each makes one request.
 unsafe impl<B: Allocator> Allocator for Refusing<B> {
     ghost dealloc_token = { λ heap ty ptr. B.dealloc_token heap.inner ty ptr };
 

@@ -1,5 +1,5 @@
-//! Strings of Rust texts, strings compared with such, what values print, rows of tables that are texts,
-//! and bytes in hexadecimal.
+//! Strings made from Rust texts and compared with them, printed values, rows of tables in texts, and bytes in
+//! hexadecimal.
 
 use std::alloc::{Allocator, Global};
 use std::cmp::Ordering;
@@ -7,17 +7,17 @@ use std::fmt::{Debug, Display};
 use std::test::Fail;
 use uefi_text::{CStr16, CString16, Printed, write_units};
 
-/// The string of a Rust text.
+/// Creates a string from a Rust text.
 pub fn string<A: Allocator>(alloc: A, text: &str) -> Result<CString16<A>, Fail> {
     Ok(CString16::try_from_str(alloc, text)?)
 }
 
-/// A text this many times in a row.
+/// Repeats a text `count` times.
 pub fn repeated<A: Allocator>(alloc: A, piece: &str, count: u64) -> Result<String<A>, Fail> {
     Ok(piece.repeat(alloc, count as usize)?)
 }
 
-/// Whether a string has the characters of this text.
+/// Returns whether a string has the characters of a text.
 pub fn has_text(string: CStr16<'_>, want: &str) -> bool {
     let mut characters = string.iter();
     for c in want.chars() {
@@ -29,12 +29,12 @@ pub fn has_text(string: CStr16<'_>, want: &str) -> bool {
     characters.next().is_none()
 }
 
-/// Whether a value prints this for users.
+/// Returns whether the `Display` of a value is this text.
 pub fn shows<T: Display>(alloc: Global, value: &T, want: &str) -> bool {
     matches!(format!(in alloc; "{value}"), Ok(printed) if printed.as_str() == want)
 }
 
-/// Whether an error says this: printed, and written as units.
+/// Returns whether the message of an error is this text, both in `Display` and in units.
 pub fn says<T: Display + Printed>(alloc: Global, error: &T, want: &str) -> bool {
     let mut buffer = [0xffff; 128];
     let Ok(len) = write_units(&mut buffer, error) else {
@@ -44,28 +44,28 @@ pub fn says<T: Display + Printed>(alloc: Global, error: &T, want: &str) -> bool 
         && shows(alloc, error, want)
 }
 
-/// Whether a value prints this: what it prints for users, a bar, and what it prints for programmers.
+/// Returns whether a value prints this text: its `Display`, a bar and its `Debug`.
 pub fn prints<T: Display + Debug>(alloc: Global, value: &T, want: &str) -> bool {
     matches!(format!(in alloc; "{value}|{value:?}"), Ok(printed) if printed.as_str() == want)
 }
 
-/// A row of a table that is a text: what stands before the first space of a line, and what follows it.
+/// Splits a row of a table at its first space.
 pub fn split_row(line: &str) -> (&str, &str) {
     line.split_once(' ').unwrap_or((line, ""))
 }
 
-/// Whether two values stand in this order, and are equal only where it says so.
+/// Returns whether two values compare like this, and are equal only if `want` is `Equal`.
 pub fn are_ordered<T: Ord>(a: &T, b: &T, want: Ordering) -> bool {
     a.cmp(b) == want && a.partial_cmp(b) == Some(want) && (a == b) == (want == Ordering::Equal)
 }
 
-/// Whether a buffer begins with these, and else holds this.
+/// Returns whether a buffer begins with `front` and otherwise contains only `filler`.
 pub fn holds<T: PartialEq>(buffer: &[T], front: &[T], filler: &T) -> bool {
     let mut rest = buffer.get(front.len()..).unwrap_or(&[]).iter();
     buffer.starts_with(front) && rest.all(|it| it == filler)
 }
 
-/// The bytes of a text in hexadecimal, two digits each.
+/// Returns the bytes of a text in hexadecimal, two digits each.
 pub fn bytes(alloc: Global, digits: &str) -> Result<Vec<u8>, Fail> {
     let mut bytes = Vec::new(alloc);
     let mut high = None;
@@ -82,9 +82,8 @@ pub fn bytes(alloc: Global, digits: &str) -> Result<Vec<u8>, Fail> {
     Ok(bytes)
 }
 
-/// Whether a call writes all of this into each buffer that has room for it, and nothing into a shorter one,
-/// and leaves all other places as this filler. The call returns how many places it wrote, or how many it
-/// needs.
+/// Returns whether a call writes all of `want` into each buffer with enough room, writes nothing into a
+/// shorter one, and changes no other item. The call returns how many items it wrote, or how many it needs.
 pub fn writes_whole<T: Copy + PartialEq, F: Fn(&mut [T]) -> Result<usize, usize>>(
     alloc: Global,
     want: &[T],

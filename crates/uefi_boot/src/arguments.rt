@@ -34,7 +34,7 @@ const VERBS: [&str; 10] = [
 ];
 
 impl Verb {
-    /// The verb that a word is.
+    /// Returns the verb with this name.
     pub(crate) fn of_word(word: &str) -> Option<Verb> {
         match word {
             "check" => Some(Verb::Check),
@@ -51,7 +51,7 @@ impl Verb {
         }
     }
 
-    /// How the verb is used.
+    /// Returns the usage text of the verb.
     pub(crate) fn help(self) -> &'static str {
         match self {
             Verb::Check => help::CHECK,
@@ -132,7 +132,7 @@ fn nearest(
     Ok((best, fewest))
 }
 
-/// Says that there is no option of a name, and which one is nearest.
+/// Reports that an option does not exist, and names the nearest one.
 pub(crate) fn refuse_option(rt: &HostRuntime, option: &str, options: &[&'static str]) -> End {
     match nearest(rt.alloc(), option, options) {
         Ok((best, _)) => refuse(
@@ -144,7 +144,7 @@ pub(crate) fn refuse_option(rt: &HostRuntime, option: &str, options: &[&'static 
     }
 }
 
-/// The verb that a word without a file may have meant.
+/// Returns the verb that begins with a word, or otherwise the nearest verb within two edits.
 pub(crate) fn meant_verb(alloc: Global, word: &str) -> Result<Option<&'static str>, AllocError> {
     let (best, edits) = nearest(alloc, word, &VERBS)?;
     Ok(if edits <= 2 { Some(best) } else { None })
@@ -155,7 +155,7 @@ pub(crate) fn meant_verb(alloc: Global, word: &str) -> Result<Option<&'static st
 pub(crate) struct Words<'a> {
     verb: Verb,
     words: &'a [String],
-    /// The places of the options, and of the words that are neither options nor values of these.
+    /// The indexes of the options, and of the words that are neither options nor values of options.
     options: Vec<usize>,
     plain: Vec<usize>,
 }
@@ -203,7 +203,7 @@ impl<'a> Words<'a> {
         }
     }
 
-    /// The value of an option, if it is given.
+    /// Returns the value of an option, if it is given.
     pub(crate) fn value(&self, option: &str) -> Option<&'a str> {
         for place in &self.options {
             let word = self.word(*place);
@@ -227,7 +227,7 @@ impl<'a> Words<'a> {
         self.has("-h") || self.has("--help")
     }
 
-    /// The word at a place among those that are neither options nor values.
+    /// Returns the word at an index among the words that are neither options nor values.
     pub(crate) fn plain(&self, place: usize) -> Option<&'a str> {
         match self.plain.get(place) {
             Some(place) => Some(self.word(*place)),
@@ -262,7 +262,7 @@ impl<'a> Words<'a> {
         }
         let (least, most) = self.verb.counts();
         if self.plain.len() < least || most < self.plain.len() {
-            // The first line of the help says what the verb takes.
+            // The first line of the help lists the words of the verb.
             let usage = self.verb.help().split_once('\n').map_or("", |it| it.0);
             return Err(refuse(rt, WRONG_ARGUMENTS, format_args!("{usage}")));
         }

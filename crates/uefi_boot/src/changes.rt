@@ -1,4 +1,4 @@
-//! Carries out plans: each variable is written whole, one after the other.
+//! Carries out plans, writing one whole variable after the other.
 use crate::ends::{End, Output, UNREADABLE, UNWRITTEN, refuse};
 use crate::entry::Shown;
 use crate::head::{write_order, write_timeout};
@@ -22,7 +22,7 @@ pub(crate) struct Machine<'a> {
     pub(crate) is_forced: bool,
 }
 
-/// The file of a variable, and what precedes the value in it.
+/// The file of a variable, and the bytes before the value in the file.
 #[derive(Drop)]
 struct Target {
     path: String,
@@ -41,7 +41,7 @@ fn changed(variable: Changed) -> Variable {
     }
 }
 
-/// Writes the meaning of a variable with a value, and an end of line.
+/// Writes a variable and its value in words, and a line end.
 fn write_value(
     out: &mut String,
     alloc: Global,
@@ -71,7 +71,7 @@ fn write_value(
     Ok(())
 }
 
-/// Adds the line of a step, and the meaning of the variable after it.
+/// Adds the line of a step, and the value of the variable after the step.
 fn describe(out: &mut String, alloc: Global, step: &Step, is_dry_run: bool) -> Result<(), End> {
     let variable = changed(step.variable);
     match &step.value {
@@ -91,14 +91,13 @@ fn describe(out: &mut String, alloc: Global, step: &Step, is_dry_run: bool) -> R
     }
 }
 
-/// Replaces a file of a folder, so that it has its old bytes or its new ones whatever fails: writes
-/// a new file beside it, and then renames that file.
+/// Replaces a file by writing a new file beside it and renaming that file, so that any failure
+/// leaves either the old bytes or the new ones.
 fn replace_file(rt: &HostRuntime, path: &str, bytes: &[u8], is_new: bool) -> io::Result<()> {
     let beside = format!(in rt.alloc(); "{path}.new")?;
     let result = write_beside(rt, path, beside.as_str(), bytes, is_new);
     if result.is_err() {
-        // The file that was written beside it is useless, and the caller needs to know the first
-        // error.
+        // The new file is useless, and the caller needs the first error.
         let _ = fs::remove_file(rt, beside.as_str());
     }
     result
@@ -124,7 +123,7 @@ fn write_beside(
     fs::rename(rt, beside, path)
 }
 
-/// Writes a variable of the machine by one call, as Linux's `efivars` requires.
+/// Writes a variable of this machine in one call, as Linux's `efivars` requires.
 fn write_at_once(rt: &HostRuntime, path: &str, bytes: &[u8], is_new: bool) -> io::Result<()> {
     let mut file = OpenOptions::new().write(true).create(true).open(rt, path)?;
     let result = match file.write(bytes) {
@@ -133,18 +132,18 @@ fn write_at_once(rt: &HostRuntime, path: &str, bytes: &[u8], is_new: bool) -> io
         Err(error) => Err(error),
     };
     if result.is_err() && is_new {
-        // The file has no variable, and the caller needs to know the error.
+        // The file has no variable, and the caller needs the error.
         let _ = fs::remove_file(rt, path);
     }
     result
 }
 
 impl<'a> Machine<'a> {
-    /// Returns where a variable is written.
+    /// Returns the file to write a variable to.
     fn target(&self, variable: Variable) -> Result<Target, End> {
         let alloc = self.rt.alloc();
         let Some(source) = self.variables.find(variable) else {
-            // A folder without a variable is taken for one of Linux.
+            // A folder without variables is treated as a folder of Linux.
             let has_guid = match self.variables.sources.first() {
                 Some(source) => source.has_guid,
                 None => true,
@@ -209,7 +208,7 @@ impl<'a> Machine<'a> {
         }
     }
 
-    /// Carries a plan out, or prints it, and returns the status.
+    /// Carries out a plan, or prints it, and returns the exit status.
     pub(crate) fn carry_out(&self, plan: &[Step]) -> Result<u8, End> {
         let alloc = self.rt.alloc();
         let mut out = Output::new(self.rt);
@@ -232,7 +231,7 @@ impl<'a> Machine<'a> {
         Ok(0)
     }
 
-    /// Reports which step failed and why, what was done before it, and what was not done.
+    /// Reports the failed step and its error, the steps before it, and the steps that were skipped.
     fn fail(
         &self,
         error: &io::Error,

@@ -1,4 +1,4 @@
-//! Reports faults on which firmware or the machine would fail.
+//! Reports faults that would make firmware or the machine fail.
 use crate::arguments::Words;
 use crate::ends::{End, MALFORMED, Output, UNREADABLE};
 use crate::entry::{File, Shown};
@@ -11,10 +11,10 @@ use uefi_boot_variables::LoadOptionKind;
 use uefi_device_path::media::HardDrive;
 use uefi_device_path::{LoadOption, ShortForm};
 
-/// The most bytes that a variable may have in firmware that keeps EDK II's default.
+/// The greatest size of a variable in firmware with EDK II's default limit.
 const COMMON_LIMIT: usize = 1024;
 
-/// The folder in which Linux has a link for each partition, named by its GUID.
+/// The folder in which Linux keeps a link for each partition, named by the partition's GUID.
 const DISKS: &str = "/dev/disk/by-partuuid";
 
 /// The report so far.
@@ -27,7 +27,7 @@ struct Check<'a> {
     esp: Option<&'a str>,
     /// The links of partitions, if they belong to the machine.
     disks: Option<&'a str>,
-    /// The entry of each device path with its optional data.
+    /// The number of the first entry with each combination of device path and optional data.
     seen: BTreeMap<Vec<u8>, u16>,
     is_well: bool,
     is_read: bool,
@@ -249,7 +249,7 @@ impl<'a> Check<'a> {
     }
 }
 
-/// Reports what is wrong, and returns the status.
+/// Reports all faults, and returns the exit status.
 pub(crate) fn run<'a>(
     rt: &'a HostRuntime,
     words: &Words<'a>,

@@ -1,4 +1,4 @@
-//! Makes the load option of a new entry from the words of `create`.
+//! Creates the load option of a new entry from the words of `create`.
 use crate::arguments::Words;
 use crate::ends::{End, WRONG_ARGUMENTS, refuse};
 use std::alloc::Global;
@@ -9,7 +9,7 @@ use uefi_device_path::{
 use uefi_path::Path;
 use uefi_text::{CString16, FromStrError};
 
-/// The format of a partition table that is a GPT, and the type of a signature that is a GUID.
+/// The number of the partition table format GPT, and of the signature type GUID.
 const GPT: u8 = 2;
 
 /// Refuses the value of an option.
@@ -18,7 +18,7 @@ fn refuse_value(rt: &HostRuntime, option: &str, value: &str, wanted: &str) -> En
     refuse(rt, WRONG_ARGUMENTS, message)
 }
 
-/// A text as a string of firmware.
+/// Converts a text to a string of firmware.
 pub(crate) fn string(rt: &HostRuntime, option: &str, text: &str) -> Result<CString16, End> {
     match CString16::try_from_str(rt.alloc(), text) {
         Ok(string) => Ok(string),
@@ -159,7 +159,7 @@ fn data_of(rt: &HostRuntime, words: &Words<'_>) -> Result<Vec<u8>, End> {
     Ok(data)
 }
 
-/// The bytes of the new entry.
+/// Returns the bytes of the new entry.
 pub(crate) fn option_of(rt: &HostRuntime, words: &Words<'_>) -> Result<Vec<u8>, End> {
     let Some(text) = words.value("--description") else {
         let message = format_args!("create needs --description, the text that a menu shows");

@@ -1,4 +1,4 @@
-//! The ends of the program, and the destination of its output.
+//! The ways in which the program ends, and where its output goes.
 use std::alloc::{AllocError, AllocFailed};
 use std::fmt;
 use std::io::{self, Write};
@@ -10,11 +10,11 @@ pub(crate) enum End {
     OutOfMemory,
     /// Standard output can't be written, or standard input can't be read.
     NoStream,
-    /// Standard error has the reason; the number is the status.
+    /// Standard error has the reason. The number is the exit status.
     Refused(u8),
 }
 
-/// Statuses of runs that are refused.
+/// Exit statuses of refused runs.
 pub(crate) const MALFORMED: u8 = 1;
 
 pub(crate) const UNREADABLE: u8 = 4;
@@ -42,27 +42,27 @@ impl From<fmt::Error> for End {
     }
 }
 
-/// Ends with the status of a run.
+/// Ends the program with the exit status of a run.
 pub(crate) fn status_of(rt: &HostRuntime, ended: Result<u8, End>) -> ExitCode {
     match ended {
         Ok(status) | Err(End::Refused(status)) => ExitCode::from(status),
         Err(End::NoStream) => ExitCode::from(2),
         Err(End::OutOfMemory) => {
-            // Nothing is left to do where standard error can't be written.
+            // There is nothing to do if standard error can't be written.
             let _ = eprint!(rt; "out of memory\n");
             ExitCode::from(3)
         }
     }
 }
 
-/// Says why a run is refused.
+/// Reports why a run is refused.
 pub(crate) fn refuse(rt: &HostRuntime, status: u8, message: impl fmt::Display + Drop) -> End {
-    // Nothing is left to do where standard error can't be written.
+    // There is nothing to do if standard error can't be written.
     let _ = rt.eprintln(message);
     End::Refused(status)
 }
 
-/// A text that is written to standard output in parts.
+/// A text that goes to standard output in parts.
 #[derive(Drop)]
 pub(crate) struct Output<'a> {
     rt: &'a HostRuntime,

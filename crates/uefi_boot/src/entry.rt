@@ -25,7 +25,7 @@ pub(crate) struct File {
     /// Why the path is refused, if it is.
     pub(crate) refused: Option<String>,
 
-    /// The last component of a path that is accepted.
+    /// The last component of an accepted path.
     file: Option<String>,
 }
 
@@ -50,8 +50,7 @@ pub(crate) struct Shown {
     unreadable: Option<String>,
 }
 
-/// An entry as its bytes have it: they, in hexadecimal, and the units of the description, without its
-/// NUL.
+/// The bytes of an entry in hexadecimal, and the units of its description without the NUL.
 #[derive(Drop, Serialize)]
 pub(crate) struct Exact {
     bytes: Option<String>,
@@ -126,7 +125,7 @@ fn shown_description(
     match description.to_cstring16(alloc) {
         Ok(string) => return shown_text(alloc, string.as_cstr16().as_slice()),
         Err(FromSliceWithNulError::OutOfMemory) => return Err(fmt::Error),
-        // It holds a surrogate.
+        // The description contains a surrogate.
         Err(_) => {}
     }
     let mut shown = String::new(alloc);
@@ -230,7 +229,7 @@ impl Shown {
         }
     }
 
-    /// Of bytes that are malformed at an offset.
+    /// Creates the contents of malformed bytes, with the offset of the fault.
     pub(crate) fn malformed(
         alloc: Global,
         offset: usize,
@@ -241,7 +240,7 @@ impl Shown {
         Ok(shown)
     }
 
-    /// Of a variable that can't be read.
+    /// Creates the contents of a variable that can't be read.
     pub(crate) fn unreadable(alloc: Global, cause: &String) -> Result<Shown, fmt::Error> {
         let mut shown = Shown::new(alloc);
         shown.unreadable = Some(cause.clone()?);
@@ -284,8 +283,8 @@ impl Shown {
         Ok(())
     }
 
-    /// Adds the file that a node names, whose data begins at an offset. Returns `false` if it names
-    /// none.
+    /// Adds the file that a node names. The node's data begins at `offset`. If the data is not a
+    /// name, records the fault and returns `false`.
     fn add_file(
         &mut self,
         alloc: Global,
@@ -306,20 +305,21 @@ impl Shown {
             FromSliceWithNulError::InvalidChar(place) | FromSliceWithNulError::InteriorNul(place) =>
                 place,
             FromSliceWithNulError::NotNulTerminated => name.len(),
-            // The second comes of bytes that are borrowed as units, and never of units that are copied.
+            // `NotAligned` occurs only when bytes are borrowed as units, never when units are
+            // copied.
             FromSliceWithNulError::OutOfMemory | FromSliceWithNulError::NotAligned => {
                 return Err(fmt::Error);
             }
         };
-        // Both are below 65,536, the most that the header of a load option or a node can state.
+        // The sum never saturates, because `of_entry` refuses entries of more than 65,536 bytes.
         let offset = offset.saturating_add(place.saturating_mul(2));
         let cause = FilePathCause::Text(error);
         self.fail(offset, format!(in alloc; "{cause}")?);
         Ok(false)
     }
 
-    /// Adds the file that a node names, if it should name one, whose data begins at an offset.
-    /// Returns `false` if the node should name a file and does not.
+    /// Adds the file that a node names, if it is a file node. The node's data begins at `offset`.
+    /// If a file node has no name, records the fault and returns `false`.
     fn add_node(
         &mut self,
         alloc: Global,
@@ -340,8 +340,8 @@ impl Shown {
         }
     }
 
-    /// Adds the files that nodes name, the first of which begins at an offset, and returns the
-    /// offset after them; `None` after a node that should name a file and does not.
+    /// Adds the files that nodes name. The first node begins at `start`. Returns the offset after
+    /// the last node, or `None` after a file node without a name.
     fn add_nodes(
         &mut self,
         alloc: Global,
@@ -358,7 +358,8 @@ impl Shown {
         Ok(Some(offset))
     }
 
-    /// Does what [`Shown::add_nodes`] does for device paths, including their end nodes.
+    /// Adds the files of device paths like [`Shown::add_nodes`], and adds the length of each end
+    /// node to the offset.
     fn add_paths(
         &mut self,
         alloc: Global,
@@ -426,7 +427,7 @@ impl Shown {
         Ok(shown)
     }
 
-    /// Writes it line by line.
+    /// Writes the contents line by line.
     pub(crate) fn write<W: Write>(&self, out: &mut W) -> fmt::Result {
         if let Some(cause) = &self.unreadable {
             writeln!(out, "  cannot be read: {cause}")?;
@@ -460,8 +461,8 @@ impl Shown {
     }
 }
 
-/// Writes the attributes of an entry, except for the first, which says that it is active (UEFI
-/// Specification 2.10, section 3.1.3).
+/// Writes the attributes of an entry, except the first, "active" (UEFI Specification 2.10, section
+/// 3.1.3).
 fn write_attributes<W: Write>(out: &mut W, attributes: u32) -> fmt::Result {
     if attributes < 2 {
         return Ok(());

@@ -1,11 +1,10 @@
-//! Builds the library's texts in memory without a formatter, which would be called for each part of
-//! each node.
+//! Builds the library's texts in memory. A formatter would be called for every part of every node.
 ghost use Rattle.std.specs.Prelude.{⊤};
 
 use std::alloc::{AllocError, Global};
 use uefi_text::{Printed, TextSink};
 
-/// A text, and whether memory was refused for a part of it.
+/// A text, and whether an allocation for a part of it failed.
 #[derive(Drop)]
 struct Growing {
     text: String,
@@ -29,7 +28,7 @@ impl TextSink for Growing {
     }
 }
 
-/// The text of a value.
+/// Returns the text of a value.
 pub(crate) fn text_of<P: Printed>(alloc: Global, value: &P) -> Result<String, AllocError> {
     let mut sink = Growing {
         text: String::new(alloc),

@@ -1,4 +1,4 @@
-//! The variables that say in which order entries are tried, and the other settings of a boot manager.
+//! The variables that determine the order of entries, and the other settings of a boot manager.
 use crate::ends::End;
 use crate::entry::push;
 use crate::variables::{Content, MOST_BYTES, Variable, Variables};
@@ -7,10 +7,10 @@ use std::alloc::{AllocError, Global};
 use std::fmt::{self, Write};
 use uefi_boot_variables::{LoadOptionKind, LoadOptionName, LoadOrder, read_number};
 
-/// Why a variable is malformed whose file has not even its attributes.
+/// The reason if a file ends before the variable's attributes do.
 pub(crate) const TOO_SHORT: &str = "the file ends within the variable's attributes";
 
-/// A variable that says nothing, and why.
+/// A variable without a usable value, and why.
 #[derive(Drop)]
 pub(crate) struct Silent {
     pub(crate) variable: Variable,
@@ -27,7 +27,7 @@ pub(crate) struct Head {
     pub(crate) boot_order: Option<Vec<u16>>,
     pub(crate) boot_current: Option<u16>,
     pub(crate) boot_next: Option<u16>,
-    /// For how many seconds the firmware waits before it boots; 65,535 is without an end.
+    /// How many seconds the firmware waits before it boots; 65,535 waits without a limit.
     pub(crate) timeout: Option<u16>,
     pub(crate) driver_order: Option<Vec<u16>>,
     pub(crate) sysprep_order: Option<Vec<u16>>,
@@ -36,7 +36,7 @@ pub(crate) struct Head {
     pub(crate) silent: Vec<Silent>,
 }
 
-/// The name of an entry.
+/// Returns the name of an entry.
 pub(crate) fn name_of(
     alloc: Global,
     kind: LoadOptionKind,
@@ -304,7 +304,7 @@ impl Head {
         }
     }
 
-    /// Writes it line by line.
+    /// Writes the values line by line.
     pub(crate) fn write<W: Write>(&self, out: &mut W) -> fmt::Result {
         let order = Variable::BootOrder;
         match &self.boot_order {
@@ -398,7 +398,7 @@ fn write_indications<W: Write>(out: &mut W, bits: u64) -> fmt::Result {
     writeln!(out)
 }
 
-/// A variable that says nothing, in JSON.
+/// A variable without a usable value, in JSON.
 #[derive(Drop, Serialize)]
 struct SilentJson {
     variable: String,

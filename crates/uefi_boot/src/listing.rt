@@ -9,18 +9,18 @@ use std::alloc::Global;
 use std::fmt::{self, Write};
 use uefi_boot_variables::LoadOptionKind;
 
-/// A file that is not printed, and why, in JSON.
+/// A file that is not printed, and the reason, in JSON.
 #[derive(Drop, Serialize)]
 struct PassedOverJson {
     file: String,
     reason: &'static str,
 }
 
-/// An entry, and its name, in JSON.
+/// An entry with its name, in JSON.
 #[derive(Drop, Serialize)]
 struct Named {
     name: String,
-    /// Whether the order of its kind names it; `None` if there is no order.
+    /// Whether the order of its kind contains the entry; `None` if there is no order.
     in_order: Option<bool>,
     #[serde(flatten)]
     entry: Shown,
@@ -42,7 +42,7 @@ struct Listing<'a> {
     out: Output<'a>,
     variables: &'a Variables<'a>,
     form: Form,
-    /// The entries that orders name, and whose variables are not set, once each.
+    /// Entries in an order that have no variable, each once.
     not_set: Vec<Variable>,
     is_first: bool,
     is_read: bool,
@@ -212,7 +212,7 @@ fn write_passed_over<W: Write>(out: &mut W, it: &PassedOver) -> fmt::Result {
     writeln!(out, ": {}", it.reason)
 }
 
-/// Prints what variables say, and returns the status.
+/// Prints the values of variables, and returns the exit status.
 pub(crate) fn print(rt: &HostRuntime, variables: &Variables<'_>, form: Form) -> Result<u8, End> {
     let mut buffer = [0; MOST_READ];
     let head = Head::of(rt.alloc(), variables, &mut buffer)?;

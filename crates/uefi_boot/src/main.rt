@@ -1,5 +1,5 @@
-//! Prints, checks and changes the variables that say what a machine boots: one boot entry from
-//! standard input, or all variables in a folder or in files.
+//! Prints, checks and changes the variables that determine what a machine boots: one boot entry
+//! from standard input, or all variables in a folder or in files.
 //!
 //! Without an argument, the program prints the variables of the machine if standard input is a
 //! terminal. Otherwise, and for the argument `-`, it reads a variable `Boot####` from standard
@@ -14,7 +14,7 @@
 //! folder only if its name is the name of one of these variables, and prints an entry as soon as
 //! its position is known. For a variable that can't be read it prints the cause.
 //!
-//! With `--json` it prints the same as JSON. If the first word is a verb, it checks or changes
+//! With `--json`, the output is JSON. If the first word is a verb, the program checks or changes
 //! variables.
 //!
 //! The exit status is

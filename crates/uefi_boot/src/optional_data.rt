@@ -1,11 +1,11 @@
-//! Optional data of an entry, as text if it is text.
+//! The optional data of an entry, as text if it is text.
 use serde::Serialize;
 use std::alloc::Global;
 use std::fmt::{self, Write};
 use uefi_device_path::{LoadOption, is_escaped};
 use uefi_text::{Char16, UnalignedSlice};
 
-/// Optional data: their bytes in hexadecimal, and the text that they are, if they are one.
+/// Optional data: the bytes in hexadecimal, and their text if they are a text.
 #[derive(Drop, Serialize)]
 pub(crate) struct OptionalData {
     encoding: Option<&'static str>,
@@ -13,7 +13,7 @@ pub(crate) struct OptionalData {
     hexadecimal: String,
 }
 
-/// Bytes in hexadecimal.
+/// Returns bytes in hexadecimal.
 pub(crate) fn hexadecimal(alloc: Global, bytes: &[u8]) -> Result<String, fmt::Error> {
     let mut text = String::new(alloc);
     for byte in bytes {
@@ -97,7 +97,7 @@ impl OptionalData {
         Ok(Some(data))
     }
 
-    /// Writes the line of it.
+    /// Writes the line of optional data.
     pub(crate) fn write<W: Write>(&self, out: &mut W) -> fmt::Result {
         match (&self.encoding, &self.text) {
             (Some(encoding), Some(text)) => writeln!(out, "  optional data ({encoding}): {text}"),

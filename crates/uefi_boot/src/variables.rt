@@ -12,23 +12,23 @@ use uefi_boot_variables::{LoadOptionKind, LoadOptionName};
 /// defines: its GUID (section 3.3).
 const GLOBAL: &str = "-8be4df61-93ca-11d2-aa0d-00e098032b8c";
 
-/// More than firmware keeps of one variable, without its attributes.
+/// A limit above the size that firmware stores for one variable, without attributes.
 pub(crate) const MOST_BYTES: usize = 65536;
 
-/// The attributes of a variable that is kept, and seen at boot and at run time: the four bytes that
-/// Linux puts before it. No load option begins with these, since the third bit of its attributes is
-/// reserved.
+/// The four bytes that Linux puts before a stored variable that is visible at boot and at run time:
+/// its attributes. No load option begins with these bytes, because the third bit of its attributes
+/// is reserved.
 pub(crate) const VARIABLE_ATTRIBUTES: [u8; 4] = [7, 0, 0, 0];
 
-/// The entry in a variable, with or without the four bytes that Linux puts before it.
+/// Removes the four bytes that Linux puts before an entry, if they are there.
 pub(crate) fn without_attributes(bytes: &[u8]) -> &[u8] {
     bytes.strip_prefix(&VARIABLE_ATTRIBUTES).unwrap_or(bytes)
 }
 
-/// The folder in which Linux has the variables of the machine.
+/// The folder in which Linux shows the machine's variables.
 pub(crate) const OWN: &str = "/sys/firmware/efi/efivars";
 
-/// One byte more than the longest variable has, with its attributes.
+/// One byte more than the longest variable, including its attributes.
 pub(crate) const MOST_READ: usize = VARIABLE_ATTRIBUTES.len() + MOST_BYTES + 1;
 
 /// A variable that the program reads, in the order in which it prints them.
@@ -67,7 +67,7 @@ impl Variable {
         }
     }
 
-    /// The entry of a kind with a number.
+    /// Returns the entry of a kind with a number.
     pub(crate) fn of_kind(kind: LoadOptionKind, number: u16) -> Variable {
         match kind {
             LoadOptionKind::Boot => Variable::Boot(number),
@@ -77,7 +77,7 @@ impl Variable {
         }
     }
 
-    /// The name of the load option, if the variable is one.
+    /// Returns the name of the load option, if the variable is one.
     pub(crate) fn option(self) -> Option<LoadOptionName> {
         let (kind, number) = match self {
             Variable::Boot(number) => (LoadOptionKind::Boot, number),
@@ -129,7 +129,7 @@ pub(crate) struct Source {
     pub(crate) variable: Variable,
     /// Whether the file's name has a GUID after the variable's name, as in Linux's `efivars`.
     pub(crate) has_guid: bool,
-    /// The place of the file or its folder among the arguments.
+    /// The index of the file or its folder among the arguments.
     argument: usize,
     is_in_folder: bool,
 }
@@ -169,7 +169,7 @@ fn has_lowercase_digits(name: &str) -> bool {
     }
 }
 
-/// Says that a path can't be read.
+/// Reports that a path can't be read, or that memory ran out.
 pub(crate) fn unreadable(rt: &HostRuntime, path: &str, error: &io::Error) -> End {
     if matches!(error.kind(), io::ErrorKind::OutOfMemory) {
         return End::OutOfMemory;
@@ -177,7 +177,8 @@ pub(crate) fn unreadable(rt: &HostRuntime, path: &str, error: &io::Error) -> End
     refuse(rt, UNREADABLE, format_args!("cannot read {path}: {error}"))
 }
 
-/// Reads a file into a buffer, and returns its number of bytes, or reports that the buffer is full.
+/// Reads a file into a buffer, until its end or until the buffer is full. Returns the number of
+/// bytes. Refuses a path that is not a file.
 fn read_file(rt: &HostRuntime, path: &str, buffer: &mut [u8]) -> io::Result<usize>
     ensures { IfOk result (λ count. count ≤ length buffer.new) }
 {
@@ -277,7 +278,7 @@ impl<'a> Variables<'a> {
         Ok(())
     }
 
-    /// The path of a variable's file.
+    /// Returns the path of a variable's file.
     pub(crate) fn path_of(&self, source: &Source) -> Result<String, AllocError> {
         let alloc = self.rt.alloc();
         let argument = match self.arguments.get(source.argument) {
@@ -290,7 +291,7 @@ impl<'a> Variables<'a> {
         file_in(alloc, argument, source.variable, source.has_guid)
     }
 
-    /// The variable's file, if it has one.
+    /// Returns the variable's file, if there is one.
     pub(crate) fn find(&self, variable: Variable) -> Option<Source> {
         match self
             .sources
@@ -301,7 +302,7 @@ impl<'a> Variables<'a> {
         }
     }
 
-    /// Reads a file whole, with the variable's attributes.
+    /// Reads a whole file, including the variable's attributes.
     pub(crate) fn read_all<'b>(
         &self,
         source: &Source,
@@ -342,7 +343,7 @@ impl<'a> Variables<'a> {
     }
 }
 
-/// The path of a variable's file in a folder.
+/// Returns the path of a variable's file in a folder.
 pub(crate) fn file_in(
     alloc: std::alloc::Global,
     folder: &str,

@@ -67,7 +67,7 @@ impl<'a> Machine<'a> {
         Err(refuse(self.rt, MALFORMED, message))
     }
 
-    /// Returns the value of `BootOrder`, or of an order without numbers if it is not set.
+    /// Returns the value of `BootOrder`, or an empty order if the variable is not set.
     fn order(&self) -> Result<Vec<u8>, End> {
         match self.value(Variable::BootOrder)? {
             Some(bytes) => Ok(bytes),
@@ -107,7 +107,7 @@ impl<'a> Machine<'a> {
         Err(message)
     }
 
-    /// Refuses to replace a malformed variable that the user did not ask to replace.
+    /// Refuses to replace a malformed variable, unless the user asked for that with `--force`.
     fn keep_malformed(&self, variable: Variable) -> Result<(), End> {
         if self.is_forced {
             return Ok(());
@@ -145,7 +145,7 @@ impl<'a> Machine<'a> {
         self.carry(Variable::Boot(number), plan)
     }
 
-    /// Returns the least number without an entry.
+    /// Returns the smallest number without an entry.
     fn free_number(&self) -> Result<u16, End> {
         let mut used = Vec::with_capacity(self.rt.alloc(), self.variables.sources.len())?;
         for source in &self.variables.sources {
@@ -162,7 +162,7 @@ impl<'a> Machine<'a> {
     fn delete(&self, words: &Words<'_>) -> Result<u8, End> {
         let number = self.existing(self.word(words, 0))?;
         let order = self.order()?;
-        // A BootNext that is malformed names no entry.
+        // A malformed `BootNext` names no entry.
         let next = match self.value(Variable::BootNext)? {
             Some(bytes) => read_number(&bytes).ok(),
             None => None,
@@ -252,7 +252,7 @@ impl<'a> Machine<'a> {
     }
 }
 
-/// Does what a verb and the words after it say, and returns the status.
+/// Runs a verb with the words after it, and returns the exit status.
 pub(crate) fn run<'a>(rt: &'a HostRuntime, verb: Verb, words: &'a [String]) -> Result<u8, End> {
     let words = Words::new(rt.alloc(), verb, words)?;
     if words.asks_help() {

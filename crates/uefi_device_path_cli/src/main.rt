@@ -1,12 +1,16 @@
-//! Reads texts of device paths from standard input, a line each and as people write them, and prints
-//! what each means: the bytes of the path in hexadecimal, and the text that is printed of it. With
-//! `--libefivar`, the texts are those that libefivar prints, and efibootmgr with it. With `--prefix`,
-//! something else may follow the path in a line, and is printed after it.
+//! Reads texts of device paths from standard input, one per line and as people write them, and prints each
+//! path as hexadecimal bytes and as text. With `--libefivar`, the texts are in the form that libefivar and
+//! efibootmgr print. With `--prefix`, other text may follow the path in a line; it is printed after the path.
 //!
-//! Ends with 0 where each line is a path; with 1 where one is none, which is printed with the node that can't
-//! be read, the byte that is wrong and what has to stand there; with 2 where a read or a write failed, or a
-//! line is not UTF-8 or finds no memory; with 3, and `out of memory` on standard error, where a path finds no
-//! memory; with 5, and how it is called on standard error, where the arguments are wrong.
+//! The exit status is
+//!
+//! | status | if |
+//! |---|---|
+//! | 0 | every line is a path |
+//! | 1 | a line is not a path; the unreadable node, the wrong byte and what is expected there are printed |
+//! | 2 | a read or a write failed, or a line is not UTF-8 or runs out of memory |
+//! | 3 | memory ran out elsewhere; standard error has `out of memory` |
+//! | 5 | the arguments are wrong; standard error has the usage |
 #![tactic(auto)]
 
 use std::alloc::Allocator;
@@ -20,23 +24,23 @@ use uefi_device_path::{
 
 const USAGE: &str = "usage: uefi_device_path_cli [--libefivar] [--prefix] < LINES\n";
 
-/// Whose texts the lines are.
+/// The writer of the texts.
 #[derive(Clone, Copy)]
 enum Writer {
     People,
     Libefivar,
 }
 
-/// How the lines are read.
+/// How to read the lines.
 #[derive(Clone, Copy)]
 struct Options {
     writer: Writer,
 
-    /// Whether something else may follow a path.
+    /// Whether other text may follow a path.
     is_prefix: bool,
 }
 
-/// How many bytes of a line are a path.
+/// Returns how many bytes of a line form the path.
 fn extent<A: Allocator + Copy>(
     options: Options,
     alloc: A,
@@ -51,7 +55,7 @@ fn extent<A: Allocator + Copy>(
     }
 }
 
-/// The path that a text is.
+/// Reads the path of a text.
 fn read<A: Allocator + Copy>(
     writer: Writer,
     alloc: A,
@@ -63,19 +67,19 @@ fn read<A: Allocator + Copy>(
     }
 }
 
-/// The path that a line begins with, and what follows it.
+/// Reads the path at the start of a line, and returns the rest of the line.
 fn read_line<A: Allocator + Copy>(
     options: Options,
     alloc: A,
     line: &str,
 ) -> Result<(DevicePathBuf<A>, &str), LenientTextError> {
     let end = extent(options, alloc, line)?;
-    // A path ends where a character does.
+    // A path ends between two characters.
     let (text, rest) = line.split_at_checked(end).unwrap_or((line, ""));
     Ok((read(options.writer, alloc, text)?, rest))
 }
 
-/// Writes what follows a path, if anything does, with `?` for each character that a terminal may obey.
+/// Writes the text after a path, if there is any, with `?` for each character that could control a terminal.
 fn write_rest<W: Write>(out: &mut W, rest: &str) -> fmt::Result {
     if rest.is_empty() {
         return Ok(());
@@ -91,7 +95,7 @@ fn write_rest<W: Write>(out: &mut W, rest: &str) -> fmt::Result {
     writeln!(out)
 }
 
-/// Writes what a line means. False where it is no path.
+/// Writes the path of a line, or the error. Returns whether the line is a path.
 fn write_path<W: Write, A: Allocator + Copy>(
     out: &mut W,
     alloc: A,
@@ -116,14 +120,14 @@ fn write_path<W: Write, A: Allocator + Copy>(
     }
 }
 
-/// Prints why the program ends early.
+/// Reports why the program ends early.
 fn refuse(rt: &HostRuntime, message: &str, status: u8) -> ExitCode {
-    // Nothing is left to do where standard error can't be written.
+    // There is nothing to do if standard error can't be written.
     let _ = eprint!(rt; "{message}");
     ExitCode::from(status)
 }
 
-/// Prints what each line of standard input means.
+/// Prints the path of each line of standard input.
 fn print_paths(rt: &HostRuntime, options: Options) -> ExitCode {
     let mut is_well = true;
     let mut output = String::new(rt.alloc());

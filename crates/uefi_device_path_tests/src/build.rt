@@ -1,17 +1,17 @@
-//! Paths that are built, in memory and in buffers: their bytes, and which nodes are refused.
+//! Building paths, in memory and in buffers: their bytes, and refused nodes.
 
 use crate::option_builder::END;
 use for_tests::holds;
 use std::test::Fail;
 use uefi_device_path::{BuildError, DevicePathBuf, DevicePathBuilder, DeviceSubType, DeviceType};
 
-/// The bytes of a path of two nodes, of 6 and of 4 bytes.
+/// The bytes of a path with two nodes, of 6 and 4 bytes.
 const BUILT: &[u8] = &[1, 1, 6, 0, 0, 0x1f, 0x7f, 1, 4, 0, 0x7f, 0xff, 4, 0];
 
-/// The same of the first alone.
+/// The bytes of a path with only the first node.
 const FIRST: &[u8] = &[1, 1, 6, 0, 0, 0x1f, 0x7f, 0xff, 4, 0];
 
-/// Why two nodes, of 6 and of 4 bytes, are not built in a buffer, and what was built.
+/// Builds a path with two nodes, of 6 and 4 bytes, in a buffer.
 fn build<'a>(buffer: &'a mut [u8]) -> Result<&'a [u8], BuildError> {
     let mut path = DevicePathBuilder::with_buf(buffer)?;
     path.push(DeviceType::HARDWARE, DeviceSubType(1), &[0, 0x1f])?;
@@ -19,8 +19,8 @@ fn build<'a>(buffer: &'a mut [u8]) -> Result<&'a [u8], BuildError> {
     Ok(path.finalize().as_bytes())
 }
 
-/// A path is built in a buffer of 14 bytes or more, and a shorter one is refused with the count that it
-/// lacks first, and holds the path so far.
+/// A buffer of 14 bytes or more contains the whole path. In a shorter buffer, the error gives the size that
+/// the next node needs, and the path so far remains.
 #[test]
 fn built_in_buffers(rt: HostRuntime) {
     for len in 0..16 {
@@ -37,7 +37,7 @@ fn built_in_buffers(rt: HostRuntime) {
     }
 }
 
-/// Nodes, and why they are refused.
+/// Nodes, and why each is refused.
 const REFUSED: &[(u8, u8, usize, BuildError)] = &[
     (0x7f, 0xff, 0, BuildError::EndNode),
     (0x7f, 0x00, 0, BuildError::EndNode),
@@ -46,8 +46,8 @@ const REFUSED: &[(u8, u8, usize, BuildError)] = &[
     (1, 1, 65_532, BuildError::NodeTooLong),
 ];
 
-/// Whether a node is refused for this cause, in memory and in a buffer that has no room for any, and
-/// leaves the path unchanged.
+/// Returns whether a node is refused with this error, in memory and in a buffer without room for a node, and
+/// the path is unchanged.
 fn is_refused(
     rt: &HostRuntime,
     kind: (DeviceType, DeviceSubType),

@@ -1,16 +1,16 @@
-//! Nodes that are built, and their bytes by the UEFI Specification, section 10.3.
+//! Built nodes, and their bytes by the UEFI Specification, section 10.3.
 //!
-//! A node that is built has its fields where the view of its kind reads them, and
-//! `examples/efivar/layouts` compares those places with the structs of libefivar. So the rows here are
-//! the kinds that libefivar has no struct for, and those with a reserved field, which no view shows: it
-//! is zero. The other data are 1, 2, 3 and on.
+//! The view of each kind reads the fields of a built node at the positions that `examples/efivar/layouts`
+//! compares with libefivar's structs. So the rows here have only the kinds for which libefivar has no struct,
+//! and the kinds with a reserved field, which is zero and which no view shows. All other data counts up: 1,
+//! 2, 3.
 
 use for_tests::bytes;
 use std::test::Fail;
 use uefi_device_path::build::{acpi, media, messaging};
 use uefi_device_path::{BuildNode, DevicePathBuf, DevicePathBuilder, Guid};
 
-/// Whether a path of this node alone has these bytes and those of its end, in memory and in a buffer.
+/// Returns whether a path with only this node has these bytes and an end node, in memory and in a buffer.
 fn is_built<N: BuildNode>(rt: &HostRuntime, node: &N, digits: &str) -> Result<bool, Fail> {
     let mut want = bytes(rt.alloc(), digits)?;
     want.extend_from_slice(&[0x7f, 0xff, 4, 0])?;
@@ -60,7 +60,7 @@ fn reserved_fields(rt: HostRuntime) -> Result<(), Fail> {
 
 #[test]
 fn lists_and_kinds_of_no_struct(rt: HostRuntime) -> Result<(), Fail> {
-    // The outputs of a display adapter, two of them.
+    // Two outputs of a display adapter.
     let adr = &[0x8001_0400, 0x0403_0201];
     let node = acpi::Adr { adr };
     assert!(rt; is_built(&rt, &node, "02030c000004018001020304")?);

@@ -1,5 +1,5 @@
-//! Nodes that are tested one by one: what comes of bytes, which are made by hand by the UEFI
-//! Specification, section 10.3.1. `from_bytes` of a path returns the same faults.
+//! Nodes that are checked one by one, in bytes that follow the UEFI Specification, section 10.3.1.
+//! `from_bytes` of a path returns the same errors.
 
 use for_tests::{bytes, says, split_row};
 use std::alloc::Global;
@@ -7,8 +7,8 @@ use std::fmt::Write;
 use std::test::Fail;
 use uefi_device_path::{AllowShortcuts, CheckedNodes, DevicePath, DisplayOnly};
 
-/// Bytes in hexadecimal, and what comes of them: each node, a fault, and how many bytes are after
-/// the path.
+/// Bytes in hexadecimal, and what `CheckedNodes` returns: each node, an error, and how many bytes follow the
+/// path.
 const ROWS: &str = " no end node ends the device path at offset 0
 7fff0400 0 more
 7fff04007fff 2 more
@@ -27,11 +27,11 @@ const ROWS: &str = " no end node ends the device path at offset 0
 7f010001 an end node has data at offset 2
 010104000101ffff0000 Path(1,1); a node is longer than the bytes that are left at offset 6";
 
-/// What comes of bytes.
+/// Returns the text of each node, the error and the number of bytes after the path.
 fn told(alloc: Global, bytes: &[u8]) -> Result<String, Fail> {
     let mut text = String::new(alloc);
     let mut nodes = CheckedNodes::new(bytes);
-    // No row has more.
+    // No row has more nodes.
     for _ in 0..8 {
         let Some(checked) = nodes.next() else {
             break;

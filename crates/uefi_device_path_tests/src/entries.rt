@@ -1,4 +1,4 @@
-//! Sample entries in hexadecimal, as `examples/data` has them.
+//! Sample entries in hexadecimal, copied from `examples/data`.
 
 /// `Boot0001` of `examples/data`.
 pub(crate) const BOOT0001: &str = "\

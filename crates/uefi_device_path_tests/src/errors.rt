@@ -1,4 +1,4 @@
-//! What errors print for users, each value with its sentence.
+//! The messages of errors for users: every value with its message.
 
 use for_tests::says;
 use std::alloc::Global;
@@ -11,7 +11,7 @@ use uefi_device_path::{
 };
 use uefi_text::{FromSliceWithNulError, Printed};
 
-/// The first sentence that its error does not say.
+/// Returns the first message that differs from its error's.
 fn find_unsaid<'a, E: Display + Printed>(alloc: Global, rows: &[(E, &'a str)]) -> Option<&'a str> {
     for (error, sentence) in rows {
         if !says(alloc, error, sentence) {

@@ -1,4 +1,4 @@
-//! The file paths of paths: the names of their nodes, one after the other.
+//! The file paths of device paths, joined from the names in their nodes.
 
 use for_tests::{bytes, has_text, string, writes_whole};
 use std::test::Fail;
@@ -9,7 +9,7 @@ use uefi_device_path::{
 use uefi_text::CStr16;
 use uefi_text::FromSliceWithNulError::{InteriorNul, InvalidChar, NotNulTerminated};
 
-/// A path of one node that names no file, and of nodes with these data.
+/// Builds a path with one other node, and a file node for each name.
 fn named(rt: &HostRuntime, names: &[&[u8]]) -> Result<DevicePathBuf, Fail> {
     let mut path = DevicePathBuf::new(rt.alloc())?;
     path.push(DeviceType::HARDWARE, DeviceSubType(1), &[0, 0])?;
@@ -19,7 +19,7 @@ fn named(rt: &HostRuntime, names: &[&[u8]]) -> Result<DevicePathBuf, Fail> {
     Ok(path)
 }
 
-/// How many units were written with the NUL, or are needed.
+/// Returns how many units were written with the NUL, or are needed.
 fn needed(written: Result<usize, FilePathWriteError>) -> Result<usize, usize> {
     match written {
         Ok(count) => Ok(count.saturating_add(1)),
@@ -28,7 +28,7 @@ fn needed(written: Result<usize, FilePathWriteError>) -> Result<usize, usize> {
     }
 }
 
-/// How many units are borrowed with the NUL, or are needed.
+/// Returns how many units are borrowed with the NUL, or are needed.
 fn borrowed(path: Result<CStr16<'_>, FilePathWriteError>) -> Result<usize, usize> {
     match path {
         Ok(string) => Ok(string.to_u16_slice_with_nul().len()),
@@ -36,7 +36,7 @@ fn borrowed(path: Result<CStr16<'_>, FilePathWriteError>) -> Result<usize, usize
     }
 }
 
-/// Whether a path and its only instance have this file path, in memory and in buffers.
+/// Returns whether a path and its only instance have this file path, in memory and in buffers.
 fn joins(rt: &HostRuntime, path: DevicePath<'_>, want: &str) -> Result<bool, Fail> {
     let all = path.instance_iter().next().ok_or("an instance")?;
     let units = string(rt.alloc(), want)?.into_vec_with_nul();
@@ -70,7 +70,7 @@ fn joins(rt: &HostRuntime, path: DevicePath<'_>, want: &str) -> Result<bool, Fai
     )
 }
 
-/// Names of Latin-1, in bytes of units, and the path that they are together.
+/// Names in Latin-1, as bytes of units, and the path that they form.
 const ROWS: &[(&[&[u8]], &str)] = &[
     (&[], ""),
     (&[b"\\\0E\0F\0I\0\\\0B\0\0\0"], r"\EFI\B"),
@@ -95,7 +95,7 @@ fn joined(rt: HostRuntime) -> Result<(), Fail> {
     Ok(())
 }
 
-/// Data of a node, which begin at offset 18, and why they are no name.
+/// The data of a node, which begins at offset 18, and why it is not a name.
 const REFUSED: &[(&str, FilePathCause)] = &[
     ("61", FilePathCause::HalfUnit),
     ("", FilePathCause::Text(NotNulTerminated)),
@@ -104,8 +104,8 @@ const REFUSED: &[(&str, FilePathCause)] = &[
     ("610000d80000", FilePathCause::Text(InvalidChar(1))),
 ];
 
-/// Whether a path and its only instance have no file path for this reason, in memory and in a buffer of
-/// each room, which is unchanged.
+/// Returns whether a path and its only instance have no file path for this reason, in memory and in buffers
+/// of each size, which stay unchanged.
 fn are_refused(rt: &HostRuntime, path: DevicePath<'_>, want: FilePathError) -> Result<bool, Fail> {
     let instance = path.instance_iter().next().ok_or("an instance")?;
     let written = Some(FilePathWriteError::Name(want));

@@ -1,6 +1,6 @@
-//! Entries with each byte replaced or moved by one, and each of their prefixes: how many of them are
-//! load options, and a sum over the causes and the offsets of all others. The values come from a reader
-//! in Python that was written from the UEFI Specification alone.
+//! Entries with one byte replaced, or increased or decreased by one, and all prefixes of entries: how many
+//! are load options, and a checksum over the causes and offsets of the others. The values come from a reader
+//! in Python that was written from the UEFI Specification only.
 
 use crate::entries;
 use for_tests::bytes;
@@ -8,10 +8,10 @@ use std::alloc::{AllocError, Global};
 use std::test::Fail;
 use uefi_device_path::{LoadOption, LoadOptionCause, NodeError};
 
-/// How many of many byte strings were accepted, and a sum over all others.
+/// How many byte strings were accepted, and a checksum of the others.
 type Seen = (u64, u64);
 
-/// A number for each cause; zero is for what is accepted.
+/// Returns a number for each cause. Zero means accepted.
 fn number_of(cause: LoadOptionCause) -> u64 {
     match cause {
         LoadOptionCause::TooShort => 1,
@@ -27,7 +27,7 @@ fn number_of(cause: LoadOptionCause) -> u64 {
     }
 }
 
-/// Adds what one byte string gives.
+/// Adds the result for one byte string.
 fn see(seen: Seen, bytes: &[u8]) -> Seen {
     let (number, offset) = match LoadOption::from_bytes(bytes) {
         Ok(_) => (0, 0),
@@ -38,12 +38,12 @@ fn see(seen: Seen, bytes: &[u8]) -> Seen {
     (accepted, sum.wrapping_mul(31).wrapping_add(offset))
 }
 
-/// Bytes that readers are known to take wrongly: zero, the shortest lengths, and the type and the
-/// sub-types of end nodes.
+/// Bytes that readers are known to handle wrongly: zero, the shortest lengths, and the type and sub-types of
+/// end nodes.
 const HOSTILE: &[u8] = &[0, 1, 3, 4, 0x7f, 0xff];
 
-/// What an entry gives with each byte, so each length too, grown and cut by one, or replaced by each hostile
-/// one.
+/// Returns the results for an entry with each byte, including length bytes, increased and decreased by one,
+/// or replaced by each hostile byte.
 fn see_changed(alloc: Global, entry: &[u8], is_nudged: bool) -> Result<Seen, AllocError> {
     let mut bytes = Vec::from_slice(alloc, entry)?;
     let mut seen = (0, 0);
@@ -63,7 +63,7 @@ fn see_changed(alloc: Global, entry: &[u8], is_nudged: bool) -> Result<Seen, All
     Ok(seen)
 }
 
-/// What each prefix of an entry gives, from no bytes to all.
+/// Returns the results for each prefix of an entry, from empty to whole.
 fn see_prefixes(entry: &[u8]) -> Seen {
     let mut seen = (0, 0);
     for len in 0..=entry.len() {
@@ -72,8 +72,8 @@ fn see_prefixes(entry: &[u8]) -> Seen {
     seen
 }
 
-/// Whether this many byte strings that come from an entry are load options, and the three sums over all
-/// others have this one.
+/// Returns whether this many byte strings made from an entry are load options, and the three checksums of
+/// the others combine to `sum`.
 fn gives(alloc: Global, entry: &[u8], accepted: u64, sum: u64) -> Result<bool, AllocError> {
     let (some, replaced) = see_changed(alloc, entry, false)?;
     let (others, nudged) = see_changed(alloc, entry, true)?;
@@ -83,8 +83,7 @@ fn gives(alloc: Global, entry: &[u8], accepted: u64, sum: u64) -> Result<bool, A
     Ok(all == accepted && sums.wrapping_mul(31).wrapping_add(cut) == sum)
 }
 
-/// Entries, how many load options their bytes give once replaced, nudged and cut, and the sum of the
-/// others.
+/// Entries, how many load options their changed bytes and prefixes form, and the checksum of the others.
 pub(crate) const ROWS: &[(&str, u64, u64)] = &[
     (entries::BOOT0001, 850, 0xe8a5_870b_a828_fbcc),
     (entries::BOOT0002, 951, 0xbe19_ef21_c7b3_9a32),

@@ -1,5 +1,5 @@
-//! Device paths read from texts as people write them: the bytes of each, by libefivar, on which efibootmgr
-//! stands, and by the layouts of the UEFI Specification 2.10, section 10.3.
+//! Device paths read from texts that people write. The bytes follow libefivar, which efibootmgr uses, and the
+//! layouts of the UEFI Specification 2.10, section 10.3.
 
 use crate::pasted_texts::{READ_BY_EDK2, READ_BY_PEOPLE, fault_words};
 use for_tests::{bytes, split_row};
@@ -7,7 +7,7 @@ use std::alloc::Global;
 use std::test::Fail;
 use uefi_device_path::{DevicePathBuf, LenientTextError};
 
-/// Paths that libefivar makes, without the node that ends them, and the texts that it prints of them.
+/// Paths made by libefivar, without the end node, and the texts that it prints for them.
 pub(crate) const BY_LIBEFIVAR: &str = "\
 02010c00d041030a0000000001010600021f03120a000000ffff000004012a000100000000080000000000000040\
     0600000000001032547698badcfe01020304050607080202040430005c004500460049005c0042004f004f005400\
@@ -36,7 +36,7 @@ pub(crate) const BY_LIBEFIVAR: &str = "\
 030a140078563412bc9af0de341256789abcdef0 VenMsg(12345678-9abc-def0-3412-56789abcdef0)
 0403150078563412bc9af0de341256789abcdef052 VenMedia(12345678-9abc-def0-3412-56789abcdef0,52)";
 
-/// Texts that people write, and what they mean.
+/// Texts that people write, and the bytes of their nodes.
 pub(crate) const BY_PEOPLE: &str = "\
 04012a00020000003f000000000000000000000010000000103254760000000000000000000000000101 \
     HD(2,MBR,0x76543210,0x3f,0x1000000000)
@@ -72,8 +72,8 @@ pub(crate) const BY_PEOPLE: &str = "\
 04040e005c0061005c0062000000 a\\b
 02010c00d041030a0000000001010600021f7f01040004040a005c0061000000 pciroot(0)/pci(0x1f,2),file(a)";
 
-/// Texts that programs print and people paste, and what they mean: by the layouts of the specification
-/// and, where libefivar prints such a text, by the bytes that it prints it of.
+/// Texts that programs print and people paste, and the bytes of their nodes: by the layouts of the
+/// specification and, if libefivar prints such a text, by the bytes that it prints so.
 const PASTED: &str = "\
 04071400c9bdb87cebf8344faaea3ee4af6516a1 FvVol(7cb8bdc9-f8eb-4f34-aaea-3ee4af6516a1)
 030a14005347c1e0bef9d2119a0c0090273fc14d VenPcAnsi()
@@ -122,7 +122,7 @@ const PASTED: &str = "\
 04041a005c004500460049005c0078002e006500660069000000 \"EFI\\x.efi\"
 040418005c0069007400270073002e006500660069000000 '\\it's.efi'";
 
-/// The same with blanks and line ends around the nodes.
+/// A text with blanks and line ends around its nodes.
 const AROUND: &str = "\r\n PciRoot(0x0)\t/\n  Pci(0x1F,\n0x2)\r\n";
 
 #[test]
@@ -135,13 +135,14 @@ fn blanks_around(rt: HostRuntime) -> Result<(), Fail> {
     Ok(())
 }
 
-/// Nodes that libefivar prints in a form of its own: bytes, and the text that it prints.
+/// Nodes that only libefivar prints in this form: bytes, and their text.
 const BY_LIBEFIVAR_ALONE: &str = "\
 031710000c000000002538b391b04c5d NVMe(0xc,00-25-38-B3-91-B0-4C-5D)
 03171000010000000025385b71b012f4 nvme(0x1, 00-25-38-5b-71-b0-12-f4)
 0301080001000c00 Ata(1,0,12)";
 
-/// Whether a text is read as the path of these bytes, and what is printed of that path is read as it is.
+/// Returns whether a text is read as the path of these bytes, and the text of that path is read as the same
+/// path.
 fn is_read(
     alloc: Global,
     read: Result<DevicePathBuf<Global>, LenientTextError>,
@@ -188,7 +189,8 @@ fn texts_of_libefivar(rt: HostRuntime) -> Result<(), Fail> {
     Ok(())
 }
 
-/// What libefivar prints for different nodes, and texts that it does not print; and the words of the fault.
+/// Texts that libefivar prints for several different nodes, texts that it never prints, and the words of the
+/// error.
 const REFUSED_OF_LIBEFIVAR: &str = "\
 SAS(5006016047273469,12,34,NoTopology): no node at offset 0: expected a shorter node, or one \
     whose text tells all \
@@ -215,8 +217,8 @@ fn refused_texts_of_libefivar(rt: HostRuntime) -> Result<(), Fail> {
     Ok(())
 }
 
-/// Texts of no path, after where the node begins that can't be read, and the wrong byte; and what is
-/// expected.
+/// Refused texts. Each follows the offset of the node that cannot be read and the offset of the wrong byte,
+/// and precedes what is expected there.
 pub(crate) const REFUSED: &str = "\
 11 11 PciRoot(0)/: the name of a node | 0 12 Uart(9600,8,Q,1): a parity (D, N, E, O, M, S or x) and `,` | \
 0 0 PcRoot(0): the name of a node, such as `PciRoot(0x` | \

@@ -1,6 +1,6 @@
-//! Tests of `uefi_device_path` and the crates that it re-exports: device paths, their nodes and texts,
-//! and load options. The values come from the UEFI Specification, the entries of `examples/data`, and a
-//! reader in Python that was written from the specification alone.
+//! Tests of `uefi_device_path` and the crates that it re-exports: device paths, their nodes and texts, and
+//! load options. The values come from the UEFI Specification, from the entries of `examples/data`, and from a
+//! reader in Python that was written from the specification only.
 #![tactic(auto)]
 
 #[cfg(test)]

@@ -1,5 +1,5 @@
-//! Load options: the fields of those that are accepted, why others are refused and where, and what is well in
-//! them before the fault, by the layout of the UEFI Specification, section 3.1.3.
+//! Load options: the fields of accepted entries; and the errors of refused ones, their offsets, and the parts
+//! before the fault. The layout is in the UEFI Specification, section 3.1.3.
 
 use crate::entries;
 use for_tests::{bytes, says, split_row};
@@ -8,8 +8,8 @@ use std::fmt::Write;
 use std::test::Fail;
 use uefi_device_path::{AllowShortcuts, DisplayOnly, LoadOption};
 
-/// An entry, its attributes, how many units the description has with its NUL, and its first, how many
-/// bytes the list, and how many nodes each of its paths has, and the optional data.
+/// An entry, its attributes, the length of its description in units with the NUL, its first unit, the size of
+/// the file path list in bytes, the number of nodes in the only path, and the optional data.
 type Row = (&'static str, u32, usize, u16, usize, usize, &'static [u8]);
 
 const ROWS: &[Row] = &[
@@ -19,13 +19,13 @@ const ROWS: &[Row] = &[
     (entries::BOOT000A, 0x101, 11, 0x55, 24, 1, b""),
 ];
 
-/// Whether an option has one path, of this many nodes.
+/// Returns whether an option has one path, with this many nodes.
 fn has_nodes(option: &LoadOption<'_>, want: usize) -> bool {
     let mut paths = option.device_paths();
     matches!(paths.next(), Some(path) if path.node_iter().count() == want) && paths.next().is_none()
 }
 
-/// Whether an entry has the fields of a row.
+/// Returns whether an entry has the fields of a row.
 fn has_fields(entry: &[u8], row: &Row) -> bool {
     let Ok(option) = LoadOption::from_bytes(entry) else {
         return false;
@@ -49,7 +49,7 @@ fn fields(rt: HostRuntime) -> Result<(), Fail> {
     Ok(())
 }
 
-/// Attributes of one bit, and what they say: active, force reconnect, hidden, and the category.
+/// Attributes with one bit set, and their meaning: active, force reconnect, hidden, and the category.
 const ATTRIBUTES: &[(u32, bool, bool, bool, u32)] = &[
     (0x1, true, false, false, 0),
     (0x2, false, true, false, 0),
@@ -84,8 +84,8 @@ fn attributes_of_one_bit(rt: HostRuntime) -> Result<(), Fail> {
     Ok(())
 }
 
-/// An entry in hexadecimal, and what is well in it: attributes, how many units the description has with its
-/// NUL, each whole device path, the nodes before the fault; the fault, and where it is.
+/// An entry in hexadecimal, and its parts before the fault: attributes, the length of the description in
+/// units with the NUL, each whole device path, and the nodes before the fault; then the fault and its offset.
 const PARTS: &str = " the load option ends before its description at offset 0
 0100000004 the load option ends before its description at offset 5
 0100000004006400 1; no NUL ends the description at offset 8
@@ -103,7 +103,7 @@ const PARTS: &str = " the load option ends before its description at offset 0
 01000000050000007fff050000 1; 1 units; an end node has data at offset 10
 01000000060000007fff04007fff 1; 1 units; path ; the bytes end in a node's header at offset 12";
 
-/// What is well in an entry, and its fault, which `from_bytes` returns too.
+/// Returns the parts of an entry before its fault, and the fault, which `from_bytes` also returns.
 fn parts_of(alloc: Global, entry: &[u8]) -> Result<String, Fail> {
     let mut text = String::new(alloc);
     let parts = LoadOption::read_parts(entry).err().ok_or("a fault")?;

@@ -1,4 +1,4 @@
-//! Device paths beside others: short forms of the UEFI Specification, section 3.1.2, and what they stand for.
+//! Pairs of device paths: short forms of the UEFI Specification, section 3.1.2, and their expansions.
 
 use for_tests::split_row;
 use std::alloc::Global;
@@ -6,14 +6,14 @@ use std::test::Fail;
 use uefi_device_path::DevicePathBuf;
 use uefi_device_path::ShortForm::{self, File, HardDrive, Uri, UsbClass, UsbWwid};
 
-/// Paths as texts, of which the first is an expansion of the second.
+/// Pairs of paths as texts. The first path is an expansion of the second.
 const EXPANSIONS: &str = "\
 PciRoot(0x0)/Pci(0x1,0x0)/HD(1,MBR,0x12345678,0x800,0x100)/\\a.efi HD(1,MBR,0x12345678,0x0,0x0)/\\a.efi
 PciRoot(0x0)/\\EFI\\a.efi \\EFI\\a.efi
 \\EFI\\a.efi \\EFI\\a.efi
 MAC(0013720AB0FF,0x1)/Uri(http://a/b) Uri(http://a/b)";
 
-/// The same, where the first path is no expansion of the second.
+/// Pairs of paths as texts. The first path is not an expansion of the second.
 const OTHERS: &str = "\
 PciRoot(0x0)/HD(2,MBR,0x12345678,0x800,0x100) HD(1,MBR,0x12345678,0x800,0x100)
 PciRoot(0x0)/HD(1,MBR,0x12345679,0x800,0x100) HD(1,MBR,0x12345678,0x800,0x100)
@@ -37,7 +37,7 @@ const SHORT_FORMS: &[(&str, Option<ShortForm>)] = &[
     ("", None),
 ];
 
-/// Whether one path as a text is an expansion of another.
+/// Returns whether one path is an expansion of another, both as texts.
 fn is_expansion(alloc: Global, path: &str, short: &str) -> Result<bool, Fail> {
     let path = DevicePathBuf::from_text(alloc, path)?;
     let short = DevicePathBuf::from_text(alloc, short)?;

@@ -1,5 +1,5 @@
-//! What is printed of nodes: the forms of the UEFI Specification, section 10.6.1, and of EDK II, and
-//! hostile texts. A line is a node in hexadecimal and what it prints.
+//! The texts of nodes: the forms of the UEFI Specification, section 10.6.1, and of EDK II, and hostile texts.
+//! A line has a node in hexadecimal, then its text.
 
 use crate::typed_fields::KINDS;
 use for_tests::{bytes, repeated, shows, split_row};
@@ -8,7 +8,7 @@ use std::fmt::Write;
 use std::test::Fail;
 use uefi_device_path::{AllowShortcuts, DevicePathNode, DisplayOnly};
 
-/// Nodes of types ACPI and Messaging that are not read back.
+/// Nodes of types ACPI and Messaging whose texts are not read back.
 const MESSAGING: &str = "\
 02021300d0c1030a0100000000800000000000 AcpiEx(PNP0A03,0,0x1,,,)
 0202130043043412070000000000000078797a AcpiEx(ABC1234,0,0x7,xyz,,)
@@ -46,8 +46,8 @@ const MESSAGING: &str = "\
 031c24000061000000000000000000000000000000000000000000000000000000000000 Wi-Fi()
 03180d00611b5b324a7fe97e20 Uri(a\\x1B[2J\\x7F\\xE9~ )";
 
-/// Nodes that are read back from what they print: of each kind in the table of kinds a row at least,
-/// as EDK II prints it.
+/// Nodes that are read back from their texts, printed as EDK II prints them. Each kind in the table of kinds
+/// has at least one row.
 pub(crate) const REGULAR: &str = "\
 02021300d041030a0100000000000000000000 AcpiEx(PNP0A03,0,0x1,,,)
 02021e00d041080a10000000d041030a4143504930303034005531004300 AcpiEx(PNP0A08,PNP0A03,0x10,ACPI0004,C,U1)
@@ -183,8 +183,8 @@ pub(crate) const REGULAR: &str = "\
 05010c00800010006c616e00 BBS(0x80,lan,0x10)
 05010b0000010000782900 BBS(0x100,x),0x0)";
 
-/// Topologies of SAS devices, two bytes, and what is printed of them: each that has words, and some that have
-/// none.
+/// Topologies of SAS devices, in two bytes, and their texts: every topology that has words, and some without
+/// words.
 const TOPOLOGIES: &str = "\
 0000 NoTopology,0,0,0
 0100 SAS,Internal,Direct,0
@@ -207,8 +207,8 @@ const TOPOLOGIES: &str = "\
 2110 0x1021,0,0,0
 4000 0x40,0,0,0";
 
-/// The lines of SAS devices, which are read back: of both kinds, with each topology. The first kind has four
-/// reserved bytes, which are printed as its last number.
+/// Returns lines of SAS devices that are read back: both kinds of node, with each topology. The first kind
+/// has four reserved bytes, which are printed as its last number.
 pub(crate) fn sas_lines(alloc: Global) -> Result<String, Fail> {
     let mut lines = String::from_str(
         alloc,
@@ -228,7 +228,7 @@ pub(crate) fn sas_lines(alloc: Global) -> Result<String, Fail> {
     Ok(lines)
 }
 
-/// Names of files, and nodes of types Media and BIOS Boot Specification that are not read back.
+/// File names, and nodes of types Media and BIOS Boot Specification whose texts are not read back.
 const MEDIA: &str = "\
 04012a00ffffffff0000000000000000ffffffffffffffff000000000000000000000000000000000100 \
     HD(4294967295,0,0,0x0,0xFFFFFFFFFFFFFFFF)
@@ -246,7 +246,7 @@ const MEDIA: &str = "\
     \\u{2028}\\u{202E}\u{202f}\u{2065}\\u{2066}\\u{2069}\u{206a}
 05010c0002001f0053415441 BBS(HD,SATA,0x1F)";
 
-/// Nodes of no kind, and two that are too short or odd.
+/// Nodes of no known kind, and two nodes with too short or odd data.
 const OTHERS: &str = "\
 010506000102 Path(1,5,0102)
 09fa0400 Path(9,250)
@@ -255,7 +255,7 @@ const OTHERS: &str = "\
 0101050002 Path(1,1,02)
 04040700610062 Path(4,4,610062)";
 
-/// Nodes of which less is printed for display alone.
+/// Nodes whose display-only text is shorter.
 const DISPLAY_ONLY: &str = "\
 0301080001000200 Ata(0x2)
 030c1300c0a80064c0a8000100005000110000 IPv4(192.168.0.1)
@@ -265,7 +265,7 @@ const DISPLAY_ONLY: &str = "\
 04021800010000002d000000000000000010000000000000 CDROM(0x1)
 0501170002001f005341544120076469736b006d6f7265 BBS(HD,SATA \\x07disk)";
 
-/// Nodes with shortcuts allowed: vendors with a name of their own, and short forms of ACPI.
+/// Nodes with shortcuts: vendors with a name of their own, and short forms of ACPI.
 const SHORTCUTS: &str = "\
 02021700d041080a00000000d041030a00504349300000 AcpiExp(PNP0A08,PNP0A03,PCI0)
 02021800d041080a00000000000000004800504349300000 AcpiEx(PNP0A08,0,0x0,H,,PCI0)
@@ -277,7 +277,7 @@ const SHORTCUTS: &str = "\
 030a1400d2e8a4eb5838ec41a2812647ba9660d0 DebugPort()
 030a15005347c1e0bef9d2119a0c0090273fc14d00 VenMsg(E0C14753-F9BE-11D2-9A0C-0090273FC14D,00)";
 
-/// Whether a node prints this.
+/// Returns whether a node prints this text.
 fn prints_node(
     alloc: Global,
     node: &[u8],
@@ -292,7 +292,7 @@ fn prints_node(
     shows(alloc, &text, want)
 }
 
-/// The first line of a table whose node prints something else.
+/// Returns the first line of a table whose node prints another text.
 fn find_wrong(
     alloc: Global,
     table: &str,
@@ -319,7 +319,7 @@ fn nodes_and_what_they_print(rt: HostRuntime) -> Result<(), Fail> {
     Ok(())
 }
 
-/// Whether a node of zeros with this header prints its bytes, in each form.
+/// Returns whether a node of zeros with this header prints its bytes, in each form.
 fn prints_bytes(alloc: Global, kind: u8, sub: u8, len: u8) -> Result<bool, Fail> {
     let mut node = vec![in alloc; kind, sub, len, 0u8]?;
     node.resize(usize::from(len), 0)?;
@@ -332,8 +332,8 @@ fn prints_bytes(alloc: Global, kind: u8, sub: u8, len: u8) -> Result<bool, Fail>
     )
 }
 
-/// Nodes with a byte less than their kind has: IPv6 is printed without what old nodes lack, and Dns needs an
-/// address.
+/// Nodes with one byte less than the minimum of their kind. Older IPv6 nodes may lack some bytes, and Dns
+/// needs an address.
 #[test]
 fn nodes_that_are_cut(rt: HostRuntime) -> Result<(), Fail> {
     for (_, kind, sub, _, least) in KINDS {

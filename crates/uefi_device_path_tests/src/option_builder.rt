@@ -1,4 +1,4 @@
-//! Load options that are written: the entries once more, each field that is refused.
+//! Writing load options: the sample entries again, and each refused field.
 
 use crate::hostile_entries::ROWS;
 use for_tests::{bytes, writes_whole};
@@ -6,7 +6,7 @@ use std::test::Fail;
 use uefi_device_path::OptionBuildError::{EmptyList, ListTooLong, NulInDescription};
 use uefi_device_path::{DevicePath, LoadOption, LoadOptionBuilder, OptionBuildError};
 
-/// How many bytes were written, or are needed.
+/// Returns how many bytes were written, or are needed.
 pub(crate) fn needed(written: Result<usize, OptionBuildError>) -> Result<usize, usize> {
     match written {
         Ok(count) => Ok(count),
@@ -15,7 +15,7 @@ pub(crate) fn needed(written: Result<usize, OptionBuildError>) -> Result<usize, 
     }
 }
 
-/// Whether the fields of an entry are written as the entry.
+/// Returns whether the fields of an entry are written as the same entry.
 fn is_written_again(rt: &HostRuntime, entry: &[u8]) -> Result<bool, Fail> {
     let option = LoadOption::from_bytes(entry)?;
     let units = option.description_units().to_vec(rt.alloc())?;
@@ -40,11 +40,11 @@ fn written_again(rt: HostRuntime) -> Result<(), Fail> {
     Ok(())
 }
 
-/// The path without nodes.
+/// The path with no node but its end.
 pub(crate) const END: &[u8] = &[0x7f, 0xff, 4, 0];
 
-/// Whether fields of this description and this many paths without nodes are refused for this, in memory
-/// and in a buffer without a place; there for the buffer alone where nothing else is wrong.
+/// Returns whether a description and `count` empty paths are refused with this error, in memory and in an
+/// empty buffer. If nothing else is wrong, only the empty buffer is refused.
 fn are_refused(
     rt: &HostRuntime,
     description: &[u16],
@@ -60,7 +60,7 @@ fn are_refused(
     )
 }
 
-/// Descriptions, how many paths, and why they are refused.
+/// Descriptions, the number of paths, and why each is refused.
 const REFUSED: &[(&[u16], usize, Option<OptionBuildError>)] = &[
     (&[0], 1, Some(NulInDescription(0))),
     (&[0x61, 0xd800, 0], 0, Some(NulInDescription(2))),

@@ -1,15 +1,14 @@
-//! Load options of which the description is replaced. The bytes are made by hand by the UEFI Specification,
-//! section 3.1.3.
+//! Load options whose description is replaced. The bytes follow the UEFI Specification, section 3.1.3.
 
 use crate::option_builder::needed;
 use for_tests::{bytes, split_row, string, writes_whole};
 use std::test::Fail;
 use uefi_device_path::LoadOption;
 
-/// An entry with a path of one node, and optional data: active, described as `ab`.
+/// An active entry, described as `ab`, with a path of one node and optional data.
 const ENTRY: &str = "010000000a0061006200000001010600021f7fff04006f007000";
 
-/// Descriptions, and the same with each.
+/// Descriptions, and the entry with each description.
 const DESCRIBED: &str = "\
 x 010000000a007800000001010600021f7fff04006f007000
  010000000a00000001010600021f7fff04006f007000

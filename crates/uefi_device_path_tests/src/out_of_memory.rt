@@ -1,5 +1,5 @@
-//! Paths that are built and read, file paths, descriptions and load options, with each request for memory
-//! refused in turn; and long ones, with ample memory.
+//! Paths that are built and read, file paths, descriptions and load options, with each memory request refused
+//! in turn; and long ones, with ample memory.
 
 use crate::option_builder::END;
 use for_tests::{Refusing, is_answered, out_of_memory, repeated, requests};
@@ -12,25 +12,26 @@ use uefi_device_path::{
 use uefi_path::Path;
 use uefi_text::{CStr16, FromSliceWithNulError};
 
-/// A call that takes memory, and what it is given.
+/// A call that requests memory, and its arguments.
 #[derive(Clone, Copy)]
 enum Call<'a> {
-    /// How many nodes are pushed to a new path, and the data of each.
+    /// How many nodes to push to a new path, and the data of each.
     Push(usize, &'a [u8]),
     /// The name of a file.
     PushFile(&'a [u16]),
-    /// A device path, and another that is added to it.
+    /// A device path, and another to append.
     Append(&'a [u8], &'a [u8]),
-    /// The same twice, the second time in the room that is left.
+    /// The arguments of `Append`. The second time, the path is appended to the result, where it may fit into
+    /// the room that is left.
     AppendTwice(&'a [u8], &'a [u8]),
     /// A device path.
     FilePath(&'a [u8]),
-    /// The first instance of a device path.
+    /// A device path. The call reads its first instance.
     InstanceFilePath(&'a [u8]),
     FromText(&'a str),
     FromLenientText(&'a str),
     FromLibefivarText(&'a str),
-    /// A text that is refused at a place.
+    /// A refused text, and the offset of the error.
     NoText(&'a str, usize),
     NoLenientText(&'a str, usize),
     /// A load option.
@@ -38,7 +39,7 @@ enum Call<'a> {
     DescriptionLossy(&'a [u8]),
 }
 
-/// Whether a path of this many nodes with these data is built, or memory ran out.
+/// Returns whether a path with `count` nodes with these data is built, or memory ran out.
 fn builds(heap: &Refusing<Global>, count: usize, data: &[u8]) -> Result<bool, AllocError> {
     let mut path = DevicePathBuf::new(heap)?;
     for _ in 0..count {
@@ -50,7 +51,7 @@ fn builds(heap: &Refusing<Global>, count: usize, data: &[u8]) -> Result<bool, Al
     Ok(path.as_device_path().node_iter().count() == count)
 }
 
-/// Whether a node that names a file is pushed, or memory ran out.
+/// Returns whether a file node is pushed, or memory ran out.
 fn names(heap: &Refusing<Global>, name: &[u16]) -> Result<bool, AllocError> {
     let mut path = DevicePathBuf::new(heap)?;
     match CStr16::from_u16_with_nul(name) {
@@ -59,7 +60,7 @@ fn names(heap: &Refusing<Global>, name: &[u16]) -> Result<bool, AllocError> {
     }
 }
 
-/// Whether a path is added to another, or is unchanged where memory ran out.
+/// Returns whether a path is appended to another, which is unchanged if memory ran out.
 fn appends(
     heap: &Refusing<Global>,
     start: &[u8],
@@ -88,7 +89,7 @@ fn appends(
     Ok(true)
 }
 
-/// Whether nodes have a file path, or memory ran out.
+/// Returns whether a call returned a file path, or memory ran out.
 fn is_named<T: Drop>(answer: Result<T, FilePathError>) -> Result<bool, AllocError> {
     match answer {
         Ok(_) => Ok(true),
@@ -96,7 +97,7 @@ fn is_named<T: Drop>(answer: Result<T, FilePathError>) -> Result<bool, AllocErro
     }
 }
 
-/// Whether a path has a file path, or its first instance, or memory ran out.
+/// Returns whether a path or its first instance has a file path, or memory ran out.
 fn has_name(heap: &Refusing<Global>, bytes: &[u8], is_instance: bool) -> Result<bool, AllocError> {
     let Ok(path) = DevicePath::from_bytes(bytes) else {
         return Ok(false);
@@ -110,7 +111,7 @@ fn has_name(heap: &Refusing<Global>, bytes: &[u8], is_instance: bool) -> Result<
     }
 }
 
-/// Whether a load option has a description as a string, or as a text, or memory ran out.
+/// Returns whether the description of a load option is copied as a string or as a text, or memory ran out.
 fn describes(heap: &Refusing<Global>, bytes: &[u8], lossy: bool) -> Result<bool, AllocError> {
     let Ok(option) = LoadOption::from_bytes(bytes) else {
         return Ok(false);
@@ -122,7 +123,7 @@ fn describes(heap: &Refusing<Global>, bytes: &[u8], lossy: bool) -> Result<bool,
     }
 }
 
-/// Whether a call gives what ample memory gives, or memory ran out.
+/// Returns whether a call gives the result of ample memory, or memory ran out.
 fn answers(call: Call<'_>, heap: &Refusing<Global>) -> Result<bool, AllocError> {
     match call {
         Call::Push(count, data) => builds(heap, count, data),
@@ -156,7 +157,7 @@ fn answers(call: Call<'_>, heap: &Refusing<Global>) -> Result<bool, AllocError> 
     }
 }
 
-/// A path of a node that names the file `a`.
+/// A path with one file node, for the file `a`.
 const NAMED: &[u8] = &[4, 4, 8, 0, 0x61, 0, 0, 0, 0x7f, 0xff, 4, 0];
 
 /// A load option with the description `a`.
@@ -182,11 +183,11 @@ const ROWS: &[(Call<'static>, u64)] = &[
         Call::FromLibefivarText("NVMe(0x1,00-25-38-5B-71-B0-03-1C)/File(a)"),
         2,
     ),
-    // The copy alone: no path is asked for.
+    // One request, for the copy of the text. None is made for the path.
     (Call::NoLenientText("pciroot(0)/pci(31,2)/", 21), 1),
     (Call::NoLenientText("file(a)/Uri(\u{e9})", 8), 1),
     (Call::Description(OPTION), 1),
-    // One for the units, and one for a text of as many bytes.
+    // One request for the units, and one for a text of as many bytes.
     (Call::DescriptionLossy(OPTION), 2),
 ];
 
@@ -199,7 +200,7 @@ fn requests_of_each_call(rt: HostRuntime) -> Result<(), Fail> {
     Ok(())
 }
 
-/// The units of a text, two bytes each, and a NUL.
+/// Returns the units of a text and a NUL, two bytes each.
 fn unit_bytes(alloc: Global, text: &str) -> Result<Vec<u8>, AllocError> {
     let mut bytes = Vec::new(alloc);
     for unit in text.encode_utf16() {
@@ -209,8 +210,8 @@ fn unit_bytes(alloc: Global, text: &str) -> Result<Vec<u8>, AllocError> {
     Ok(bytes)
 }
 
-/// How many nodes name files, how many characters each name has after what it begins with: one request for
-/// the text, and one for the places of separators.
+/// How many nodes name files, how many characters follow the first text in each name, that text, and the
+/// number of requests: one for the path's text, and one for the positions of separators.
 const FILE_PATHS: &[(u64, u64, &str, u64)] = &[
     (1, 0, "", 1),
     (1, 0, "\\", 2),
@@ -245,8 +246,8 @@ fn file_paths_of_each_size(rt: HostRuntime) -> Result<(), Fail> {
     Ok(())
 }
 
-/// Whether a text is a printed one, the text of nodes, one of them, or a byte of a node or a character of a
-/// name, this many times in a row, and what follows.
+/// Whether a text is in the printed form, its beginning, a piece, how often the piece is repeated, and its
+/// end.
 const TEXTS: &[(bool, &str, &str, u64, &str)] = &[
     (true, "Pci(0x0,0x0)", "/Pci(0x1F,0x7)", 400, ""),
     (true, "Path(3,99,", "0F", 1, ")"),
@@ -272,7 +273,8 @@ const TEXTS: &[(bool, &str, &str, u64, &str)] = &[
     (false, "file(", "中", 32_763, ")"),
 ];
 
-/// A printed text takes one request, and one as people write it two: for a copy and for the path.
+/// Reading a printed text makes one request. Reading a text that people write makes two: for a copy of the
+/// text and for the path.
 #[test]
 fn texts_of_each_size(rt: HostRuntime) -> Result<(), Fail> {
     for (is_printed, front, piece, count, back) in TEXTS {
@@ -289,7 +291,7 @@ fn texts_of_each_size(rt: HostRuntime) -> Result<(), Fail> {
     Ok(())
 }
 
-/// How often a description has a character, and how many bytes of optional data follow the path.
+/// How often a character is repeated in a description, and how many bytes of optional data follow the path.
 const DESCRIPTIONS: &[(u64, usize)] = &[
     (0, 0),
     (1, 136),
@@ -300,8 +302,8 @@ const DESCRIPTIONS: &[(u64, usize)] = &[
     (1, 100_000),
 ];
 
-/// Whether the calls on an option with this description make one request for a string, which no pair of
-/// surrogates is, and two or more for a text that is not empty.
+/// Returns whether reading the description as a string makes one request, unless it contains a surrogate
+/// pair, and reading it as a nonempty text makes at least two.
 fn is_counted(rt: &HostRuntime, text: &str, optional: &[u8]) -> Result<bool, Fail> {
     let mut option = Vec::from_slice(rt.alloc(), &[1, 0, 0, 0, 4, 0])?;
     option.extend_from_slice(&unit_bytes(rt.alloc(), text)?)?;
@@ -313,7 +315,7 @@ fn is_counted(rt: &HostRuntime, text: &str, optional: &[u8]) -> Result<bool, Fai
     Ok(is_string && (text.is_empty() || 2 <= shown))
 }
 
-/// Characters of one unit, of one unit and three bytes, and of two units.
+/// Characters of one unit and one or two bytes, of one unit and three bytes, and of two units.
 #[test]
 fn descriptions_of_each_size(rt: HostRuntime) -> Result<(), Fail> {
     for (count, optional) in DESCRIPTIONS {
@@ -326,7 +328,8 @@ fn descriptions_of_each_size(rt: HostRuntime) -> Result<(), Fail> {
     Ok(())
 }
 
-/// Whether an option of this description, of paths and of optional data takes one request.
+/// Returns whether writing an option with a description, paths and optional data of these sizes makes one
+/// request.
 fn is_written(rt: &HostRuntime, len: usize, paths: usize, optional: usize) -> Result<bool, Fail> {
     let description = vec![in rt.alloc(); 0xe9u16; len]?;
     let data = vec![in rt.alloc(); 7u8; optional]?;
@@ -354,8 +357,8 @@ fn options_of_each_size(rt: HostRuntime) -> Result<(), Fail> {
     Ok(())
 }
 
-/// How many nodes two paths have of six bytes each, and how many requests it takes to make the first, to add
-/// the second to it, and to add that once more.
+/// How many six-byte nodes two paths have, how many requests it takes to create the first path and append the
+/// second, and how many to append the second twice.
 const APPENDED: &[(usize, usize, u64, u64)] = &[
     (0, 0, 1, 1),
     (0, 1, 2, 3),
@@ -397,10 +400,10 @@ fn appended_paths(rt: HostRuntime) -> Result<(), Fail> {
     Ok(())
 }
 
-/// How often a name has a character.
+/// How often a character is repeated in a name.
 const NAMES: [u64; 6] = [0, 1, 300, 1000, 5000, 32_764];
 
-/// A node that names a file asks once, after the path without nodes.
+/// A file node makes one request, after the request for the empty path.
 #[test]
 fn names_of_each_size(rt: HostRuntime) -> Result<(), Fail> {
     for count in NAMES {

@@ -4,7 +4,7 @@ use std::alloc::Global;
 use std::test::Fail;
 use uefi_device_path::{DevicePathBuf, LenientTextError};
 
-/// Texts, and the bytes that EDK II's own reader of texts makes of them.
+/// Texts, and the bytes that EDK II's own reader makes of them.
 pub(crate) const READ_BY_EDK2: &str = "\
 04071400c9bdb87cebf8344faaea3ee4af6516a10406140083a5047c3e9e1c4fad65e05268d0b4d1 Fv(7CB8BDC9-F8EB-4F34-A\
     AEA-3EE4AF6516A1)/FvFile(7C04A583-9E3E-4F1C-AD65-E05268D0B4D1)
@@ -228,9 +228,9 @@ pub(crate) const READ_BY_EDK2: &str = "\
 02010c00d041010400000000 ParallelPort(0)
 0102050000 PcCard(0x0)";
 
-/// Texts that EDK II reads otherwise or takes for the name of a file, because it reads names in one case
-/// alone, and no addresses with separators, short addresses, braces, quotation marks or shortcuts of
-/// other programs. The bytes follow from the layouts of the UEFI Specification 2.10, section 10.3.
+/// Texts that EDK II reads differently or takes for file names: it knows names in one case only, and no
+/// addresses with separators, short addresses, braces, quotation marks or shortcuts of other programs. The
+/// bytes follow from the layouts of the UEFI Specification 2.10, section 10.3.
 pub(crate) const READ_BY_PEOPLE: &str = "\
 04071400c9bdb87cebf8344faaea3ee4af6516a10406140083a5047c3e9e1c4fad65e05268d0b4d1 FvVol(7CB8BDC9-F8EB-4F3\
     4-AAEA-3EE4AF6516A1)/FvFile(7C04A583-9E3E-4F1C-AD65-E05268D0B4D1)
@@ -301,7 +301,7 @@ pub(crate) const READ_BY_PEOPLE: &str = "\
 0104170078563412bc9af0de123456789abcdef0aabbcc VenHw(12345678-9ABC-DEF0-1234-56789ABCDEF0, AA BB CC)
 05010d00010000003032303100 Bbs(1,0201)";
 
-/// Texts with a typo, and texts that do not say which node they are; and what is printed of the fault.
+/// Texts with a typo, texts that don't determine their node, and the message of each error.
 const WRONG: &str = "\
 PciRoot(0x0)/Pci(0x1F,0x2 => no node at offset 13: expected `)` at offset 25
 PciRoot(0x0)/Pci(0x1F;0x2) => no node at offset 13: expected `,` at offset 21
@@ -452,7 +452,7 @@ NVDIMM(12345678-9ABC-DEF0-1234-56789ABCDEF0) => no node at offset 0: expected th
     et 0
 NVDIMM(0x1) => no node at offset 0: expected the name of a node at offset 0";
 
-/// What is printed of the fault of a text, or nothing if it is read.
+/// Returns the message of the error for a text, or nothing if the text is read.
 pub(crate) fn fault_words(
     alloc: Global,
     read: Result<DevicePathBuf<Global>, LenientTextError>,

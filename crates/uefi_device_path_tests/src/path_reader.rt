@@ -1,5 +1,5 @@
 //! Device paths read from their texts: the bytes of each, by the layouts of the UEFI Specification 2.10,
-//! section 10.3, and where a text is none.
+//! section 10.3, and the offset of the fault in refused texts.
 
 use crate::node_text::{REGULAR, sas_lines};
 use for_tests::{bytes, split_row};
@@ -7,9 +7,8 @@ use std::alloc::Global;
 use std::test::Fail;
 use uefi_device_path::DevicePathBuf;
 
-/// The bytes of nodes without the one that ends the path, and their text: devices as firmware prints
-/// them before a partition, partitions, names of files, and instances. The first line is the empty
-/// path.
+/// The bytes of nodes without the end node, and their text: devices as firmware prints them before a
+/// partition, partitions, file names, and instances. The first line is the empty path.
 pub(crate) const TEXTS: &str = "
 02010c00d041030a0000000001010600021f PciRoot(0x0)/Pci(0x1F,0x2)
 02010c00d041080a78563412 PcieRoot(0x12345678)
@@ -27,7 +26,7 @@ pub(crate) const TEXTS: &str = "
 04041a005c004500460049005c00e90028003dd800de29000000 \\EFI\\é(😀)
 0305060001007f0104007f01040004040a005c0061000000 USB(0x1,0x0),,\\a";
 
-/// Whether a text is read as the path of these bytes, and that path is printed so.
+/// Returns whether a text is read as the path of these bytes, and that path prints the text.
 fn is_read(alloc: Global, text: &str, nodes: &[u8]) -> Result<bool, Fail> {
     let path = DevicePathBuf::from_text(alloc, text)?;
     let path = path.as_device_path();
@@ -35,7 +34,7 @@ fn is_read(alloc: Global, text: &str, nodes: &[u8]) -> Result<bool, Fail> {
     Ok(path.as_bytes().strip_prefix(nodes) == Some(end) && path.to_string(alloc)?.as_str() == text)
 }
 
-/// The first line of a table whose text is not read so.
+/// Returns the first line of a table whose text is not read as its bytes, or not printed again.
 fn find_unread(alloc: Global, table: &str) -> Result<Option<&str>, Fail> {
     for line in table.split('\n') {
         let (nodes, text) = split_row(line);
@@ -55,7 +54,7 @@ fn texts(rt: HostRuntime) -> Result<(), Fail> {
     Ok(())
 }
 
-/// Texts of no path, after where the first node begins in them that can't be read.
+/// Refused texts, after the offset of the first node that cannot be read.
 pub(crate) const REFUSED: &str = "\
 13 PciRoot(0x0)/ | PciRoot(0x0)//Pci(0x0,0x0) | PciRoot(0x0)/Pci(0x0,0x0)  | PciRoot(0x0)/Pci(0x1f,0x2)
 13 PciRoot(0x0)/Pci(0x1F,0x100) | USB(0x1,0x0),USB(0x1)

@@ -1,5 +1,5 @@
-//! What is printed of paths and their instances, and written into buffers. A line is a path in
-//! hexadecimal and what it prints.
+//! The texts of paths and their instances, printed and written into buffers. A line has a path in
+//! hexadecimal, then its text.
 
 use for_tests::{bytes, shows, split_row};
 use std::test::Fail;
@@ -23,18 +23,19 @@ const PATHS: &str = "\
 040408006100000004040800620000007fff0400 a/b
 04040e0061003dd800de3dd800007fff0400 a😀\u{fffd}";
 
-/// A path for display alone.
+/// A path in its display-only form.
 const DISPLAY_ONLY: &str = "\
 02010c00d041030a00000000010106000019030b25000013720ab0ff00000000000000000000000000000000000000000000\
     0000000001030c1300c0a80064c0a80001000050001100007fff0400 \
     PciRoot(0x0)/Pci(0x19,0x0)/MAC(0013720AB0FF,0x1)/IPv4(192.168.0.1)";
 
-/// A path of two terminals, with shortcuts.
+/// A path with two terminals, with shortcuts.
 const SHORTCUTS: &str = "\
 02010c00d041010500000000030a14005347c1e0bef9d2119a0c0090273fc14d7f0104000305060001007fff0400 \
     Serial(0x0)/VenPcAnsi(),USB(0x1,0x0)";
 
-/// What a call says that writes a text and its NUL into this many of 256 places, and what these hold then.
+/// Returns the result of a call that writes a text and its NUL into the first `room` of 256 units, and the
+/// units afterwards.
 fn written(want: &str, room: usize) -> (Result<usize, BufferTooSmall>, [u16; 256]) {
     let mut places = [0xffff; 256];
     let mut len = 0usize;
@@ -51,7 +52,7 @@ fn written(want: &str, room: usize) -> (Result<usize, BufferTooSmall>, [u16; 256
     (Ok(len), places)
 }
 
-/// How many units a call borrows from a buffer before a NUL.
+/// Returns how many units before the NUL a call borrows from a buffer.
 fn counted(borrowed: Result<&[u16], BufferTooSmall>) -> Result<usize, BufferTooSmall> {
     match borrowed {
         Ok(units) => Ok(units.len().saturating_sub(1)),
@@ -59,7 +60,8 @@ fn counted(borrowed: Result<&[u16], BufferTooSmall>) -> Result<usize, BufferTooS
     }
 }
 
-/// Whether a path fills a buffer of each room with its text.
+/// Returns whether a path writes its text into each buffer with enough room, and leaves a shorter buffer
+/// unchanged.
 fn fills_buffers(
     path: DevicePath<'_>,
     display_only: DisplayOnly,
@@ -77,7 +79,7 @@ fn fills_buffers(
     true
 }
 
-/// Whether the path of each line prints what follows it, in memory and in buffers.
+/// Returns whether the path of each line prints its text, in memory and in buffers.
 fn are_printed(
     rt: &HostRuntime,
     table: &str,
@@ -106,7 +108,7 @@ fn paths(rt: HostRuntime) -> Result<(), Fail> {
     Ok(())
 }
 
-/// Whether an instance prints a text, and fills a buffer of each room with it.
+/// Returns whether an instance prints a text, and writes it into each buffer with enough room.
 fn instance_prints(rt: &HostRuntime, instance: DevicePathInstance<'_>, want: &str) -> bool {
     let (display_only, shortcuts) = (DisplayOnly(true), AllowShortcuts(true));
     for room in 0..want.len().saturating_add(3) {
@@ -123,7 +125,7 @@ fn instance_prints(rt: &HostRuntime, instance: DevicePathInstance<'_>, want: &st
     shows(rt.alloc(), &instance.display(display_only, shortcuts), want)
 }
 
-/// Whether the instances of a path have these texts.
+/// Returns whether the instances of a path have these texts.
 fn instances_print(rt: &HostRuntime, path: DevicePath<'_>, want: [&str; 2]) -> bool {
     let mut instances = path.instance_iter();
     for want in want {
@@ -188,7 +190,8 @@ fn nodes(rt: HostRuntime) -> Result<(), Fail> {
     Ok(())
 }
 
-/// Nodes whose texts are long for their bytes. The text of the first, with its NUL, needs the whole room.
+/// Nodes with long texts for their size. The text of the first, with its NUL, needs all the room that
+/// `TEXT_UNITS_PER_BYTE` allows.
 const LONG_TEXTS: &str = "\
 030f0b00fffffffffe01ff UsbDeviceFirmwareUpdate(0xFFFF,0xFFFF,0xFF)
 04040c002e202e202e202e20 \\u{202E}\\u{202E}\\u{202E}\\u{202E}";

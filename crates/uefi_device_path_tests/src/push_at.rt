@@ -1,5 +1,5 @@
-//! Nodes that are added at the end of a path of known size: they make the path that `push_in_buf` makes, at
-//! each room, and each refusal leaves the buffer unchanged.
+//! Nodes that are appended to a path of known size. With each amount of room, the path is the same as that of
+//! `push_in_buf`, and an error leaves the buffer unchanged.
 
 use crate::option_builder::END;
 use for_tests::holds;
@@ -10,7 +10,7 @@ use uefi_device_path::{
     push_in_buf,
 };
 
-/// Nodes, by their types and data: of a PCI function, the end of an instance, a file, and a node that no
+/// Nodes, with their types and data: a PCI function, the end of an instance, a file, and a node that no
 /// specification lists.
 const NODES: &[(u8, u8, &[u8])] = &[
     (1, 1, &[0, 0x1f]),
@@ -19,12 +19,12 @@ const NODES: &[(u8, u8, &[u8])] = &[
     (9, 200, &[]),
 ];
 
-/// The bytes of their path.
+/// The bytes of the path of `NODES`.
 const PATH: &[u8] = &[
     1, 1, 6, 0, 0, 0x1f, 0x7f, 1, 4, 0, 4, 4, 8, 0, 0x61, 0, 0, 0, 9, 200, 4, 0, 0x7f, 0xff, 4, 0,
 ];
 
-/// A node of these.
+/// Creates a node of this type, sub-type and data.
 fn node_of(device_type: u8, sub_type: u8, content: &[u8]) -> RawNode<'_> {
     RawNode {
         device_type: DeviceType(device_type),
@@ -33,8 +33,8 @@ fn node_of(device_type: u8, sub_type: u8, content: &[u8]) -> RawNode<'_> {
     }
 }
 
-/// Adds the nodes to the path without nodes in each of two buffers, with a call each. Returns whether the
-/// results and the buffers agree after each node, and how many bytes the path has in the end.
+/// Adds the nodes to the empty path in two buffers, with a different call for each. Returns whether the
+/// results and the buffers agree after each node, and the size of the path in the end.
 fn build_both(one: &mut [u8], other: &mut [u8]) -> (bool, usize) {
     let mut len = 4;
     for &(device_type, sub_type, content) in NODES {
@@ -69,8 +69,8 @@ fn as_without_the_size(rt: HostRuntime) -> Result<(), Fail> {
 /// A path of 10 bytes in a buffer of 12.
 const BEFORE: [u8; 12] = [1, 1, 6, 0, 0, 0x1f, 0x7f, 0xff, 4, 0, 9, 9];
 
-/// Sizes at which it does not end, and nodes by their types and how many bytes of data they have, which are
-/// not judged there.
+/// Sizes at which the path of `BEFORE` does not end, and the type, sub-type and data size of a node. The
+/// missing end is reported before any fault of the node.
 const NO_END: &[(usize, u8, u8, usize)] = &[
     (0, 1, 1, 2),
     (3, 0x7f, 0xff, 0),
@@ -83,7 +83,8 @@ const NO_END: &[(usize, u8, u8, usize)] = &[
     (usize::MAX, 1, 1, 2),
 ];
 
-/// Nodes, and why they are not added to it: for the room last.
+/// The type, sub-type and data size of nodes, and why they are not added to the path of `BEFORE`. The lack of
+/// room is reported last.
 const REFUSED: &[(u8, u8, usize, BuildError)] = &[
     (0x7f, 0xff, 0, BuildError::EndNode),
     (0x7f, 0x00, 0, BuildError::EndNode),
@@ -117,7 +118,7 @@ fn refused(rt: HostRuntime) -> Result<(), Fail> {
     Ok(())
 }
 
-/// What is before the end node is not read, and what is after the path is not written.
+/// Bytes before the end node are not read, and bytes after the path are not written.
 #[test]
 fn after_any_bytes(rt: HostRuntime) {
     let mut buffer = [0, 1, 2, 0x7f, 0xff, 4, 0, 9, 9, 9, 9, 9, 9, 9];

@@ -1,5 +1,5 @@
-//! Texts whose nodes are added to the path that a buffer begins with, as they are printed and as people write
-//! them: what the buffer then holds, by how many bytes it and the second buffer have.
+//! Texts whose nodes are appended to the path at the start of a buffer, in the printed form and as people
+//! write them: what the buffer contains afterwards, for each size of the buffer and of the second buffer.
 
 use crate::node_text::REGULAR;
 use crate::option_builder::END;
@@ -12,7 +12,7 @@ use uefi_device_path::{
     DevicePathBuf, PushLenientTextError, push_lenient_text_in_buf, push_text_in_buf,
 };
 
-/// The path of a PCI device and of the nodes that have these bytes.
+/// Returns the path of a PCI device and the nodes with these bytes.
 fn path_of(alloc: Global, nodes: &[u8]) -> Result<Vec<u8>, Fail> {
     let mut path = Vec::from_slice(alloc, &[1, 1, 6, 0, 0, 0x1f])?;
     path.extend_from_slice(nodes)?;
@@ -20,10 +20,10 @@ fn path_of(alloc: Global, nodes: &[u8]) -> Result<Vec<u8>, Fail> {
     Ok(path)
 }
 
-/// What a call returned, with its error as a text.
+/// The result of a call, with its error as a text.
 type Shown<T> = Result<Result<T, String>, Fail>;
 
-/// The same of a result.
+/// Converts a result.
 fn shown<T, E: Display + Drop>(alloc: Global, it: Result<T, E>) -> Shown<T> {
     match it {
         Ok(value) => Ok(Ok(value)),
@@ -31,7 +31,7 @@ fn shown<T, E: Display + Drop>(alloc: Global, it: Result<T, E>) -> Shown<T> {
     }
 }
 
-/// Adds the nodes of a text, one as people write it with the least second buffer that will do.
+/// Appends the nodes of a text. A text that people write gets the smallest sufficient second buffer.
 fn push(alloc: Global, exact: bool, old: &mut [u8], text: &str) -> Shown<usize> {
     if exact {
         return shown(alloc, push_text_in_buf(old, text));
@@ -40,8 +40,8 @@ fn push(alloc: Global, exact: bool, old: &mut [u8], text: &str) -> Shown<usize> 
     shown(alloc, push_lenient_text_in_buf(old, text, &mut scratch))
 }
 
-/// Whether a text makes the path of a PCI device to this one in a buffer of `len` bytes, or is refused
-/// there for them where they are too few.
+/// Returns whether a text extends the path of a PCI device to `path` in a buffer of `len` bytes, or is
+/// refused because they are too few.
 fn is_added(alloc: Global, exact: bool, len: usize, text: &str, path: &[u8]) -> Result<bool, Fail> {
     let device = path_of(alloc, &[])?;
     let mut buffer = Vec::from_slice(alloc, &device)?;
@@ -58,7 +58,7 @@ fn is_added(alloc: Global, exact: bool, len: usize, text: &str, path: &[u8]) -> 
     })
 }
 
-/// Whether a text as people write it is refused for each second buffer that is too short.
+/// Returns whether a text that people write is refused with each second buffer that is too short.
 fn needs_scratch(alloc: Global, text: &str) -> Result<bool, Fail> {
     let needed = Err(PushLenientTextError::ScratchTooSmall(text.len().saturating_add(1)));
     let mut scratch = vec![in alloc; 0xeeu8; text.len()]?;
@@ -72,7 +72,8 @@ fn needs_scratch(alloc: Global, text: &str) -> Result<bool, Fail> {
     Ok(true)
 }
 
-/// The first line of a table whose text is not added so, in buffers of any size that holds the device.
+/// Returns the first line of a table whose text is not appended correctly, in buffers of any size that has
+/// room for the device.
 fn find_wrong(alloc: Global, exact: bool, table: &str) -> Result<Option<&str>, Fail> {
     for line in table.split('\n') {
         let (nodes, text) = split_row(line);
@@ -102,8 +103,8 @@ fn at_each_room(rt: HostRuntime) -> Result<(), Fail> {
     Ok(())
 }
 
-/// Why a text is refused in memory and before a buffer without room for more; nothing where it is not so in
-/// both, or not refused otherwise after a buffer that begins with no path.
+/// Returns why a text is refused, or `None` if the reader in memory and a full buffer disagree, or a buffer
+/// without a path does not get its own error.
 fn refusal(alloc: Global, exact: bool, text: &str) -> Result<Option<String>, Fail> {
     let (mut buffer, mut no_path) = ([0x7f, 0xff, 4, 0], [0x7f, 0xff, 3, 0]);
     let added = push(alloc, exact, &mut buffer, text)?.err();
@@ -139,8 +140,8 @@ fn refused(rt: HostRuntime) -> Result<(), Fail> {
     Ok(())
 }
 
-/// A node has at most 65,531 bytes of data, its name 32,764 units with the backslash before it, and a path
-/// any number of nodes.
+/// A node has at most 65,531 bytes of data. Its name has at most 32,764 units, including the backslash before
+/// it. A path has any number of nodes.
 #[test]
 fn long_texts(rt: HostRuntime) -> Result<(), Fail> {
     let alloc = rt.alloc();

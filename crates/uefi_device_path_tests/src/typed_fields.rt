@@ -1,4 +1,4 @@
-//! The fields of each kind of node, at their places in the UEFI Specification, and the view of each.
+//! The fields of each kind of node at their offsets in the UEFI Specification, and the view of each kind.
 
 use std::test::Fail;
 use uefi_device_path::{
@@ -6,7 +6,7 @@ use uefi_device_path::{
     NodeConversionError,
 };
 
-/// The bytes of a node with this much data, no two of which are the same: 1, 2, 3 and on.
+/// Returns the bytes of a node with this much data, which counts up: 1, 2, 3.
 fn node_bytes(device_type: u8, sub_type: u8, len: u8) -> [u8; 68] {
     let mut bytes = [0; 68];
     let (header, data) = bytes.split_at_mut(4);
@@ -19,7 +19,7 @@ fn node_bytes(device_type: u8, sub_type: u8, len: u8) -> [u8; 68] {
     bytes
 }
 
-/// Whether bytes are those of the data from the one of this number on.
+/// Returns whether bytes count up from `first`.
 fn are_data(bytes: &[u8], first: u8) -> bool {
     let mut next = first;
     for byte in bytes {
@@ -31,12 +31,12 @@ fn are_data(bytes: &[u8], first: u8) -> bool {
     true
 }
 
-/// The data of nodes from the byte of that number on.
+/// The data of nodes from the byte with that number on.
 const FROM_13: &[u8] = &[13, 14, 15, 16, 17];
 
 const FROM_17: &[u8] = &[17, 18, 19];
 
-/// Whether a node has the view of one of these kinds, and the fields of that are these.
+/// Returns whether a node has the view of one of these kinds, with these fields.
 macro_rules! has_fields {
     ($node:ident $($kind:ident $it:ident [$($field:expr),*])*) => {
         match $node.as_enum() {
@@ -171,7 +171,7 @@ fn is_media(node: DevicePathNode<'_>) -> bool {
     }
 }
 
-/// Whether a node has a view of its kind, whose fields are the bytes at their places.
+/// Returns whether a node has the view of its kind, whose fields are the bytes at their offsets.
 fn is_read(node: DevicePathNode<'_>) -> bool {
     is_hardware(node)
         || is_acpi(node)
@@ -183,8 +183,8 @@ fn is_read(node: DevicePathNode<'_>) -> bool {
         || is_media(node)
 }
 
-/// The sub-type of each kind, the number of its type and of that in the UEFI Specification, how many bytes of
-/// data a node has here, and how many it has at least.
+/// The sub-type of each kind, the numbers of its type and sub-type in the UEFI Specification, the data size
+/// of a node here, and the minimum data size.
 pub(crate) const KINDS: &[(Sub, u8, u8, u8, u8)] = &[
     (Sub::HARDWARE_PCI, 1, 1, 2, 2),
     (Sub::HARDWARE_PCCARD, 1, 2, 1, 1),
@@ -240,7 +240,7 @@ pub(crate) const KINDS: &[(Sub, u8, u8, u8, u8)] = &[
     (Sub::BIOS_BOOT_SPECIFICATION, 5, 1, 7, 5),
 ];
 
-/// Why a node with this much data has no view, if it has none.
+/// Returns why a node with this much data has no view, or `None` if it has one.
 fn refusal(device_type: u8, sub_type: u8, len: u8) -> Result<Option<NodeConversionError>, Fail> {
     let bytes = node_bytes(device_type, sub_type, len);
     let (node, _) = DevicePathNode::split_first(&bytes)?;
@@ -271,7 +271,8 @@ fn least_lengths_of_views(rt: HostRuntime) -> Result<(), Fail> {
     Ok(())
 }
 
-/// How many bytes of addresses follow the type of those of a domain name server, and how many addresses.
+/// The size of the addresses in a node of domain name servers, after the type byte, and how many addresses
+/// that is.
 const SERVERS: &[(u8, usize)] = &[(0, 0), (15, 0), (16, 1), (31, 1), (32, 2), (48, 3)];
 
 #[test]
@@ -294,7 +295,7 @@ fn addresses_of_servers(rt: HostRuntime) -> Result<(), Fail> {
     Ok(())
 }
 
-/// Types and sub-types that no kind has, a byte each.
+/// Types and sub-types without a kind, a byte each.
 const UNSUPPORTED: [u16; 13] = [
     0x0001, 0x0100, 0x0107, 0x0205, 0x0300, 0x0307, 0x0308, 0x0323, 0x0400, 0x040a, 0x0502, 0x0601,
     0xffff,

@@ -6,7 +6,7 @@ use std::test::Fail;
 use uefi_path::Path;
 use uefi_text::CStr16;
 
-/// The components of a path, with a bar before each.
+/// Lists the components of a path, with a bar before each.
 fn barred(rt: &HostRuntime, path: Path<'_>) -> Result<String, Fail> {
     let mut shown = String::new(rt.alloc());
     for component in path.components() {
@@ -18,14 +18,14 @@ fn barred(rt: &HostRuntime, path: Path<'_>) -> Result<String, Fail> {
     Ok(shown)
 }
 
-/// Whether both ways to make a path of a string keep the string.
+/// Returns whether both ways to make a path from a string keep the string.
 fn keeps(string: CStr16<'_>) -> bool {
     let path = Path::new(string);
     Path::from(string) == path && path.to_cstr16() == string
 }
 
-/// Whether the path of a text has these components, and its buffer this many; and both are as empty as the
-/// text.
+/// Returns whether the path of a text has these components, its buffer has `owned` components, and both are
+/// empty only if the text is.
 fn has_components(rt: &HostRuntime, text: &str, want: &str, owned: usize) -> Result<bool, Fail> {
     let (string, path) = (string(rt.alloc(), text)?, buffer(rt, text)?);
     let borrowed = Path::new(string.as_cstr16());
@@ -38,8 +38,8 @@ fn has_components(rt: &HostRuntime, text: &str, want: &str, owned: usize) -> Res
     )
 }
 
-/// The components, and how many the buffer of a text has: each slash separates components of a buffer
-/// alone.
+/// Texts, the components of their paths, and the number of components of their buffers. A slash separates
+/// components only in a buffer.
 const COMPONENTS: &[(&str, &str, usize)] = &[
     ("", "", 0),
     ("/", "|/", 0),
@@ -62,7 +62,7 @@ fn components_of_texts(rt: HostRuntime) -> Result<(), Fail> {
     Ok(())
 }
 
-/// Components print what is left of the text, and nothing after the last.
+/// An iterator prints the rest of the text, and nothing after the last component.
 #[test]
 fn printed_components(rt: HostRuntime) -> Result<(), Fail> {
     let path = buffer(&rt, r"\a\é")?;

@@ -1,5 +1,4 @@
-//! Tests of `uefi_path`: components, order and names, buffers, parents, the verdict on a path, and
-//! normal paths.
+//! Tests of `uefi_path`: components, order and names, buffers, parents, validation and normal paths.
 #![tactic(auto)]
 
 #[cfg(test)]

@@ -1,6 +1,6 @@
-//! Order and endings of paths; names, stems, extensions and ancestors. The rows of endings, stems,
-//! extensions and ancestors are those of the documentation of Rust's `std::path::Path`, with `\` for `/`,
-//! where the two agree.
+//! Order and endings of paths; names, stems, extensions and ancestors. The rows of endings, stems, extensions
+//! and ancestors come from the documentation of Rust's `std::path::Path`, with `\` for `/`, where both
+//! libraries agree.
 
 use crate::fixtures::buffer;
 use for_tests::{Refusing, are_ordered, has_text, out_of_memory, requests, string};
@@ -11,14 +11,14 @@ use std::test::Fail;
 use uefi_path::{Path, PathBuf};
 use uefi_text::{CStr16, Char16Slice};
 
-/// Two paths, how they compare, and how their buffers do, in which each slash is replaced.
+/// Two paths, their order, and the order of their buffers, in which each slash is replaced.
 const ORDERS: &[(&str, &str, Ordering, Ordering)] = &[
     ("", r"\", Equal, Equal),
     (r"\a", "a", Equal, Equal),
     (r"\a", r"\\a", Greater, Greater),
     (r"\x", r"\\x", Greater, Greater),
     (r"\b", "a", Greater, Greater),
-    // By components the first would be less.
+    // By components, the first would be less.
     (r"a\b", "a!", Greater, Greater),
     (r"a\b", r"\a\b", Equal, Equal),
     (r"a\b", r"a\b\c", Less, Less),
@@ -56,8 +56,7 @@ fn endings(rt: HostRuntime) -> Result<(), Fail> {
     Ok(())
 }
 
-/// A path, and the name of the file that its buffer leads to, its stem and its extension, `-` for what it
-/// lacks.
+/// A path, and the file name, stem and extension of its buffer, or `-` if it has none.
 const NAMES: &[[&str; 4]] = &[
     ["foo.rs", "foo.rs", "foo", "rs"],
     ["foo.tar.gz", "foo.tar.gz", "foo.tar", "gz"],
@@ -75,7 +74,7 @@ const NAMES: &[[&str; 4]] = &[
     ["a/b", "b", "b", "-"],
 ];
 
-/// Whether characters are those of a text, or are missing where it is `-`.
+/// Returns whether a part is this text, or is missing if the text is `-`.
 fn is_text(rt: &HostRuntime, part: Option<Char16Slice<'_>>, want: &str) -> Result<bool, Fail> {
     match part {
         Some(part) => Ok(has_text(part.to_cstring16(rt.alloc())?.as_cstr16(), want)),
@@ -97,7 +96,7 @@ fn names_stems_and_extensions(rt: HostRuntime) -> Result<(), Fail> {
     Ok(())
 }
 
-/// A path, and its ancestors with `;` after each.
+/// A path, and its ancestors, each followed by `;`.
 const ANCESTORS: &[(&str, &str)] = &[
     (r"\foo\bar", r"foo\bar;foo;"),
     (r"..\foo\bar", r"..\foo\bar;..\foo;..;"),
@@ -120,7 +119,7 @@ fn ancestors_of_paths(rt: HostRuntime) -> Result<(), Fail> {
     Ok(())
 }
 
-/// Whether the extension of a path is replaced, or its name; the path, by what, and the path then.
+/// Whether to replace the extension or the name, a path, the replacement, and the path afterwards.
 const RENAMED: &[(bool, &str, &str, &str)] = &[
     (false, r"\", "bar", r"\bar"),
     (false, "", "bar", "bar"),
@@ -137,7 +136,8 @@ const RENAMED: &[(bool, &str, &str, &str)] = &[
     (true, r"a.b\.c", "d", r"a.b\.c.d"),
 ];
 
-/// Whether a path takes an extension or a name, or is unchanged where memory is refused.
+/// Returns whether the extension or the name of a path is replaced, or the path is unchanged when memory ran
+/// out.
 fn takes(
     heap: &Refusing<Global>,
     is_extension: bool,

@@ -1,4 +1,4 @@
-//! Normal paths: what is left of a path's components, and why a path has none.
+//! Normal paths, and why a path has none.
 
 use crate::fixtures::is_path;
 use for_tests::{prints, repeated, says, string};
@@ -6,7 +6,7 @@ use std::test::Fail;
 use uefi_path::{NormalizeError, Path, PathError};
 use uefi_text::Char16;
 
-/// Whether the normal path of a text has this text.
+/// Returns whether the normal path of a text has the text `want`.
 fn is_normal_path(rt: &HostRuntime, text: &str, want: &str) -> Result<bool, Fail> {
     let string = string(rt.alloc(), text)?;
     match Path::new(string.as_cstr16()).normalize(rt.alloc()) {
@@ -15,7 +15,7 @@ fn is_normal_path(rt: &HostRuntime, text: &str, want: &str) -> Result<bool, Fail
     }
 }
 
-/// Texts, and those of their normal paths.
+/// Texts, and the texts of their normal paths.
 pub(crate) const NORMAL: &[(&str, &str)] = &[
     (r"a\..\b", "b"),
     (r"a\b\..\..\c", "c"),
@@ -38,7 +38,7 @@ fn paths_and_their_normal_paths(rt: HostRuntime) -> Result<(), Fail> {
     Ok(())
 }
 
-/// Texts without a normal path, and why.
+/// Texts without a normal path, and the reason.
 const REFUSED: &[(&str, &str)] = &[
     ("", "path is empty"),
     (r"a\\..", "path contains an empty component"),

@@ -1,6 +1,6 @@
-//! Paths whose requests for memory are refused in turn, until a run ends with none refused, which
-//! gives what ample memory gives. A call on a buffer asks the buffer's own allocator. All calls stand in
-//! one table, and no call gives up on a path of 300,000 characters.
+//! Paths whose memory requests are refused in turn until a run makes all of them. That run gives the result
+//! of ample memory. Calls on a buffer use the buffer's own allocator. One table has all calls. All succeed on
+//! a path of 300,000 characters.
 
 use for_tests::{Refusing, has_text, is_answered, out_of_memory, repeated, requests, string};
 use std::alloc::{AllocError, Global};
@@ -8,10 +8,10 @@ use std::test::Fail;
 use uefi_path::{CountedUnits, NormalizeError, Path, PathBuf, PathError};
 use uefi_text::{CStr16, CString16};
 
-/// A path buffer with an allocator that refuses a request.
+/// A path buffer whose allocator refuses a request.
 type Buffer<'a> = PathBuf<&'a Refusing<Global>>;
 
-/// A call that makes a path or changes one, or needs no memory.
+/// A call that creates or changes a path, or needs no memory.
 #[derive(Clone, Copy)]
 enum Call {
     New,
@@ -35,8 +35,7 @@ enum Call {
     Nothing,
 }
 
-/// Whether the path that takes over a copy of a string is made, or the very string comes back where memory
-/// ran out.
+/// Returns whether a path takes over a copy of a string, or the same string comes back when memory ran out.
 fn takes_over(heap: &Refusing<Global>, text: CStr16<'_>) -> Result<bool, AllocError> {
     match PathBuf::new_from_cstring16(heap, CString16::from_cstr16(heap, text)?) {
         Ok(_) => Ok(true),
@@ -44,21 +43,22 @@ fn takes_over(heap: &Refusing<Global>, text: CStr16<'_>) -> Result<bool, AllocEr
     }
 }
 
-/// The path of a text in a buffer that has room for no more characters.
+/// Creates the path buffer of a text, with no spare room.
 fn filled<'a>(heap: &'a Refusing<Global>, text: CStr16<'_>) -> Result<Buffer<'a>, AllocError> {
     let mut filled = CString16::with_capacity(heap, text.num_chars())?;
     filled.push_str(text)?;
     PathBuf::new_from_cstring16(heap, filled).map_err(|_| AllocError)
 }
 
-/// Whether a buffer is cleared and takes the path that it held, or memory ran out.
+/// Returns whether a buffer is cleared and its former path is pushed to it, or memory ran out.
 fn clears_and_takes(heap: &Refusing<Global>, text: CStr16<'_>) -> Result<bool, AllocError> {
     let mut path = PathBuf::from(heap, text)?;
     path.clear();
     is_answered(path.push(Path::new(text)), AllocError)
 }
 
-/// Whether the file name of a path, or its extension, is replaced, or it is unchanged where memory ran out.
+/// Returns whether the file name or the extension of a path is replaced, or the path is unchanged when memory
+/// ran out.
 fn renames(
     heap: &Refusing<Global>,
     text: CStr16<'_>,
@@ -78,7 +78,7 @@ fn renames(
     }
 }
 
-/// Whether a path loses its last component, and takes it again in the memory that it has.
+/// Returns whether a path loses its last component, and its memory has room to push it again.
 fn pops_and_takes(
     heap: &Refusing<Global>,
     text: CStr16<'_>,
@@ -90,7 +90,7 @@ fn pops_and_takes(
     Ok(is_shorter && path.to_cstr16() == text)
 }
 
-/// Whether a text and its buffer have no parent, and a push of the empty path succeeds.
+/// Returns whether a text and its buffer have no parent, and a push of the empty path succeeds.
 fn needs_no_memory(
     heap: &Refusing<Global>,
     text: CStr16<'_>,
@@ -101,7 +101,7 @@ fn needs_no_memory(
     Ok(path.parent()?.is_none() && Path::new(text).parent(heap)?.is_none())
 }
 
-/// Whether a call gives what ample memory gives, or memory ran out.
+/// Returns whether a call gives the result of ample memory, or memory ran out.
 fn answers(
     call: Call,
     heap: &Refusing<Global>,
@@ -137,7 +137,7 @@ fn answers(
     }
 }
 
-/// The requests of a call, after those that come before it.
+/// Counts the requests of a call after `setup` earlier ones.
 fn count_of(rt: &HostRuntime, call: Call, setup: u64, texts: [&str; 2]) -> Result<u64, Fail> {
     let [text, other] = texts;
     let (text, other) = (string(rt.alloc(), text)?, string(rt.alloc(), other)?);
@@ -145,12 +145,13 @@ fn count_of(rt: &HostRuntime, call: Call, setup: u64, texts: [&str; 2]) -> Resul
     requests(rt.alloc(), setup, |heap| answers(call, heap, text, other))
 }
 
-/// A call, how many requests come before it, its texts, and how many requests it makes at least and at
-/// most. In the texts each `@` is a name of some length, and each `#` a path of as many names.
+/// A call, how many requests precede it, its texts, and the least and the greatest number of its requests. In
+/// the texts, `@` stands for a name of some length, and `#` for a path of that many names.
 type Counted = (Call, u64, [&'static str; 2], u64, u64);
 
-/// A path takes over the memory of its string, and gives it back. Beside its text it asks for the places of
-/// its separators, if it has any. A push asks once for the text, and for the places as they come.
+/// A path takes over the memory of its string, and gives it back. It requests memory for its text, and for
+/// the positions of its separators if it has any. A push requests memory once for the text, and for the
+/// positions as they grow.
 const ROWS: &[Counted] = &[
     (Call::New, 0, ["", ""], 1, 1),
     (Call::NewFromCString16, 1, ["@", ""], 0, 0),
@@ -202,13 +203,13 @@ const ROWS: &[Counted] = &[
     (Call::Nothing, 1, ["@", ""], 0, 0),
 ];
 
-/// A text in which each `@` and each `#` is replaced by these.
+/// Replaces each `@` and `#` of a text.
 fn spread(rt: &HostRuntime, text: &str, name: &str, names: &str) -> Result<String, Fail> {
     let whole = text.replace(rt.alloc(), '@', name)?;
     Ok(whole.replace(rt.alloc(), '#', names)?)
 }
 
-/// How many requests a call makes, each `@` and `#` of its texts replaced by these.
+/// Counts the requests of a call, with each `@` and `#` of its texts replaced.
 fn spread_count(rt: &HostRuntime, row: &Counted, name: &str, names: &str) -> Result<u64, Fail> {
     let (call, setup, [text, other], _, _) = row;
     let text = spread(rt, text, name, names)?;
@@ -216,7 +217,7 @@ fn spread_count(rt: &HostRuntime, row: &Counted, name: &str, names: &str) -> Res
     count_of(rt, *call, *setup, [&text, &other])
 }
 
-/// The first of the rows whose call makes another number of requests, and how many.
+/// Returns the first row whose call makes a wrong number of requests, and that number.
 fn find_wrong(rt: &HostRuntime, rows: &[Counted], size: u64) -> Result<Option<(usize, u64)>, Fail> {
     let name = repeated(rt.alloc(), "a", size)?;
     let mut names = repeated(rt.alloc(), r"ab\", size)?;
@@ -240,7 +241,7 @@ fn requests_of_each_call(rt: HostRuntime) -> Result<(), Fail> {
     Ok(())
 }
 
-/// Whether the path of `a/b` is made, or the string comes back with its slash.
+/// Returns whether `a/b` becomes a path, or its string comes back with the slash when memory ran out.
 fn replaces_or_keeps(heap: &Refusing<Global>, text: CStr16<'_>) -> Result<bool, AllocError> {
     let taken = CString16::from_cstr16(heap, text)?;
     match PathBuf::new_from_cstring16(heap, taken) {
@@ -261,7 +262,7 @@ fn slashes_after_a_refusal(rt: HostRuntime) -> Result<(), Fail> {
     Ok(())
 }
 
-/// A buffer that was cleared has room for what it held: a push of that asks for no memory.
+/// A cleared buffer has room for its former path, so a push of that path requests no memory.
 #[test]
 fn requests_after_clearing(rt: HostRuntime) -> Result<(), Fail> {
     for size in [10, 64, 84, 85, 300, 5000] {

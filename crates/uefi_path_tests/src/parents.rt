@@ -5,7 +5,7 @@ use for_tests::string;
 use std::test::Fail;
 use uefi_path::{Path, PathBuf};
 
-/// Whether a parent has this text, or there is none.
+/// Returns whether a parent has this text, or is missing.
 fn is_parent(parent: &Option<PathBuf>, want: Option<&str>) -> bool {
     match (parent, want) {
         (Some(parent), Some(want)) => is_path(parent, want),
@@ -14,7 +14,7 @@ fn is_parent(parent: &Option<PathBuf>, want: Option<&str>) -> bool {
     }
 }
 
-/// Whether the paths of a text, borrowed and in a buffer, have these parents, or none.
+/// Returns whether the paths of a text, borrowed and in a buffer, have these parents or none.
 pub(crate) fn has_parent(
     rt: &HostRuntime,
     text: &str,
@@ -28,8 +28,8 @@ pub(crate) fn has_parent(
     )
 }
 
-/// The parents of borrowed paths, and of buffers. The two differ where a slash separates components of the
-/// buffer alone.
+/// Texts, and the parents of their borrowed paths and of their buffers. They differ because a slash separates
+/// components only in a buffer.
 pub(crate) const PARENTS: &[(&str, Option<&str>, Option<&str>)] = &[
     ("", None, None),
     (r"\", None, None),

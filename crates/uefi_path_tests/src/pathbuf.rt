@@ -1,4 +1,4 @@
-//! Path buffers as they are made, pushed to, joined, copied and cleared; and paths as they are printed.
+//! Path buffers: created, pushed to, joined, copied and cleared; and printed paths.
 
 use crate::fixtures::{buffer, is_path};
 use for_tests::{prints, string};
@@ -6,7 +6,7 @@ use std::alloc::AllocError;
 use std::test::Fail;
 use uefi_path::{CountedUnits, Path, PathBuf};
 
-/// Texts, and those of their buffers.
+/// Texts, and the texts of their buffers.
 const REPLACED: &[(&str, &str)] = &[
     ("", ""),
     ("/", r"\"),
@@ -45,7 +45,7 @@ fn printed_paths(rt: HostRuntime) -> Result<(), Fail> {
     Ok(())
 }
 
-/// Whether a path that is cleared twice is empty each time.
+/// Returns whether a path is empty after each of two calls of `clear`.
 fn clears_twice(mut path: PathBuf) -> bool {
     path.clear();
     let is_empty = path.is_empty() && is_path(&path, "");
@@ -53,7 +53,7 @@ fn clears_twice(mut path: PathBuf) -> bool {
     is_empty && path.is_empty()
 }
 
-/// A copy keeps its text while the path is cleared.
+/// A copy keeps its text when the original is cleared.
 #[test]
 fn copied_and_cleared(rt: HostRuntime) -> Result<(), Fail> {
     let path = pushed_in_turn(&rt, &["first"])?;
@@ -62,7 +62,7 @@ fn copied_and_cleared(rt: HostRuntime) -> Result<(), Fail> {
     Ok(())
 }
 
-/// Whether both joins of a path with another have this text.
+/// Returns whether both joins of a path with another have the text `want`.
 fn joins(
     rt: &HostRuntime,
     path: Path<'_>,
@@ -75,8 +75,8 @@ fn joins(
     )
 }
 
-/// Whether the buffer of a path after a push of another has this text, and after a push of its text, whose
-/// reads are counted, and of no text after that.
+/// Returns whether the buffer of a path has the text `want` after another path is pushed, and after the text
+/// of that path is pushed unit by unit, and is unchanged by a push of no text.
 fn pushes(
     rt: &HostRuntime,
     path: Path<'_>,
@@ -91,7 +91,7 @@ fn pushes(
     Ok(is_path(&plain, want) && is_path(&counted, want))
 }
 
-/// Whether both joins and both pushes have this text.
+/// Returns whether both joins and both pushes have the text `want`.
 pub(crate) fn joins_and_pushes(
     rt: &HostRuntime,
     text: &str,
@@ -103,7 +103,7 @@ pub(crate) fn joins_and_pushes(
     Ok(joins(rt, path, other, want)? && pushes(rt, path, other, want)?)
 }
 
-/// Texts, what is pushed to them, and the text of the path then.
+/// A text, another that is pushed to it, and the text of the path afterwards.
 const PUSHES: &[(&str, &str, &str)] = &[
     ("", "", ""),
     ("", r"\x", r"\x"),
@@ -126,7 +126,7 @@ fn pushed_and_joined(rt: HostRuntime) -> Result<(), Fail> {
     Ok(())
 }
 
-/// The empty path after these are pushed in turn.
+/// Pushes these parts to the empty path in turn.
 fn pushed_in_turn(rt: &HostRuntime, parts: &[&str]) -> Result<PathBuf, Fail> {
     let mut path = PathBuf::new(rt.alloc())?;
     for part in parts {

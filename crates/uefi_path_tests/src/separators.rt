@@ -1,4 +1,4 @@
-//! Paths of separators alone.
+//! Paths that consist of separators only.
 
 use crate::fixtures::{buffer, is_path};
 use for_tests::{are_ordered, repeated, string};
@@ -6,14 +6,14 @@ use std::cmp::Ordering::Greater;
 use std::test::Fail;
 use uefi_path::{Path, PathError, validate_path};
 
-/// Whether a path has this many components, all empty, and is refused for the first of them.
+/// Returns whether a path has this many components, all empty, and is refused for the first.
 fn has_empty_components(path: Path<'_>, count: usize) -> bool {
     path.components().count() == count
         && path.components().all(|component| component.is_empty())
         && validate_path(path) == Err(PathError::EmptyComponent)
 }
 
-/// Whether a path has the empty path as its parent, which has none.
+/// Returns whether the parent of a path is the empty path, which has no parent.
 fn has_one_parent(rt: &HostRuntime, path: Path<'_>) -> Result<bool, Fail> {
     match path.parent(rt.alloc())? {
         Some(parent) => Ok(is_path(&parent, "") && parent.parent()?.is_none()),
@@ -21,7 +21,7 @@ fn has_one_parent(rt: &HostRuntime, path: Path<'_>) -> Result<bool, Fail> {
     }
 }
 
-/// Whether this many more separators, pushed to a path, stand after its own.
+/// Returns whether `more` separators that are pushed to a path follow its own.
 fn takes(rt: &HostRuntime, path: Path<'_>, count: u64, more: u64) -> Result<bool, Fail> {
     let (pushed, all) = (
         repeated(rt.alloc(), r"\", more)?,

@@ -1,5 +1,4 @@
-//! Which paths are accepted, and why the others are refused: the first component with a fault decides, at
-//! each place where one is hidden.
+//! Accepted and refused paths, with one fault at each position. The first faulty component decides.
 
 use crate::fixtures::buffer;
 use crate::validation::Verdict::{Accepted, ClimbsAboveRoot, Empty, EmptyComponent, IllegalChar};
@@ -8,7 +7,7 @@ use std::test::Fail;
 use uefi_path::{CHARACTER_DENY_LIST, Path, PathError, separator_str, validate_path};
 use uefi_text::Char16;
 
-/// Whether a path is accepted, or why it is refused, if so with the number of the character.
+/// The result of validating a path, with the number of an illegal character.
 #[derive(Clone, Copy)]
 enum Verdict {
     Accepted,
@@ -18,7 +17,7 @@ enum Verdict {
     ClimbsAboveRoot,
 }
 
-/// Whether a path is judged so.
+/// Returns whether a path has this verdict.
 fn is_judged(path: Path<'_>, want: Verdict) -> bool {
     let judged = validate_path(path);
     match want {
@@ -33,7 +32,7 @@ fn is_judged(path: Path<'_>, want: Verdict) -> bool {
     }
 }
 
-/// Whether the path of a text is judged so, and its buffer, in which each slash is replaced.
+/// Returns whether the path of a text, and its buffer with each slash replaced, have these verdicts.
 fn are_judged(
     rt: &HostRuntime,
     text: &str,
@@ -47,7 +46,7 @@ fn are_judged(
     )
 }
 
-/// Texts, and how their paths are judged, borrowed and in a buffer.
+/// Texts, and the verdicts on their paths, borrowed and in a buffer.
 const TEXTS: &[(&str, Verdict, Verdict)] = &[
     (r"\", Accepted, Accepted),
     (".", Accepted, Accepted),
@@ -81,7 +80,7 @@ fn judged_paths(rt: HostRuntime) -> Result<(), Fail> {
     Ok(())
 }
 
-/// What stands among other characters, how the path is judged, and how its buffer is.
+/// A text among other characters, and the verdicts on the path, borrowed and in a buffer.
 const HOSTILE: &[(&str, Verdict, Verdict)] = &[
     ("a", Accepted, Accepted),
     (r"a\b", Accepted, Accepted),
@@ -108,7 +107,7 @@ const HOSTILE: &[(&str, Verdict, Verdict)] = &[
     (r"\\>\\", EmptyComponent, EmptyComponent),
 ];
 
-/// As many other characters, with these at the place.
+/// Returns a text of `others` characters, with `middle` at the position.
 fn text_of(rt: &HostRuntime, others: usize, place: usize, middle: &str) -> Result<String, Fail> {
     let mut text = repeated(rt.alloc(), "a", place as u64)?;
     text.push_str(middle)?;
@@ -118,8 +117,8 @@ fn text_of(rt: &HostRuntime, others: usize, place: usize, middle: &str) -> Resul
     Ok(text)
 }
 
-/// Places around 48 and 256 characters, where a verdict that looks at blocks would begin another one:
-/// how many others there are, and how many of them stand before it.
+/// Positions around 48 and 256 characters, where code that reads blocks would begin a new one: how many other
+/// characters there are, and how many precede the position.
 const LONG_PLACES: &[(usize, usize)] = &[
     (45, 44),
     (46, 46),

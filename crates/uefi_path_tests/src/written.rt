@@ -1,4 +1,4 @@
-//! Paths that are written into a caller's buffer: whole where they have room, and else not at all.
+//! Paths that are written into a caller's buffer, whole if they fit, otherwise not at all.
 
 use crate::normal::NORMAL;
 use crate::parents::PARENTS;
@@ -7,10 +7,10 @@ use std::test::Fail;
 use uefi_path::{NormalWriteError, Path};
 use uefi_text::BufferTooSmall;
 
-/// What stands in the buffers before.
+/// The content of the buffers before each call.
 const FILLER: u16 = 0x21;
 
-/// How many units of a parent and a NUL were written, or are needed; none of a path that has none.
+/// Returns how many units of a parent and its NUL were written, or are needed; 0 if the path has no parent.
 fn parent_in(path: Path<'_>, room: &mut [u16]) -> Result<usize, usize> {
     match path.write_parent(room) {
         Ok(written) => Ok(written.map_or(0, |len| len.saturating_add(1))),
@@ -18,7 +18,8 @@ fn parent_in(path: Path<'_>, room: &mut [u16]) -> Result<usize, usize> {
     }
 }
 
-/// How many units of a normal path and a NUL were written, or are needed; none of a path that has none.
+/// Returns how many units of a normal path and its NUL were written, or are needed; 0 if the path has no
+/// normal path.
 fn normal_in(path: Path<'_>, room: &mut [u16]) -> Result<usize, usize> {
     match path.write_normal(room) {
         Ok(len) => Ok(len.saturating_add(1)),
@@ -27,8 +28,8 @@ fn normal_in(path: Path<'_>, room: &mut [u16]) -> Result<usize, usize> {
     }
 }
 
-/// Whether the parent of a path, or its normal path, is written into each buffer that has room for it, and
-/// no other changes; none where it has none.
+/// Returns whether the parent or the normal path of a path is written into each buffer that has room for it,
+/// and every shorter buffer is unchanged. If there is none, every buffer is unchanged.
 fn are_written(
     rt: &HostRuntime,
     text: &str,
@@ -52,7 +53,7 @@ fn are_written(
     Ok(is_right && has_one == want.is_some())
 }
 
-/// A path with slashes, and the normal path that is written of it.
+/// A path with slashes, and its normal path as written.
 const SLASHED: &[(&str, &str)] = &[
     ("/", r"\"),
     ("a/..", r"\"),
@@ -61,7 +62,7 @@ const SLASHED: &[(&str, &str)] = &[
     (r"a\b/../..\c", "c"),
 ];
 
-/// A path of which no normal path is written, and why.
+/// A path without a normal path, and the reason.
 const REFUSED: &[(&str, &str)] = &[
     ("", "path is empty"),
     ("//", "path contains an empty component"),

@@ -1,9 +1,9 @@
-//! Upper and lower case. The letters of Latin-1 and their cases are those of the Unicode Character Database.
+//! Upper and lower case. The rows follow the Unicode Character Database.
 
 use std::test::Fail;
 use uefi_text::Char16;
 
-/// Characters, each in lower case and in upper case.
+/// Characters in lower case, and the same in upper case.
 const CASES: &[(char, char)] = &[
     ('a', 'A'),
     ('z', 'Z'),
@@ -12,7 +12,8 @@ const CASES: &[(char, char)] = &[
     ('\u{f6}', '\u{d6}'),
     ('\u{f8}', '\u{d8}'),
     ('\u{fe}', '\u{de}'),
-    // These have none here: signs, letters whose other case is not 32 away, and letters beyond Latin-1.
+    // Characters without another case here: signs, letters whose other case is not 32 away, and letters
+    // beyond Latin-1.
     ('`', '`'),
     ('{', '{'),
     ('0', '0'),
@@ -26,7 +27,7 @@ const CASES: &[(char, char)] = &[
     ('\u{ffe9}', '\u{ffe9}'),
 ];
 
-/// Whether a character has these two cases, and its upper case has them too.
+/// Returns whether both characters convert to `lower` in lower case and to `upper` in upper case.
 fn has_cases(lower: Char16, upper: Char16) -> bool {
     lower.to_uppercase() == upper
         && lower.to_lowercase() == lower

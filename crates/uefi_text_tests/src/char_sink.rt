@@ -1,4 +1,4 @@
-//! Strings written into sinks of characters.
+//! Strings that are written to character sinks.
 
 ghost use Rattle.std.specs.Prelude.{◌≡◌, ◌+◌, ◌<◌, ◌⊎◌, encode_utf8, length};
 
@@ -8,7 +8,7 @@ use std::fmt;
 use std::test::Fail;
 use uefi_text::{CStr16, CharSink};
 
-/// A text that takes `LEN` bytes and refuses what comes then: a sink that a caller defines.
+/// A sink, as a caller may define one, that accepts `LEN` bytes and refuses all characters after them.
 #[derive(Drop)]
 struct Closing<const LEN: usize> {
     text: ArrayString<64>,
@@ -31,7 +31,8 @@ impl<const LEN: usize> CharSink for Closing<LEN> {
     }
 }
 
-/// Whether a sink takes these first letters of `abc`, and says whether they are all.
+/// Returns whether a sink accepts these first letters of `abc`, and the call succeeds only if the sink
+/// accepts all.
 fn takes_letters<const LEN: usize>(string: CStr16<'_>, taken: &str) -> bool {
     let mut sink: Closing<LEN> = Closing {
         text: ArrayString::new(),
@@ -40,8 +41,8 @@ fn takes_letters<const LEN: usize>(string: CStr16<'_>, taken: &str) -> bool {
     answer.is_ok() == (taken == "abc") && sink.text.as_str() == taken
 }
 
-/// Whether a text of this many bytes, which holds `before`, holds `after` once it was given a string, and
-/// says whether it took all.
+/// Returns whether a buffer of `LEN` bytes that contains `before` contains `after` once a string is written
+/// to it, and whether the call reports success exactly if `all` holds.
 fn fits_in<const LEN: usize>(string: CStr16<'_>, before: &str, after: &str, all: bool) -> bool
     requires { LEN < 64 }
 {
@@ -52,7 +53,7 @@ fn fits_in<const LEN: usize>(string: CStr16<'_>, before: &str, after: &str, all:
     string.as_str_in_buf(&mut sink).is_ok() == all && sink.as_str() == after
 }
 
-/// Texts of a fixed length, full and not, and one that grows.
+/// A fixed-length buffer, full and not full, and a growing text.
 #[test]
 fn texts_as_sinks(rt: HostRuntime) -> Result<(), Fail> {
     let (owned, empty) = (string(rt.alloc(), "aébc")?, string(rt.alloc(), "")?);
@@ -68,7 +69,7 @@ fn texts_as_sinks(rt: HostRuntime) -> Result<(), Fail> {
     Ok(())
 }
 
-/// A sink that refuses at each character in turn, and one that refuses none.
+/// A sink that refuses each character in turn, and a sink that refuses none.
 #[test]
 fn sinks_that_refuse_at_each_character(rt: HostRuntime) -> Result<(), Fail> {
     let string = CStr16::from_u16_with_nul(&[97, 98, 99, 0])?;

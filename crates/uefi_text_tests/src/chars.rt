@@ -1,10 +1,10 @@
-//! Characters of Latin-1 and of UCS-2.
+//! Characters in Latin-1 and in UCS-2.
 
 use for_tests::prints;
 use std::test::Fail;
 use uefi_text::chars::{Char8, Char16, CharConversionError, NUL_8, NUL_16};
 
-/// Characters, and their numbers as a byte and as a code unit, if they have one.
+/// Characters, and the byte and the code unit of each, if it has them.
 const CHARACTERS: &[(char, Option<u8>, Option<u16>)] = &[
     ('A', Some(65), Some(65)),
     ('\0', Some(0), Some(0)),
@@ -16,7 +16,7 @@ const CHARACTERS: &[(char, Option<u8>, Option<u16>)] = &[
     ('😀', None, None),
 ];
 
-/// Whether a character becomes this byte, which gives it back, or is refused.
+/// Returns whether a character converts to this byte and back, or is refused if there is none.
 fn has_byte(character: char, want: Option<u8>) -> bool {
     match (Char8::try_from(character), want) {
         (Ok(made), Some(byte)) => {
@@ -30,7 +30,8 @@ fn has_byte(character: char, want: Option<u8>) -> bool {
     }
 }
 
-/// Whether a character becomes this code unit both ways, and the unit gives it back, or is refused.
+/// Returns whether a character converts to this code unit by both calls and back, or is refused if there is
+/// none.
 fn has_unit(character: char, want: Option<u16>) -> bool {
     match (Char16::try_from_char(character), want) {
         (Ok(made), Some(unit)) => {
@@ -55,7 +56,7 @@ fn characters_and_their_numbers(rt: HostRuntime) {
     assert!(rt; Char8::default() == NUL_8 && Char16::default() == NUL_16);
 }
 
-/// Code units, and whether they are characters.
+/// Code units, and whether each is a character.
 const UNITS: &[(u16, bool)] = &[
     (0xd7ff, true),
     (0xd800, false),

@@ -1,4 +1,4 @@
-//! Strings and characters in order, and as keys of sets.
+//! The order of strings and characters, and both as keys of sets.
 
 use for_tests::{are_ordered, string};
 use std::alloc::Global;
@@ -8,14 +8,14 @@ use std::hash::Hash;
 use std::test::Fail;
 use uefi_text::{CStr8, CStr16};
 
-/// Units of two strings, and how these compare.
+/// The units of two strings, and their order.
 const ORDERS: &[(&[u16], &[u16], Ordering)] = &[
     (&[0xffff, 0], &[0xe000, 0], Greater),
     (&[97, 0], &[97, 98, 0], Less),
     (&[97, 98, 0], &[97, 98, 0], Equal),
 ];
 
-/// Bytes of two strings of Latin-1, and how these compare.
+/// The bytes of two Latin-1 strings, and their order.
 const LATIN1_ORDERS: &[(&[u8], &[u8], Ordering)] = &[
     (&[65, 0], &[65, 66, 0], Less),
     (&[0xff, 0], &[65, 66, 0], Greater),
@@ -39,7 +39,7 @@ fn orders(rt: HostRuntime) -> Result<(), Fail> {
     Ok(())
 }
 
-/// Whether the first two of these are new in a set, and the third is not.
+/// Returns whether the first two keys are new in a set, but the third is not.
 fn are_keys<T: Hash + Eq + Drop>(alloc: Global, keys: [T; 3]) -> Result<bool, Fail> {
     let [first, other, same] = keys;
     let mut seen = HashSet::new(alloc);

@@ -1,14 +1,14 @@
-//! Strings compared with Rust texts, up to a NUL.
+//! Strings compared with Rust texts up to a NUL.
 
 use std::test::Fail;
 use uefi_text::{CStr8, CStr16, EqStrUntilNul, str_eq_until_nul};
 
-/// Whether both ways to compare a string with a text say this.
+/// Returns whether both calls that compare a string with a text return `want`.
 fn says<S: EqStrUntilNul>(string: &S, text: &str, want: bool) -> bool {
     string.eq_str_until_nul(text) == want && str_eq_until_nul(text, string) == want
 }
 
-/// Whether each kind of string of these units and bytes says this of a text.
+/// Returns whether each kind of string with these units and bytes compares with a text as `want`.
 fn agree(
     rt: &HostRuntime,
     units: &[u16],
@@ -26,7 +26,7 @@ fn agree(
 
 const TEST: &[u16] = &[116, 101, 115, 116, 0];
 
-/// The units of a string, its bytes, a text, and whether the two are equal.
+/// The units of a string, its bytes, a text, and whether the string equals the text.
 const ROWS: &[(&[u16], &[u8], &str, bool)] = &[
     (TEST, b"test\0", "test", true),
     (TEST, b"test\0", "te\0st", true),

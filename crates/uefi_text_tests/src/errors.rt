@@ -1,4 +1,4 @@
-//! What errors print for users and for programmers.
+//! The messages of errors, for users and for programmers.
 
 use for_tests::says;
 use std::alloc::Global;
@@ -10,7 +10,7 @@ use uefi_text::{
     UnalignedCStr16Error as Packed,
 };
 
-/// Whether each error says what stands at its place in a list with a semicolon after each text.
+/// Returns whether each error has the message at its position in a list. A semicolon ends each message.
 fn say<E: Display + Printed>(alloc: Global, errors: &[E], want: &str) -> bool {
     let mut texts = want.split(';');
     for error in errors {

@@ -1,5 +1,5 @@
-//! Rust texts in which a character is hidden that no string of UCS-2 holds, or one that takes more bytes
-//! than those beside it, at each place: as owned strings, in buffers, as Latin-1, and back.
+//! Rust texts with one character that UCS-2 cannot encode, or that has another number of bytes than its
+//! neighbours, at each position: converted to owned strings, in buffers, to Latin-1, and back.
 
 use crate::hostile_units::Deciding;
 use crate::strs::{gives_text, is_buffered};
@@ -10,8 +10,8 @@ use uefi_text::{
     str_num_latin1_chars,
 };
 
-/// Characters that stand among others, their units in UTF-16, and how many of these come before the one for
-/// which a text is refused, and what that is.
+/// Characters in the middle of a text, their UTF-16 units, how many of the units precede the one that the
+/// text is refused for, and the kind of that unit.
 type Row = (&'static str, &'static [u16], usize, Deciding);
 
 const MIDDLES: &[Row] = &[
@@ -31,19 +31,19 @@ const MIDDLES: &[Row] = &[
     ("ÿ😀", &[0xff, 0xd83d, 0xde00], 1, Deciding::Surrogate),
 ];
 
-/// A text, its units in UTF-16, and why it is no string of UCS-2, if it is none.
+/// A text, its UTF-16 units, and the kind of the first unit that UCS-2 strings refuse, if there is one.
 #[derive(Drop)]
 struct HostileText {
     text: String,
     units: Vec<u16>,
-    /// Where the hostile characters stand.
+    /// The position of the middle characters.
     place: usize,
-    /// How many units come before the one that decides.
+    /// How many units precede the deciding one.
     len: usize,
     deciding: Deciding,
 }
 
-/// As many other characters, with those of a row at the place.
+/// Returns a text of `others` copies of a character, with a row's characters at the position.
 fn text_of(
     rt: &HostRuntime,
     others: usize,
@@ -71,7 +71,7 @@ fn text_of(
     })
 }
 
-/// Whether a text becomes a string of its units, which gives the text back, or is refused.
+/// Returns whether a text converts to a string of its units and back, or is refused.
 fn is_owned(rt: &HostRuntime, hostile: &HostileText) -> Result<bool, Fail> {
     match (
         &CString16::try_from_str(rt.alloc(), &hostile.text),
@@ -91,8 +91,8 @@ fn is_owned(rt: &HostRuntime, hostile: &HostileText) -> Result<bool, Fail> {
     }
 }
 
-/// Whether a text is a string in a buffer of nines with this much room, or refused, and its units stand
-/// there then, as far as there is room.
+/// Returns whether a text becomes a string in a buffer of nines with this much room, or is refused, and the
+/// buffer then contains as many of its units as fit.
 fn is_buffered_in(rt: &HostRuntime, hostile: &HostileText, room: usize) -> Result<bool, Fail> {
     let len = hostile.units.len();
     let want = match hostile.deciding {
@@ -107,7 +107,7 @@ fn is_buffered_in(rt: &HostRuntime, hostile: &HostileText, room: usize) -> Resul
     is_buffered(rt, &hostile.text, want, &after)
 }
 
-/// Whether a text is said to be one of Latin-1, and to hold no NUL, where its units say so.
+/// Returns whether `is_latin1`, `str_num_latin1_chars` and `has_no_nul` agree with the units of a text.
 fn is_told_from_latin1(hostile: &HostileText) -> bool {
     let text = hostile.text.as_str();
     let mut is_wanted = true;
@@ -119,8 +119,8 @@ fn is_told_from_latin1(hostile: &HostileText) -> bool {
         && has_no_nul(text) != hostile.units.contains(&0)
 }
 
-/// Whether that is so of buffers of each room where the text is short, else of those that end before, in and
-/// after it; and of one with more places than a block has after it.
+/// Checks `is_buffered_in` with every room if the text is short, otherwise with rooms that end before, in and
+/// after the text; and with a buffer that has more than a block of room after it.
 fn is_buffered_in_each(rt: &HostRuntime, hostile: &HostileText) -> Result<bool, Fail> {
     let (place, len) = (hostile.place, hostile.units.len());
     let least = if len < 12 { 0 } else { len };
@@ -136,7 +136,8 @@ fn is_buffered_in_each(rt: &HostRuntime, hostile: &HostileText) -> Result<bool, 
     )
 }
 
-/// Whether each conversion of a row's text is right, its characters at this place among this many others.
+/// Returns whether each conversion is right for a text with a row's characters at this position among
+/// `others` copies of a character.
 fn is_converted(
     rt: &HostRuntime,
     others: usize,
@@ -152,8 +153,8 @@ fn is_converted(
     )
 }
 
-/// Places around the blocks in which long texts are looked at, the first of them and the last: how many
-/// others there are, and how many of them stand before it.
+/// Positions at the edges of the first and the last blocks of long texts: how many other characters there
+/// are, and how many precede the position.
 const LONG_PLACES: &[(usize, usize)] = &[
     (255, 255),
     (256, 0),
@@ -166,8 +167,8 @@ const LONG_PLACES: &[(usize, usize)] = &[
     (600, 300),
 ];
 
-/// The first text that is converted wrongly, where the characters at all other places are this one: how many
-/// of them there are, the place, and what stands there.
+/// Returns the first text that is converted wrongly: the number of copies of `other`, the position, and the
+/// characters there.
 fn find_wrong(
     rt: &HostRuntime,
     other: (&str, u16),

@@ -1,5 +1,5 @@
-//! Code units, characters, bytes and packed units in which a unit that no text holds is hidden, at each
-//! place and by each constructor: the first such unit decides.
+//! Code units, characters, bytes and packed units with one unit that no text contains, at each position, for
+//! each constructor. The first such unit decides.
 
 use crate::packed_strings::leaves;
 use crate::strs::{are_strings, is_whole_owned};
@@ -11,7 +11,7 @@ use uefi_text::{
     UnalignedCStr16Error as Packed, UnalignedSlice,
 };
 
-/// What the first unit is that is a NUL or a surrogate.
+/// The kind of the first NUL or surrogate.
 #[derive(Clone, Copy)]
 pub(crate) enum Deciding {
     None,
@@ -19,8 +19,8 @@ pub(crate) enum Deciding {
     Surrogate,
 }
 
-/// Units that stand among others, units that stand at the end, and how many of all these come before the
-/// one that decides, and what that is.
+/// Units in the middle, units at the end, how many of both precede the deciding unit, and the kind of that
+/// unit.
 type Row = (&'static [u16], &'static [u16], usize, Deciding);
 
 const ROWS: &[Row] = &[
@@ -28,13 +28,13 @@ const ROWS: &[Row] = &[
     (&[0xd7ff], &[0], 1, Deciding::Nul),
     (&[0xe000], &[0], 1, Deciding::Nul),
     (&[0xffff], &[0], 1, Deciding::Nul),
-    // Two bytes side by side are zero, but of two units.
+    // Two adjacent bytes are zero, but belong to two units.
     (&[0x100, 1], &[0], 2, Deciding::Nul),
     (&[0xd800], &[0], 0, Deciding::Surrogate),
     (&[0xdbff], &[0], 0, Deciding::Surrogate),
     (&[0xdc00], &[0], 0, Deciding::Surrogate),
     (&[0xdfff], &[0], 0, Deciding::Surrogate),
-    // A pair of surrogates is no character either.
+    // A surrogate pair is not a character, either.
     (&[0xd83d, 0xde00], &[0], 0, Deciding::Surrogate),
     (&[0xffff, 0xd83d], &[0], 1, Deciding::Surrogate),
     (&[0xd83d, 0], &[0], 0, Deciding::Surrogate),
@@ -52,19 +52,19 @@ const ROWS: &[Row] = &[
     (&[], &[0, 0xd83d], 0, Deciding::Nul),
 ];
 
-/// Code units, and which of them decides whether they are a string.
+/// Code units, and which unit decides whether they are a string.
 #[derive(Drop)]
 struct HostileUnits {
     units: Vec<u16>,
-    /// The bytes of the units, two for each, the low one first, after one other.
+    /// One other byte, then the units as bytes, low byte first.
     bytes_after_one: Vec<u8>,
-    /// How many units come before the one that decides.
+    /// How many units precede the deciding one.
     len: usize,
     deciding: Deciding,
 }
 
 impl HostileUnits {
-    /// How many units come before the NUL of the string of all of them, or why they are none.
+    /// Returns the length of the string of all units, without its NUL, or why they are not a string.
     fn whole(&self) -> Result<usize, WithNul> {
         match self.deciding {
             Deciding::None => Err(WithNul::NotNulTerminated),
@@ -74,7 +74,7 @@ impl HostileUnits {
         }
     }
 
-    /// How many units come before the first NUL, or why there is no string.
+    /// Returns how many units precede the first NUL, or why there is no string.
     fn front(&self) -> Result<usize, UntilNul> {
         match self.deciding {
             Deciding::None => Err(UntilNul::NoNul),
@@ -83,7 +83,7 @@ impl HostileUnits {
         }
     }
 
-    /// Why the units are no string in a buffer with this much room, if they are none.
+    /// Returns why the units are not a string in a buffer with this much room, if they are not.
     fn refusal_in(&self, room: usize) -> Option<Packed> {
         match self.whole() {
             _ if room < self.units.len() => Some(Packed::BufferTooSmall),
@@ -95,7 +95,7 @@ impl HostileUnits {
     }
 }
 
-/// The units of a row at this place among this many others.
+/// Returns a row's units at this position among `others` units of `A`.
 fn list_of(alloc: Global, others: usize, place: usize, row: Row) -> Result<HostileUnits, Fail> {
     let (middle, end, rank, deciding) = row;
     let mut units = Vec::new(alloc);
@@ -116,8 +116,8 @@ fn list_of(alloc: Global, others: usize, place: usize, row: Row) -> Result<Hosti
     })
 }
 
-/// Whether bytes of units are their string, or refused, and are refused without the last of them. The end
-/// decides before any unit.
+/// Returns whether the bytes of units become their string or are refused, and are refused without their last
+/// byte. A missing NUL at the end decides before any unit.
 fn are_read(rt: &HostRuntime, hostile: &HostileUnits, bytes: &[u8]) -> bool {
     let want = if hostile.units.ends_with(&[0]) {
         hostile.whole()
@@ -133,8 +133,8 @@ fn are_read(rt: &HostRuntime, hostile: &HostileUnits, bytes: &[u8]) -> bool {
     ) && cut == Some(WithNul::NotNulTerminated)
 }
 
-/// Whether packed units are a string in a buffer of nines with this much room, or refused: they stand there
-/// then, if there is room for all.
+/// Returns whether packed units become a string in a buffer of nines with this much room, or are refused. The
+/// buffer then contains them if all fit.
 fn are_buffered(
     rt: &HostRuntime,
     items: &UnalignedSlice<'_, u16>,
@@ -149,8 +149,8 @@ fn are_buffered(
     leaves(rt, items, &after, hostile.refusal_in(room))
 }
 
-/// Whether that is so of buffers of each room where the units are few, else of just the room and of a place
-/// more or less; and of one with more places than a block has after it.
+/// Checks `are_buffered` with every room if the units are few, otherwise with exact room and one more or
+/// less; and with a buffer that has more than a block of room after them.
 fn are_buffered_in_each(
     rt: &HostRuntime,
     items: &UnalignedSlice<'_, u16>,
@@ -166,7 +166,7 @@ fn are_buffered_in_each(
     are_buffered(rt, items, hostile, len.saturating_add(300))
 }
 
-/// Whether packed units are a string, or refused, in memory of their own and in buffers.
+/// Returns whether packed units become a string, owned and in buffers, or are refused.
 fn are_unpacked(rt: &HostRuntime, hostile: &HostileUnits, bytes: &[u8]) -> Result<bool, Fail> {
     let Some(items) = UnalignedSlice::from_unit_bytes(bytes) else {
         return Ok(false);
@@ -183,7 +183,7 @@ fn are_unpacked(rt: &HostRuntime, hostile: &HostileUnits, bytes: &[u8]) -> Resul
     )
 }
 
-/// Whether each constructor answers as it has to.
+/// Returns whether each constructor gives the expected result.
 fn are_answered(rt: &HostRuntime, hostile: &HostileUnits) -> Result<bool, Fail> {
     let bytes = hostile.bytes_after_one.get(1..).unwrap_or(&[]);
     let (units, whole) = (&hostile.units, hostile.whole());

@@ -1,4 +1,4 @@
-//! Borrowed strings of Latin-1, and Rust texts encoded as Latin-1.
+//! Borrowed Latin-1 strings, and Rust texts encoded as Latin-1.
 
 use for_tests::{hostile_places, prints};
 use std::test::Fail;
@@ -7,7 +7,7 @@ use uefi_text::{
     CStr8, FromSliceWithNulError, has_no_nul, is_latin1, str_num_latin1_chars, str_to_latin1,
 };
 
-/// Bytes, and what their string prints, or why they are refused.
+/// Bytes, and the text that their string prints, or why they are refused.
 const BYTES: &[(&[u8], Result<&str, FromSliceWithNulError>)] = &[
     (&[97, 0], Ok("a|CStr8(['a'])")),
     (&[97, 98, 99, 0], Ok("abc|CStr8(['a', 'b', 'c'])")),
@@ -20,7 +20,7 @@ const BYTES: &[(&[u8], Result<&str, FromSliceWithNulError>)] = &[
     (&[65, 0, 66, 0], Err(InteriorNul(1))),
 ];
 
-/// Whether bytes become a string that keeps them and prints this, or are refused.
+/// Returns whether bytes become a string that keeps them and prints `want`, or are refused.
 fn are_read(rt: &HostRuntime, bytes: &[u8], want: Result<&str, FromSliceWithNulError>) -> bool {
     match (CStr8::from_bytes_with_nul(bytes), want) {
         (Ok(string), Ok(want)) => string.as_bytes() == bytes && prints(rt.alloc(), &string, want),
@@ -36,7 +36,7 @@ fn strings_of_bytes(rt: HostRuntime) {
     }
 }
 
-/// Texts, and how many characters they have, if Latin-1 has all of them.
+/// Texts, and the number of their characters if all are Latin-1.
 const TEXTS: &[(&str, Option<usize>)] = &[
     ("", Some(0)),
     ("ÿ", Some(1)),
@@ -44,7 +44,7 @@ const TEXTS: &[(&str, Option<usize>)] = &[
     ("Ā", None),
 ];
 
-/// How many characters a text has, if Latin-1 has all of them.
+/// Returns the number of characters of a text if all are Latin-1.
 fn count_of(text: &str) -> Option<usize> {
     if is_latin1(text) {
         Some(str_num_latin1_chars(text))
@@ -60,7 +60,7 @@ fn texts_and_their_characters(rt: HostRuntime) {
     }
 }
 
-/// Whether a text becomes these bytes.
+/// Returns whether a text is encoded as these bytes.
 fn becomes<const LEN: usize>(text: &str, want: [u8; LEN]) -> bool {
     if !is_latin1(text) || !has_no_nul(text) {
         return false;
@@ -74,8 +74,8 @@ fn texts_as_bytes(rt: HostRuntime) {
     assert!(rt; becomes("", [0]) && becomes("é", [0xe9, 0]));
 }
 
-/// Whether a zero among this many others ends the string of all bytes, or is refused with its place; and
-/// whether the bytes before it are refused.
+/// Returns whether a NUL among `others` bytes ends the string if it is last, and otherwise is refused with
+/// its position; and whether the bytes before it are refused.
 fn decides(rt: &HostRuntime, others: usize, place: usize) -> Result<bool, Fail> {
     let mut bytes = Vec::new(rt.alloc());
     bytes.resize(place, 0xe9)?;

@@ -1,5 +1,4 @@
-//! Tests of `uefi_text`: characters, strings of Latin-1 and of UCS-2, borrowed and owned, and packed
-//! numbers.
+//! Tests of `uefi_text`: characters, Latin-1 and UCS-2 strings, borrowed and owned, and packed numbers.
 #![tactic(auto)]
 
 #[cfg(test)]

@@ -1,5 +1,5 @@
-//! Calls whose requests for memory are refused in turn, until a run ends with none refused, and how many
-//! requests each makes. Input is checked before memory is asked for.
+//! Calls whose memory requests are refused in turn until a run makes all of them, and how many each call
+//! makes. Each call checks its input before it requests memory.
 
 use crate::strs::characters;
 use for_tests::{Refusing, is_answered, out_of_memory, repeated, requests, string};
@@ -13,7 +13,7 @@ use uefi_text::{
     FromSliceWithNulError as WithNul, FromStrError, NUL_16, UnalignedSlice,
 };
 
-/// The requests of the calls that give a string of a text, or what a string holds.
+/// Counts the requests of the calls that create a string from a text, or copy a string's content.
 fn copied(alloc: Global, rust: &str, part: CStr16<'_>) -> Result<[u64; 7], Fail> {
     Ok([
         requests(
@@ -56,7 +56,7 @@ fn copied(alloc: Global, rust: &str, part: CStr16<'_>) -> Result<[u64; 7], Fail>
     ])
 }
 
-/// The requests of the calls that read characters, bytes and packed units.
+/// Counts the requests of the calls that read characters, bytes and packed units.
 fn read(alloc: Global, bytes: &[u8], list: &[Char16]) -> Result<[u64; 7], Fail> {
     let items = UnalignedSlice::from_unit_bytes(bytes).ok_or("units")?;
     let nothing = UnalignedSlice::<u16>::try_new(bytes, 0).ok_or("no units")?;
@@ -99,7 +99,7 @@ fn read(alloc: Global, bytes: &[u8], list: &[Char16]) -> Result<[u64; 7], Fail> 
     ])
 }
 
-/// A text in a string that has room for no more characters.
+/// Creates a string with a text and no spare room.
 fn filled<'a>(
     heap: &'a Refusing<Global>,
     text: CStr16<'_>,
@@ -125,7 +125,7 @@ enum Change {
     ExtendByText,
 }
 
-/// Whether a string is changed, or memory ran out.
+/// Returns whether a string is changed, or memory ran out.
 fn changes(
     change: Change,
     heap: &Refusing<Global>,
@@ -165,7 +165,7 @@ fn changes(
     Ok(true)
 }
 
-/// Each change, and how many requests it makes at least and at most.
+/// Each change, and the least and the greatest number of its requests.
 const CHANGES: &[(Change, u64, u64)] = &[
     (Change::Clear, 0, 0),
     (Change::Push, 1, 1),
@@ -180,20 +180,22 @@ const CHANGES: &[(Change, u64, u64)] = &[
     (Change::ExtendByText, 1, 2),
 ];
 
-/// Whether the bytes of a text are added to a list of one byte, with this much room, or memory ran out.
+/// Returns whether the bytes of a text are added to a list of one byte with this much room, or memory ran
+/// out.
 fn adds_bytes(heap: &Refusing<Global>, part: CStr16<'_>, room: usize) -> Result<bool, AllocError> {
     let mut bytes = Vec::with_capacity(heap, room)?;
     bytes.push(b'x')?;
     is_answered(part.as_slice().add_utf8_to(&mut bytes), AllocError)
 }
 
-/// Whether a sink gets the text of a string, or memory ran out.
+/// Returns whether a sink receives the text of a string, or memory ran out.
 fn fills_sink(heap: &Refusing<Global>, part: CStr16<'_>) -> Result<bool, AllocError> {
     let mut sink = String::new(heap);
     Ok(part.as_str_in_buf(&mut sink).map_err(|_| AllocError)? == ())
 }
 
-/// The requests of a copy, of bytes that are added without room and with room, and whether a sink makes any.
+/// Counts the requests of a copy, and of adding bytes without and with room. The last number is 0 if a sink
+/// requests nothing.
 fn added(alloc: Global, part: CStr16<'_>, room: usize) -> Result<[u64; 4], Fail> {
     Ok([
         requests(
@@ -207,7 +209,7 @@ fn added(alloc: Global, part: CStr16<'_>, room: usize) -> Result<[u64; 4], Fail>
     ])
 }
 
-/// Whether each call on a text makes as many requests as it should.
+/// Returns whether each call on a text makes the expected number of requests.
 fn is_counted(rt: &HostRuntime, rust: &str) -> Result<bool, Fail> {
     let owned = string(rt.alloc(), rust)?;
     let part = owned.as_cstr16();
@@ -226,11 +228,12 @@ fn is_counted(rt: &HostRuntime, rust: &str) -> Result<bool, Fail> {
     )
 }
 
-/// How many times a piece stands in a text, around the blocks in which units and bytes are looked at and
-/// written.
+/// How often a piece is repeated in a text: numbers around the blocks that loops over units and bytes
+/// process.
 const SIZES: &[u64] = &[1, 3, 10, 63, 64, 65, 70, 300, 5000];
 
-/// Pieces of texts, and what follows the last: characters of one width, and one of another.
+/// Pieces of texts, and what follows the last piece: texts of characters of one width, and texts that mix
+/// widths.
 const PIECES: &[(&str, &str)] = &[
     ("a", ""),
     ("é", ""),
@@ -240,7 +243,7 @@ const PIECES: &[(&str, &str)] = &[
     ("a漢", "b"),
 ];
 
-/// No call gives up on a long text.
+/// Long texts are converted, too.
 #[test]
 fn requests_of_each_call(rt: HostRuntime) -> Result<(), Fail> {
     for size in SIZES {
@@ -257,7 +260,7 @@ fn requests_of_each_call(rt: HostRuntime) -> Result<(), Fail> {
     Ok(())
 }
 
-/// Whether a vector of these units becomes their string, or is refused for this cause.
+/// Returns whether a vector of these units becomes a string, or is refused with this error.
 fn takes_over(
     heap: &Refusing<Global>,
     units: &[u16],
@@ -271,7 +274,7 @@ fn takes_over(
     })
 }
 
-/// Units of vectors, and why they are refused, if they are.
+/// The units of vectors, and why each is refused, if it is.
 const VECTORS: &[(&[u16], Option<WithNul>)] = &[
     (&[120, 0], None),
     (&[97, 0, 98, 0], Some(InteriorNul(1))),
@@ -291,7 +294,7 @@ fn requests_for_vectors(rt: HostRuntime) -> Result<(), Fail> {
     Ok(())
 }
 
-/// Whether a text is `ab` and this many times `c`.
+/// Returns whether a text is `ab` and `count` times `c`.
 fn is_ab_and(text: CStr16<'_>, count: usize) -> bool {
     match text.to_u16_slice() {
         [97, 98, rest @ ..] => rest.len() == count && rest.iter().all(|unit| *unit == 99),
@@ -299,7 +302,7 @@ fn is_ab_and(text: CStr16<'_>, count: usize) -> bool {
     }
 }
 
-/// Whether `ab` takes 64 characters one by one, or holds those before the refused one.
+/// Returns whether 64 characters are pushed to `ab` one by one, or those before the refused one remain.
 fn pushes_one_by_one(
     heap: &Refusing<Global>,
     ab: CStr16<'_>,
@@ -314,7 +317,7 @@ fn pushes_one_by_one(
     Ok(is_ab_and(text.as_cstr16(), 64))
 }
 
-/// Whether `ab` is extended by 64 characters, or holds fewer of them where memory ran out.
+/// Returns whether `ab` is extended by 64 characters, or by fewer if memory ran out.
 fn extends(heap: &Refusing<Global>, ab: CStr16<'_>, c: Char16) -> Result<bool, AllocError> {
     let mut text = filled(heap, ab)?;
     if c != NUL_16 && text.extend(iter::repeat_n(c, 64)).is_err() {
@@ -335,7 +338,7 @@ fn held_after_a_refusal(rt: HostRuntime) -> Result<(), Fail> {
     Ok(())
 }
 
-/// Whether texts, bytes and packed units are refused for their characters.
+/// Returns whether texts, bytes and packed units are refused because of their characters.
 fn refuses(heap: &Refusing<Global>, items: UnalignedSlice<'_, u16>, bytes: &[u8]) -> bool {
     let want = Some(InvalidChar(0));
     CString16::try_from_str(heap, "x\0").err() == Some(FromStrError::InteriorNul)
@@ -345,7 +348,7 @@ fn refuses(heap: &Refusing<Global>, items: UnalignedSlice<'_, u16>, bytes: &[u8]
         && items.to_cstring16(heap).err() == want
 }
 
-/// Whether characters are refused for having no NUL, or for one.
+/// Returns whether characters are refused because they have no NUL, or contain one.
 fn refuses_characters(heap: &Refusing<Global>, string: CStr16<'_>, open: &[Char16]) -> bool {
     CStr16::from_char16_until_nul(heap, open).err() == Some(UntilNul::NoNul)
         && CStr16::from_char16_with_nul(heap, open).err() == Some(NotNulTerminated)

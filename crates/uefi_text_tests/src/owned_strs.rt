@@ -1,11 +1,11 @@
-//! Owned strings as they are made, grow, and are changed and printed.
+//! Owned strings: created, extended, changed and printed.
 
 use for_tests::{has_text, prints, string};
 use std::fmt::Write;
 use std::test::Fail;
 use uefi_text::{CStr16, CString16, Char16, NUL_16};
 
-/// Whether a string is its NUL alone.
+/// Returns whether a string is empty, with a NUL.
 fn is_empty(string: &CString16) -> bool {
     string.num_chars() == 0
         && string.is_empty()
@@ -13,7 +13,7 @@ fn is_empty(string: &CString16) -> bool {
         && string.as_cstr16().num_bytes() == 2
 }
 
-/// Whether a string that is cleared twice is empty each time.
+/// Returns whether a string is empty after each of two calls of `clear`.
 fn clears_twice(mut string: CString16) -> bool {
     string.clear();
     let is_cleared = is_empty(&string);
@@ -35,7 +35,7 @@ fn printed_strings(rt: HostRuntime) -> Result<(), Fail> {
     Ok(())
 }
 
-/// The empty string after a push of each of these characters.
+/// Pushes these characters to the empty string one by one.
 pub(crate) fn pushed_one_by_one(rt: &HostRuntime, characters: &str) -> Result<CString16, Fail> {
     let mut text = CString16::new(rt.alloc())?;
     for c in characters.chars() {
@@ -47,7 +47,8 @@ pub(crate) fn pushed_one_by_one(rt: &HostRuntime, characters: &str) -> Result<CS
     Ok(text)
 }
 
-/// Whether a text, after a push of a string, and then extended by the characters of another, is this.
+/// Returns whether a text is `want` after one string is pushed to it, and it is extended by the characters of
+/// another.
 fn grows(
     mut text: CString16,
     pushed: CStr16<'_>,
@@ -59,8 +60,7 @@ fn grows(
     Ok(has_text(text.as_cstr16(), want))
 }
 
-/// What a string is made of by pushes of characters, what is pushed then, by what it is extended, and its
-/// text.
+/// The characters of a string, a string that is pushed to it, characters that extend it, and its text.
 const GROWN: &[[&str; 4]] = &[
     ["hi", "", "", "hi"],
     ["!", "hi", "!", "!hi!"],
@@ -82,7 +82,7 @@ fn pushed_and_extended(rt: HostRuntime) -> Result<(), Fail> {
     Ok(())
 }
 
-/// A text that is written after `ab` or refused, and what the string holds then.
+/// A text that is written after `ab`, whether the write succeeds, and the string after it.
 const WRITTEN: &[(&str, bool, &str)] = &[
     ("é\u{ffff}", true, "abé\u{ffff}"),
     ("c\0", false, "ab"),
@@ -99,7 +99,7 @@ fn written_texts(rt: HostRuntime) -> Result<(), Fail> {
     Ok(())
 }
 
-/// Whether a text with one character replaced by another, if neither is NUL, is this.
+/// Returns whether `text` is `want` once one character is replaced by another. Neither may be NUL.
 fn replaces(
     rt: &HostRuntime,
     text: &str,
@@ -115,7 +115,7 @@ fn replaces(
     Ok(has_text(string.as_cstr16(), want))
 }
 
-/// A text, one of its characters, what stands in its place, and the text then.
+/// A text, one of its characters, its replacement, and the text with all replaced.
 const REPLACED: &[(&str, char, char, &str)] = &[
     ("foo/bar/foobar//", '/', '\\', r"foo\bar\foobar\\"),
     ("aba", 'a', 'a', "aba"),

@@ -1,14 +1,14 @@
-//! Strings of packed code units, in buffers and in memory of their own.
+//! Strings of packed code units, in buffers and owned.
 
 use for_tests::{has_text, hostile_places};
 use std::test::Fail;
 use uefi_text::UnalignedCStr16Error::{BufferTooSmall, InteriorNul, InvalidChar, NotNulTerminated};
 use uefi_text::{CStr16, CString16, UnalignedCStr16Error, UnalignedSlice};
 
-/// `test` and its NUL, after one other byte.
+/// One other byte, then `test` with its NUL.
 const TEST_AFTER_ONE: [u8; 11] = [0xff, 0x74, 0, 0x65, 0, 0x73, 0, 0x74, 0, 0, 0];
 
-/// Whether packed units become the string of a text by both calls.
+/// Returns whether both calls create the string of this text from packed units.
 fn are_copied(rt: &HostRuntime, bytes: &[u8], want: &str) -> Result<bool, Fail> {
     let Some(items) = UnalignedSlice::from_unit_bytes(bytes) else {
         return Ok(false);
@@ -26,7 +26,7 @@ fn strings_in_memory_of_their_own(rt: HostRuntime) -> Result<(), Fail> {
     Ok(())
 }
 
-/// A way from packed units to a string in a buffer.
+/// How to convert packed units to a string in a buffer.
 #[derive(Clone, Copy)]
 enum Way {
     Write,
@@ -34,7 +34,7 @@ enum Way {
     FromSlice,
 }
 
-/// Whether this is the string of these units, with its NUL, or why there is none.
+/// Returns whether an answer is the string with these units, including the NUL, or this error.
 fn is_answer(
     answer: Result<CStr16<'_>, UnalignedCStr16Error>,
     units: Option<&[u16]>,
@@ -46,7 +46,7 @@ fn is_answer(
     }
 }
 
-/// Whether the items are the string of these units in a buffer, or are refused for this cause.
+/// Returns whether the items become the string of these units in a buffer, or are refused with this error.
 fn is_answered(
     way: Way,
     items: &UnalignedSlice<'_, u16>,
@@ -61,8 +61,8 @@ fn is_answered(
     }
 }
 
-/// Whether the items are a string in a buffer of nines, or refused for this cause, and it then holds
-/// this, each way.
+/// Returns whether each way makes the items a string in a buffer of nines, or refuses them with this error,
+/// and leaves `after` in the buffer.
 pub(crate) fn leaves(
     rt: &HostRuntime,
     items: &UnalignedSlice<'_, u16>,
@@ -80,7 +80,8 @@ pub(crate) fn leaves(
     Ok(true)
 }
 
-/// Whether packed units leave this in a buffer.
+/// Returns whether the packed units in these bytes leave `after` in a buffer of nines, with this error or
+/// none.
 fn are_buffered(
     rt: &HostRuntime,
     bytes: &[u8],
@@ -93,7 +94,7 @@ fn are_buffered(
     }
 }
 
-/// Packed units, what a buffer of nines holds then, and why they are no string there, if they are none.
+/// Packed units, the buffer of nines after the call, and why they are refused, if they are.
 const BUFFERED: &[(&[u8], &[u16], Option<UnalignedCStr16Error>)] = &[
     (b"t\0e\0s\0t\0\0\0", &[9, 9, 9, 9], Some(BufferTooSmall)),
     (b"t\0e\0s\0t\0\0\0", &[0x74, 0x65, 0x73, 0x74, 0], None),
@@ -107,7 +108,7 @@ const BUFFERED: &[(&[u8], &[u16], Option<UnalignedCStr16Error>)] = &[
     (b"\0\0", &[0, 9], None),
 ];
 
-/// From an even place of memory and from an odd one.
+/// The bytes begin at an even address, then at an odd one.
 #[test]
 fn strings_in_buffers(rt: HostRuntime) -> Result<(), Fail> {
     for (bytes, after, want) in BUFFERED {
@@ -120,7 +121,7 @@ fn strings_in_buffers(rt: HostRuntime) -> Result<(), Fail> {
     Ok(())
 }
 
-/// Whether bytes begin with these units, up to and with a NUL, and then these bytes follow; or have no NUL.
+/// Returns whether bytes are split after their first NUL into these units and these bytes, or have no NUL.
 fn is_split(bytes: &[u8], want: Option<(&[u16], &[u8])>) -> bool {
     match (UnalignedSlice::split_until_nul(bytes), want) {
         (Some((string, after)), Some((units, rest))) => {
@@ -131,7 +132,7 @@ fn is_split(bytes: &[u8], want: Option<(&[u16], &[u8])>) -> bool {
     }
 }
 
-/// Whether a NUL at this place of units of `a` is found there, at an odd place of memory.
+/// Returns whether a NUL after `place` units of `a` is found, at an odd address.
 fn is_found_at(rt: &HostRuntime, place: usize) -> Result<bool, Fail> {
     let mut bytes = vec![in rt.alloc(); 0xffu8]?;
     let mut units = Vec::new(rt.alloc());

@@ -1,14 +1,14 @@
-//! Patterns: the examples of the UEFI Specification 2.10, section 21.1, and corners of sets as EDK
-//! II's driver `EnglishDxe` decides them.
+//! Patterns: the examples of the UEFI Specification 2.10, section 21.1, and odd sets, decided as EDK II's
+//! driver `EnglishDxe` decides them.
 
 use for_tests::{repeated, string};
 use std::test::Fail;
 use uefi_text::CStr16;
 
-/// A pattern, a text, and whether one matches the other.
+/// A pattern, a text, and whether the pattern matches the text.
 const ROWS: &[(&str, &str, bool)] = &[
-    // The specification's own: all names that end in .FW, one letter, one of these signs, one z, names of two
-    // characters that begin with D and have any extension.
+    // Examples of the specification: names that end in .FW, a letter, one of several signs, the letter z, and
+    // two-character names that begin with D, with any extension.
     ("*.FW", "boot.fw", true),
     ("*.FW", ".FW", true),
     ("*.FW", "boot.fwx", false),
@@ -21,7 +21,7 @@ const ROWS: &[(&str, &str, bool)] = &[
     ("D?.*", "da.txt", true),
     ("D?.*", "DX.", true),
     ("D?.*", "D.txt", false),
-    // Nothing, and stars.
+    // Empty patterns, and stars.
     ("", "", true),
     ("", "a", false),
     ("*", "", true),
@@ -31,7 +31,7 @@ const ROWS: &[(&str, &str, bool)] = &[
     ("*ab*ab", "aabab_abaab", true),
     ("*ab*ab", "abb", false),
     ("*[ab][bc]?c*", "xxabbabcc", true),
-    // Sets: the first `]` ends one, and none is complemented or escaped.
+    // Sets: the first `]` ends a set, and nothing complements or escapes.
     ("[]", "a", false),
     ("[]]", "]", false),
     ("[^a]", "^", true),
@@ -53,13 +53,13 @@ const ROWS: &[(&str, &str, bool)] = &[
     ("[Y-b]", "Z", false),
     ("[X-_]", "^", true),
     ("[\u{e0}-\u{e5}]", "\u{c3}", true),
-    // Without `]`.
+    // Sets without `]`.
     ("[a", "a", false),
     ("[", "[", false),
     ("*[", "", false),
 ];
 
-/// Whether a pattern matches a text, by strings and by slices.
+/// Returns whether matching a pattern with a text gives `want`, for strings and for slices.
 fn matches(pattern: CStr16<'_>, text: CStr16<'_>, want: bool) -> bool {
     text.matches(pattern) == want && text.as_slice().matches(pattern.as_slice()) == want
 }

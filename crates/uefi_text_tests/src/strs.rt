@@ -1,5 +1,5 @@
 //! Borrowed strings: which code units, characters, bytes and Rust texts become strings, why others are
-//! refused, and what strings give back.
+//! refused, and what strings convert to.
 
 use for_tests::{prints, string};
 use std::test::Fail;
@@ -11,7 +11,7 @@ use uefi_text::{
     FromSliceWithNulError as WithNul, FromStrWithBufError as WithBuffer,
 };
 
-/// Whether this is the string of all units, of which as many come before its NUL, or why there is none.
+/// Returns whether an answer is the string of all units, with the expected length, or the expected error.
 pub(crate) fn is_whole(
     units: &[u16],
     answer: Result<CStr16<'_>, WithNul>,
@@ -27,7 +27,7 @@ pub(crate) fn is_whole(
     }
 }
 
-/// The same of an owned string.
+/// Checks `is_whole` for an owned string.
 pub(crate) fn is_whole_owned(
     units: &[u16],
     answer: &Result<CString16, WithNul>,
@@ -39,7 +39,8 @@ pub(crate) fn is_whole_owned(
     }
 }
 
-/// Whether this is the string of as many units, before the first NUL, or why there is none.
+/// Returns whether an answer is the string of the units before the first NUL, with the expected length, or
+/// the expected error.
 fn is_front(
     units: &[u16],
     answer: Result<CStr16<'_>, UntilNul>,
@@ -52,7 +53,7 @@ fn is_front(
     }
 }
 
-/// The characters that units are before the first surrogate.
+/// Returns the units before the first surrogate as characters.
 pub(crate) fn characters(rt: &HostRuntime, units: &[u16]) -> Result<Vec<Char16>, Fail> {
     let mut characters = Vec::new(rt.alloc());
     for unit in units {
@@ -64,7 +65,7 @@ pub(crate) fn characters(rt: &HostRuntime, units: &[u16]) -> Result<Vec<Char16>,
     Ok(characters)
 }
 
-/// Whether characters are read as their units are.
+/// Returns whether the constructors from characters answer like those from units.
 fn are_read(
     rt: &HostRuntime,
     list: &[Char16],
@@ -82,8 +83,8 @@ fn are_read(
     }
 }
 
-/// Whether units, and their characters if no surrogate is among them, are strings of as many characters:
-/// all of them, and those up to the first NUL; or why they are none.
+/// Returns whether all units, and the units up to the first NUL, become strings of the expected lengths or
+/// are refused. Checks the same for their characters if no unit is a surrogate.
 pub(crate) fn are_strings(
     rt: &HostRuntime,
     units: &[u16],
@@ -98,8 +99,8 @@ pub(crate) fn are_strings(
     )
 }
 
-/// Units, and how many come before the NUL of their string: of all of them, and of those up to the
-/// first NUL.
+/// Units, and the length of the string of all of them, and of those up to the first NUL, or why each is
+/// refused.
 const UNITS: &[(&[u16], Result<usize, WithNul>, Result<usize, UntilNul>)] = &[
     (&[], Err(NotNulTerminated), Err(UntilNul::NoNul)),
     (&[65], Err(NotNulTerminated), Err(UntilNul::NoNul)),
@@ -126,7 +127,7 @@ fn strings_of_units_and_characters(rt: HostRuntime) -> Result<(), Fail> {
     Ok(())
 }
 
-/// Whether bytes become the string of these units, which gives them back, or are refused.
+/// Returns whether bytes become a string of these units and convert back, or are refused.
 fn is_string_of(rt: &HostRuntime, bytes: &[u8], want: Result<&[u16], WithNul>) -> bool {
     match (&CStr16::from_bytes_with_nul(rt.alloc(), bytes), want) {
         (Ok(string), Ok(units)) => {
@@ -154,7 +155,7 @@ const BYTES: &[(&[u8], Result<&[u16], WithNul>)] = &[
     (&[0x41, 0, 0, 0, 0x42, 0, 0, 0], Err(InteriorNul(1))),
 ];
 
-/// From an even place of memory and from an odd one.
+/// The bytes begin at an even address, then at an odd one.
 #[test]
 fn strings_of_bytes(rt: HostRuntime) -> Result<(), Fail> {
     for (bytes, want) in BYTES {
@@ -167,13 +168,13 @@ fn strings_of_bytes(rt: HostRuntime) -> Result<(), Fail> {
     Ok(())
 }
 
-/// Whether a string gives its bytes, and they give it back.
+/// Returns whether a string converts to bytes and back.
 pub(crate) fn gives_bytes(rt: &HostRuntime, string: CStr16<'_>) -> Result<bool, Fail> {
     let bytes = string.as_bytes(rt.alloc())?;
     Ok(is_string_of(rt, &bytes, Ok(string.to_u16_slice_with_nul())))
 }
 
-/// Whether a string gives this text, and adds its bytes after those that stand there.
+/// Returns whether a string converts to this text, and its UTF-8 bytes are added after existing ones.
 pub(crate) fn gives_text(rt: &HostRuntime, string: CStr16<'_>, text: &str) -> Result<bool, Fail> {
     let mut bytes = vec![in rt.alloc(); b'x']?;
     string.as_slice().add_utf8_to(&mut bytes)?;
@@ -183,7 +184,7 @@ pub(crate) fn gives_text(rt: &HostRuntime, string: CStr16<'_>, text: &str) -> Re
     )
 }
 
-/// Whether a string has these units with its NUL, by each view of them.
+/// Returns whether each view of a string shows these units, the last of which is the NUL.
 fn has_units(string: CStr16<'_>, units: &[u16]) -> bool {
     let text = units.get(..string.num_chars()).unwrap_or(&[]);
     string.to_u16_slice_with_nul() == units
@@ -193,7 +194,7 @@ fn has_units(string: CStr16<'_>, units: &[u16]) -> bool {
         && string.is_empty() == text.is_empty()
 }
 
-/// Units of strings, and their texts.
+/// The units of strings, and their texts.
 const TEXTS: &[(&[u16], &str)] = &[
     (&[0], ""),
     (&[97, 0], "a"),
@@ -205,7 +206,8 @@ const TEXTS: &[(&[u16], &str)] = &[
     (&[97, 0xe9, 0x20ac, 0xffff, 98, 0], "aé€\u{ffff}b"),
 ];
 
-/// Whether the string of a text has these units, gives its bytes and the text back, and equals its copy.
+/// Returns whether the string of a text has these units, converts to bytes and text and back, and equals its
+/// copy.
 fn is_string(rt: &HostRuntime, text: &str, units: &[u16]) -> Result<bool, Fail> {
     let owned = string(rt.alloc(), text)?;
     let string = owned.as_cstr16();
@@ -228,8 +230,8 @@ fn strings_and_what_they_give(rt: HostRuntime) -> Result<(), Fail> {
     Ok(())
 }
 
-/// Whether the text is written into a buffer of nines or refused for this cause, and the buffer then holds
-/// this; and whether it becomes a string there.
+/// Returns whether `write_str` and `from_str_with_buf` write a text into a buffer of nines, or refuse it with
+/// this error, and leave `after` in the buffer.
 pub(crate) fn is_buffered(
     rt: &HostRuntime,
     text: &str,
@@ -247,7 +249,7 @@ pub(crate) fn is_buffered(
     Ok(is_written && is_borrowed && buffer.as_slice() == after)
 }
 
-/// The length of a text that is written into nines, or why it is no string, and what stands there then.
+/// A text, its length or why it is refused, and the buffer of nines after the write.
 const BUFFERS: &[(&str, Result<usize, WithBuffer>, &[u16])] = &[
     ("A", Ok(1), &[65, 0, 9, 9]),
     ("ABC", Ok(3), &[65, 66, 67, 0]),
@@ -257,7 +259,7 @@ const BUFFERS: &[(&str, Result<usize, WithBuffer>, &[u16])] = &[
     ("ab😀", Err(BufferTooSmall), &[97, 98, 0xd83d, 0xde00]),
     ("", Err(BufferTooSmall), &[]),
     ("", Ok(0), &[0]),
-    // Each room from none to one more than the text and its NUL need.
+    // Every room from 0 to one more than the text and its NUL need.
     ("a😀b", Err(BufferTooSmall), &[]),
     ("a😀b", Err(BufferTooSmall), &[97]),
     ("a😀b", Err(BufferTooSmall), &[97, 0xd83d]),
@@ -275,7 +277,7 @@ fn texts_in_buffers(rt: HostRuntime) -> Result<(), Fail> {
     Ok(())
 }
 
-/// Units of strings, their text in UTF-8, whether it is one of ASCII, and how many bytes the units take.
+/// The units of strings, their UTF-8 bytes, whether they are ASCII, and the size of the units in bytes.
 const ENCODED: &[(&[u16], &[u8], bool, usize)] = &[
     (&[0], b"", true, 2),
     (&[65, 66, 67, 0], b"ABC", true, 8),

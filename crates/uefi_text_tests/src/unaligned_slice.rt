@@ -1,22 +1,22 @@
-//! Packed numbers: read in place, in turn and as a copy.
+//! Packed numbers: read in place, iterated and copied.
 
 use std::alloc::AllocError;
 use std::test::Fail;
 use uefi_text::{Packed, UnalignedSlice, UnalignedSliceIter};
 
-/// Three numbers of four bytes, and the numbers.
+/// Three numbers of four bytes, packed and unpacked.
 const BYTES: [u8; 12] = [
     0x10, 0x11, 0x12, 0x13, 0x20, 0x21, 0x22, 0x23, 0x30, 0x31, 0x32, 0x33,
 ];
 
 const NUMBERS: [u32; 3] = [0x13121110, 0x23222120, 0x33323130];
 
-/// The same bytes after one other, so that they lie at an odd place or this one does.
+/// The same bytes after one other, so that one of both lists begins at an odd address.
 const BYTES_AFTER_ONE: [u8; 13] = [
     0xff, 0x10, 0x11, 0x12, 0x13, 0x20, 0x21, 0x22, 0x23, 0x30, 0x31, 0x32, 0x33,
 ];
 
-/// Whether the bytes hold these numbers, as a view of them gives them one by one, and none after them.
+/// Returns whether a view of the bytes returns exactly these numbers, one by one.
 fn hold<T: Packed + PartialEq>(bytes: &[u8], numbers: &[T]) -> bool {
     let Some(items) = UnalignedSlice::<T>::try_new(bytes, numbers.len()) else {
         return false;
@@ -42,7 +42,7 @@ fn items_at_any_place(rt: HostRuntime) {
     assert!(rt; hold(&[1, 2, 3, 4, 5, 6, 7, 8], &[0x0807060504030201u64]));
 }
 
-/// Bytes, a number of items, and whether there is room for as many of two bytes, and of eight.
+/// Bytes, a number of items, and whether they have room for that many items of two bytes, and of eight.
 const ROOM: &[(&[u8], usize, bool, bool)] = &[
     (&[1, 2, 3], 1, true, false),
     (&[1, 2, 3], 2, false, false),
@@ -59,7 +59,7 @@ fn room_for_items(rt: HostRuntime) {
     }
 }
 
-/// Whether an iterator gives these numbers, says each time how many are left, and then gives none.
+/// Returns whether an iterator returns exactly these numbers, with the right `size_hint` in between.
 fn gives(mut items: UnalignedSliceIter<'_, u32>, want: &[u32; 3]) -> bool {
     items.size_hint() == (3, Some(3))
         && items.next() == Some(want[0])
@@ -70,12 +70,12 @@ fn gives(mut items: UnalignedSliceIter<'_, u32>, want: &[u32; 3]) -> bool {
         && items.next().is_none()
 }
 
-/// Whether a vector was made, and has these numbers.
+/// Returns whether a copy succeeded and has these numbers.
 fn holds(copy: &Result<Vec<u32>, AllocError>, want: &[u32]) -> bool {
     matches!(copy, Ok(copy) if copy.as_slice() == want)
 }
 
-/// Whether each way to copy packed numbers gives these.
+/// Returns whether each way to copy packed numbers gives `want`.
 fn are_copied(rt: &HostRuntime, items: UnalignedSlice<'_, u32>, want: &[u32; 3]) -> bool {
     let mut copy = [0; 3];
     if items.len() != copy.len() {

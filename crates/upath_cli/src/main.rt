@@ -1,7 +1,7 @@
-//! Reads lines of commands on paths from standard input, and prints what they return.
+//! Reads lines of path commands from standard input, and prints their results.
 //!
-//! Ends with 0; with 2 where a read or a write failed; with 3, and `out of memory` on standard
-//! error, where memory was refused.
+//! The exit status is 0; 2 if a read or a write failed; or 3 if memory ran out, with `out of memory` on
+//! standard error.
 #![tactic(auto)]
 
 use std::io;
@@ -12,7 +12,7 @@ fn main(rt: HostRuntime) -> ExitCode {
     let mut reader = Watched::new(rt.reader());
     let mut writer = Watched::new(io::writer(&rt));
     let end = ProgramEnd::after(run_streams(rt.alloc(), &mut reader, &mut writer));
-    // Nothing is left to do where standard error can't be written.
+    // There is nothing to do if standard error can't be written.
     let _ = eprint!(rt; "{}", end.message);
     end.status
 }

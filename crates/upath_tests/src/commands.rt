@@ -1,4 +1,4 @@
-//! Lists of commands, with each request for memory refused in turn, and the parents of paths, as texts.
+//! Lists of commands, with each memory request refused in turn, and the parents of paths, as texts.
 
 use for_tests::{Refusing, has_text, out_of_memory, requests, string};
 use std::alloc::{AllocError, Global};
@@ -7,10 +7,10 @@ use uefi_path::{Path, PathBuf};
 use uefi_text::{CStr16, CString16};
 use upath::{PathCommand, RunFault, all_parents, run_commands};
 
-/// The verb of a command, its text, and the text of the path after it.
+/// The verb of a command, its text, and the text of the path afterwards.
 type Step = (&'static str, &'static str, &'static str);
 
-/// The text of a path, the commands that are run on it, and how many of them take memory.
+/// The text of a path, the commands that run on it, and how many of the first commands request memory.
 const RUNS: &[(&str, &[Step], usize)] = &[
     (
         "",
@@ -39,7 +39,7 @@ const RUNS: &[(&str, &[Step], usize)] = &[
     ),
 ];
 
-/// The command of a verb, with this text.
+/// Returns the command with this verb and text.
 fn command<'a>(verb: &str, text: CStr16<'a>) -> PathCommand<'a> {
     match verb {
         "from" => PathCommand::From(text),
@@ -50,8 +50,8 @@ fn command<'a>(verb: &str, text: CStr16<'a>) -> PathCommand<'a> {
     }
 }
 
-/// Whether commands that are run on the first of these texts leave the last of them; or, where memory ran
-/// out, that which stands at the number of commands before it.
+/// Returns whether commands leave the text whose index is the number of commands that were done: all of them,
+/// or those before memory ran out.
 pub(crate) fn runs(
     heap: &Refusing<Global>,
     commands: &[PathCommand<'_>],
@@ -73,7 +73,7 @@ pub(crate) fn runs(
     }
 }
 
-/// Whether the first commands of a row, as many as this, leave its texts.
+/// Returns how many requests the first `count` commands of a row make, if they leave the row's texts.
 fn are_run(rt: &HostRuntime, start: &str, steps: &[Step], count: usize) -> Result<u64, Fail> {
     let (mut given, mut texts) = (
         Vec::new(rt.alloc()),
@@ -90,7 +90,7 @@ fn are_run(rt: &HostRuntime, start: &str, steps: &[Step], count: usize) -> Resul
     requests(rt.alloc(), 0, |heap| runs(heap, &commands, &texts))
 }
 
-/// Each request belongs to a command that takes memory, or to the path that is there before.
+/// The first `taking` commands and the initial path make all requests.
 #[test]
 fn commands_in_turn(rt: HostRuntime) -> Result<(), Fail> {
     for (start, steps, taking) in RUNS {

@@ -1,4 +1,4 @@
-//! What errors and commands print, beside those of judged bytes.
+//! The messages of errors and the printed form of commands, except errors of judged bytes.
 
 use for_tests::{prints, says};
 use std::test::Fail;

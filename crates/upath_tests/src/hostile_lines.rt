@@ -1,5 +1,5 @@
-//! Lines in which bytes are hidden that are no UTF-8, a character that no string of UCS-2 holds, the end of
-//! a line, or a character of more bytes than those beside it, at each place.
+//! Lines with hidden bytes at each position: invalid UTF-8, a character that UCS-2 cannot encode, a line end,
+//! or a character with more bytes than its neighbours.
 
 use crate::run::prints;
 use for_tests::{hostile_places, repeated};
@@ -7,12 +7,12 @@ use std::test::Fail;
 
 const NOT_UTF8: &str = "? not UTF-8\npieces 0\n";
 
-/// The bytes that stand among others in a line after `from `, and what it prints, and `pieces` after it:
-/// there `<` is the others before them, and `>` those after them.
+/// Bytes among others in a line after `from `, and what the line prints, followed by `pieces`. In the output,
+/// `<` stands for the characters before the bytes, and `>` for the characters after them.
 const ROWS: &[(&[u8], &str)] = &[
     (b"a", "= <a>\npieces 1\n| <a>\n"),
     (b"\xff", NOT_UTF8),
-    // A byte inside of no character, an overlong form, a surrogate, and a character beyond the last.
+    // A byte outside any character, an overlong form, a surrogate, and a number above the last character.
     (b"\x80", NOT_UTF8),
     (b"\xc0\xaf", NOT_UTF8),
     (b"\xe0\x80\x80", NOT_UTF8),
@@ -33,7 +33,7 @@ const ROWS: &[(&[u8], &str)] = &[
     (b"\r\nclear\nfrom x", "= <\r\n= \n= x>\npieces 1\n| x>\n"),
 ];
 
-/// The input of a row, with these others before and after its bytes.
+/// Returns the input of a row, with `before` and `after` around its bytes.
 fn input(rt: &HostRuntime, bytes: &[u8], before: &str, after: &str) -> Result<Vec<u8>, Fail> {
     let mut input = Vec::new(rt.alloc());
     for part in [
@@ -48,7 +48,7 @@ fn input(rt: &HostRuntime, bytes: &[u8], before: &str, after: &str) -> Result<Ve
     Ok(input)
 }
 
-/// Whether each row prints what it has to, with these others before and after its bytes.
+/// Returns whether each row prints its output, with `before` and `after` around its bytes.
 fn are_printed(rt: &HostRuntime, before: &str, after: &str) -> Result<bool, Fail> {
     for (bytes, row) in ROWS {
         let output = row
@@ -61,7 +61,7 @@ fn are_printed(rt: &HostRuntime, before: &str, after: &str) -> Result<bool, Fail
     Ok(true)
 }
 
-/// Among others of one byte, and of two.
+/// The other characters have one byte, then two.
 #[test]
 fn hostile_lines(rt: HostRuntime) -> Result<(), Fail> {
     for (others, place) in &hostile_places(rt.alloc())? {

@@ -1,10 +1,10 @@
-//! Bytes that are judged to be a path, or refused.
+//! Bytes that are accepted as a path, or refused.
 
 use for_tests::{has_text, says};
 use std::test::Fail;
 use upath::judge;
 
-/// Whether bytes are accepted as the path of a text.
+/// Returns whether bytes are accepted as the path of a text.
 pub(crate) fn accepts(rt: &HostRuntime, bytes: &[u8], want: &str) -> bool {
     matches!(&judge(rt.alloc(), bytes), Ok(path) if has_text(path.to_cstr16(), want))
 }
@@ -17,14 +17,13 @@ const ACCEPTED: &[(&[u8], &str)] = &[
     (b"\xff\xff\0\0", "\u{ffff}"),
 ];
 
-/// Bytes of no path, and what the refusal says. An odd number of bytes is refused for that, and else bytes
-/// that no NUL ends.
+/// Refused bytes, and the message of the error. An odd number of bytes is reported first, then a missing NUL.
 const REFUSED: &[(&[u8], &str)] = &[
     (b"", "not null-terminated"),
     (b"a", "odd number of bytes"),
     (b"a\0", "not null-terminated"),
     (b"a\0\0", "odd number of bytes"),
-    // The beginnings of a path that is accepted.
+    // Prefixes of an accepted path.
     (b"\\", "odd number of bytes"),
     (b"\\\0", "not null-terminated"),
     (b"\\\0a", "odd number of bytes"),
@@ -56,8 +55,8 @@ fn judged_bytes(rt: HostRuntime) {
     }
 }
 
-/// A unit, whether it stands in the place of the NUL of a text or in that of each other unit in turn, and
-/// what the refusal says before the number of that place, or nothing where bytes are accepted.
+/// A unit, whether it replaces the NUL of a text or each other unit in turn, and the message before the
+/// position, or nothing if the bytes are accepted.
 const HOSTILE_UNITS: &[(u16, bool, &str)] = &[
     (0xd800, false, "invalid character at index "),
     (0xdfff, false, "invalid character at index "),
@@ -68,7 +67,7 @@ const HOSTILE_UNITS: &[(u16, bool, &str)] = &[
     (0xffff, false, ""),
 ];
 
-/// The bytes of this many `A` and a NUL, with this unit at a place.
+/// Returns the bytes of `len` times `A` and a NUL, with one unit replaced.
 fn bytes_with(rt: &HostRuntime, len: usize, place: usize, unit: u16) -> Result<Vec<u8>, Fail> {
     let mut bytes = Vec::new(rt.alloc());
     for index in 0..=len {
@@ -79,7 +78,8 @@ fn bytes_with(rt: &HostRuntime, len: usize, place: usize, unit: u16) -> Result<V
     Ok(bytes)
 }
 
-/// Whether bytes are refused with these words and the number of this place, or accepted if there are none.
+/// Returns whether bytes are refused with these words and this position, or are accepted if there are no
+/// words.
 fn is_decided(rt: &HostRuntime, bytes: &[u8], words: &str, place: usize) -> Result<bool, Fail> {
     let want = format!(in rt.alloc(); "{words}{place}")?;
     Ok(match &judge(rt.alloc(), bytes) {

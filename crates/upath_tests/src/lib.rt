@@ -1,5 +1,5 @@
-//! Tests of `upath`, what programs do with paths: bytes judged, lists of commands, lines of commands,
-//! runs over streams that fail, and each request for memory refused in turn.
+//! Tests of `upath`, what programs do with paths: judging bytes, lists of commands, lines of commands, runs
+//! over failing streams, and each memory request refused in turn.
 #![tactic(auto)]
 
 #[cfg(test)]

@@ -1,4 +1,4 @@
-//! Paths and inputs of 100,000 characters, with ample memory: no call gives up on a long one.
+//! Paths and inputs of 100,000 characters with ample memory: every call succeeds.
 
 use crate::judging::accepts;
 use crate::run::{prints, writes};
@@ -7,7 +7,7 @@ use std::test::Fail;
 use uefi_path::{Path, PathBuf};
 use upath::{PathCommand, all_parents, pieces, run_commands};
 
-/// 50,000 components, judged from their bytes and listed; and the parents of a long name.
+/// Judges and lists 50,000 components; lists the parents of a long name.
 #[test]
 fn long_lists(rt: HostRuntime) -> Result<(), Fail> {
     let text = repeated(rt.alloc(), r"\a", 50_000)?;
@@ -21,7 +21,7 @@ fn long_lists(rt: HostRuntime) -> Result<(), Fail> {
     Ok(())
 }
 
-/// Each command, on a path of 100,000 characters.
+/// Runs each command on a path of 100,000 characters.
 #[test]
 fn commands_on_long_paths(rt: HostRuntime) -> Result<(), Fail> {
     let long = string(rt.alloc(), &repeated(rt.alloc(), r"ab\", 33_334)?)?;
@@ -38,7 +38,7 @@ fn commands_on_long_paths(rt: HostRuntime) -> Result<(), Fail> {
     Ok(())
 }
 
-/// Lines of each verb, and what they print, where a long name stands for each `@`.
+/// Lines with each verb, and what they print. `@` stands for a long name.
 const LONG_LINES: &[(&str, &str)] = &[
     (
         "from /@\npush @\njoin b/c\nparent\nclear\n",
@@ -68,7 +68,7 @@ const LONG_LINES: &[(&str, &str)] = &[
     ),
 ];
 
-/// Whether a run over lines prints this, and one over streams writes it, with a long name for each `@`.
+/// Returns whether a run over lines and a run over streams both print `want`, with a long name for each `@`.
 fn prints_long(rt: &HostRuntime, input: &str, want: &str, name: &str) -> Result<bool, Fail> {
     let input = input.replace(rt.alloc(), '@', name)?;
     let want = want.replace(rt.alloc(), '@', name)?;
@@ -86,7 +86,7 @@ fn each_verb_on_long_names(rt: HostRuntime) -> Result<(), Fail> {
     Ok(())
 }
 
-/// 50,000 components, a line each.
+/// Prints 50,000 components, one per line.
 #[test]
 fn each_verb_on_many_names(rt: HostRuntime) -> Result<(), Fail> {
     let names = repeated(rt.alloc(), r"\a", 50_000)?;

@@ -1,5 +1,5 @@
-//! What programs do with paths, with each request for memory refused in turn, until a run ends with
-//! none refused, and how many requests each call makes.
+//! What programs do with paths, with each memory request refused in turn until a run makes all of them; and
+//! how many requests each call makes.
 
 use crate::commands::runs;
 use crate::streams::{FailingReader, KINDS, SHORT};
@@ -13,7 +13,7 @@ use upath::{
     run_text,
 };
 
-/// The texts of a path that is empty, then `a`, and then takes another `b` each time.
+/// Returns the texts of a path: empty, then `a`, then with another `b` pushed each time.
 fn texts_of_pushes(alloc: Global) -> Result<Vec<CString16>, Fail> {
     let mut texts = vec![in alloc; string(alloc, "")?]?;
     let mut text = String::new(alloc);
@@ -25,7 +25,7 @@ fn texts_of_pushes(alloc: Global) -> Result<Vec<CString16>, Fail> {
     Ok(texts)
 }
 
-/// A command that sets the path `a`, and 64 that push `b`.
+/// One command sets the path `a`, and 64 commands push `b`.
 #[test]
 fn requests_of_commands(rt: HostRuntime) -> Result<(), Fail> {
     let (a, b) = (
@@ -39,8 +39,9 @@ fn requests_of_commands(rt: HostRuntime) -> Result<(), Fail> {
     Ok(())
 }
 
-/// Bytes, and how many requests their judge makes: one for the text, and one for the places of separators,
-/// both after what bytes are refused for, and before the verdict on the path.
+/// Bytes, and how many requests judging them makes: one for the text, and one for the positions of
+/// separators. Bytes that are not a string are refused before both requests, and the path is validated after
+/// both.
 const JUDGED: &[(&[u8], u64)] = &[
     (b"a\0\0\0", 1),
     (b"a\0\\\0b\0\0\0", 2),
@@ -53,7 +54,7 @@ const JUDGED: &[(&[u8], u64)] = &[
     (b"\0\xd8", 0),
 ];
 
-/// Whether bytes are judged, or memory ran out.
+/// Returns whether bytes are judged, or memory ran out.
 fn judges(heap: &Refusing<Global>, bytes: &[u8]) -> Result<bool, AllocError> {
     match judge(heap, bytes) {
         Err(JudgeError::OutOfMemory) => Err(AllocError),
@@ -61,14 +62,14 @@ fn judges(heap: &Refusing<Global>, bytes: &[u8]) -> Result<bool, AllocError> {
     }
 }
 
-/// Whether a path has its parents and is unchanged, or memory ran out.
+/// Returns whether the parents of a path are listed, or memory ran out.
 fn has_parents(heap: &Refusing<Global>, text: CStr16<'_>) -> Result<bool, AllocError> {
     let path = PathBuf::from(heap, text)?;
     is_answered(all_parents(heap, &path), AllocError)
 }
 
-/// Whether a run over streams writes this, or nothing where memory ran out. Few bytes go through a read, so
-/// that most lines are not given whole.
+/// Returns whether a run over streams writes the output, or nothing when memory ran out. The reader returns 5
+/// bytes a call, so most lines arrive in parts.
 fn writes(heap: &Refusing<Global>, alloc: Global, run: (&[u8], &[u8])) -> Result<bool, AllocError> {
     let (input, want) = run;
     let mut reader = Watched::new(FailingReader {
@@ -123,7 +124,7 @@ fn requests_of_each_call(rt: HostRuntime) -> Result<(), Fail> {
     Ok(())
 }
 
-/// Whether the components of a path are these, or memory ran out.
+/// Returns whether `pieces` lists the components of a path as `want`, or memory ran out.
 fn lists(
     heap: &Refusing<Global>,
     path: Path<'_>,
@@ -132,8 +133,8 @@ fn lists(
     Ok(pieces(heap, path)?.as_slice() == want)
 }
 
-/// The same where the request of that number is refused and the one after it too. Nothing is said where
-/// neither came.
+/// Checks `lists` with the request of this number and the next one both refused. Returns `None` if the call
+/// makes no such request.
 fn lists_twice_refused(
     alloc: Global,
     number: u64,
@@ -152,8 +153,8 @@ fn lists_twice_refused(
     })
 }
 
-/// A list that is refused room to grow asks once more, for less: so a refusal need not end it, and
-/// where both are refused the list ends, or is whole.
+/// A list that is refused room to grow requests less room once more. So one refusal need not fail the call;
+/// two in a row may.
 #[test]
 fn requests_for_components(rt: HostRuntime) -> Result<(), Fail> {
     let text = string(rt.alloc(), r"a\\\\\\\\\\b\c\d\e\f\g\h\i\j\k\l")?;

@@ -2,12 +2,12 @@
 
 use upath::{Watched, run_streams, run_text};
 
-/// Whether a run over these lines prints this.
+/// Returns whether a run over these lines prints `want`.
 pub(crate) fn prints(rt: &HostRuntime, input: &[u8], want: &str) -> bool {
     matches!(&run_text(rt.alloc(), input), Ok(output) if output.as_slice() == want.as_bytes())
 }
 
-/// Whether a run over streams reads all of an input and writes this.
+/// Returns whether a run over streams reads the whole input and writes `want`.
 pub(crate) fn writes(rt: &HostRuntime, input: &[u8], want: &[u8]) -> bool {
     let mut reader = Watched::new(input);
     let mut writer = Watched::new(Vec::new(rt.alloc()));
@@ -19,14 +19,14 @@ const NUL: &str = "UCS-2 Conversion Error: Interior null terminator\n";
 
 const NO_UCS2: &str = "UCS-2 Conversion Error: Invalid character\n";
 
-/// Runs that read the path and change it, ends of lines, and lines of each verb with a text that is no
-/// string, and what they print.
+/// Inputs and outputs of runs: lines that read and change the path, line ends, and lines of each verb whose
+/// text is not a string.
 const RUNS: &[(&str, &str)] = &[
     (
         "from \\foo\\bar\npieces\n",
         "= \\foo\\bar\npieces 2\n| foo\n| bar\n",
     ),
-    // The last line has no end.
+    // The last line has no line end.
     (
         "from /a\\b\neq a\\b\neq \\\\a\\b\npush\npieces",
         "= \\a\\b\nequal\ndifferent\n? unknown command\npieces 2\n| a\n| b\n",
@@ -79,7 +79,7 @@ const RUNS: &[(&str, &str)] = &[
     ("wat x\0", "? unknown command\n"),
 ];
 
-/// Texts that are no strings, a line without a verb, and one that is not UTF-8.
+/// Texts that are not strings, a line without a verb, and a line that is not UTF-8.
 const FAULTY_LINES: &[u8] =
     b"from a\xf0\x9f\x98\x80\n\nfrom \npieces\neq \\\ncheck\n\xff\nfrom x\0\nclear \n";
 

@@ -1,14 +1,13 @@
-//! Readers and writers of which one call fails, and would succeed if it were made again: each call in turn,
-//! where one byte goes through a call, a few do, or all, of short inputs and of long ones. They count their
-//! calls, so that a further one is seen. An interrupted call is a failed one.
+//! Readers and writers with one failing call, which would succeed if repeated: each call in turn, with steps
+//! of one byte, a few or all, for short and long inputs. They count their calls to show any further call. An
+//! interrupted call counts as a failure.
 
 use for_tests::repeated;
 use std::io::{self, ErrorKind, Read, Write};
 use std::test::Fail;
 use upath::{StreamFault, Watched, run_streams};
 
-/// Kinds of an error: those after which a caller might make the call again, those that end a stream,
-/// and others.
+/// Kinds of errors: errors after which a caller might repeat the call, errors that end a stream, and others.
 pub(crate) const KINDS: &[ErrorKind] = &[
     ErrorKind::Interrupted,
     ErrorKind::WouldBlock,
@@ -23,7 +22,7 @@ pub(crate) const KINDS: &[ErrorKind] = &[
     ErrorKind::Uncategorized,
 ];
 
-/// A run, and how many bytes a call of its reader gives or of its writer takes at most.
+/// A run, and the greatest number of bytes that one call of its reader or its writer transfers.
 #[derive(Clone, Copy)]
 struct Run<'a> {
     input: &'a [u8],
@@ -31,7 +30,8 @@ struct Run<'a> {
     step: usize,
 }
 
-/// Gives at most `step` bytes a call. The call of the number `failing`, counted from 1, fails; none at 0.
+/// A reader that returns at most `step` bytes a call. Its call number `failing`, counted from 1, fails; no
+/// call fails if the number is 0.
 #[derive(Drop)]
 pub(crate) struct FailingReader<'a> {
     pub(crate) rest: &'a [u8],
@@ -55,8 +55,9 @@ impl Read for FailingReader<'_> {
     }
 }
 
-/// Takes at most `step` bytes a call. The write of the number `failing`, counted from 1, fails, or
-/// takes none where `failure` is none, and the first flush fails where `flush` says so.
+/// A writer that accepts at most `step` bytes a call. Its write number `failing`, counted from 1, fails with
+/// `failure`, or accepts nothing if `failure` is `None`. The first flush fails with `flush`, if that is not
+/// `None`.
 #[derive(Drop)]
 pub(crate) struct FailingWriter {
     pub(crate) held: Vec<u8>,
@@ -69,7 +70,7 @@ pub(crate) struct FailingWriter {
 }
 
 impl FailingWriter {
-    /// A writer that takes all.
+    /// Creates a writer that never fails.
     pub(crate) fn new(rt: &HostRuntime, step: usize) -> FailingWriter {
         FailingWriter {
             held: Vec::new(rt.alloc()),
@@ -82,7 +83,7 @@ impl FailingWriter {
         }
     }
 
-    /// Whether it holds this, after these numbers of writes and flushes.
+    /// Returns whether the writer contains `held`, after these numbers of writes and flushes.
     pub(crate) fn has_taken(&self, held: &[u8], writes: usize, flushes: usize) -> bool {
         self.held.as_slice() == held && self.writes == writes && self.flushes == flushes
     }
@@ -111,7 +112,7 @@ impl Write for FailingWriter {
     }
 }
 
-/// What a run returned, and its reader and its writer after it.
+/// The result of a run, with its reader and its writer.
 #[derive(Drop)]
 struct Ended<'a> {
     outcome: Result<(), StreamFault>,
@@ -119,8 +120,8 @@ struct Ended<'a> {
     writer: FailingWriter,
 }
 
-/// A run of which this read fails, and none at 0, after which the marks say which of the two streams
-/// failed.
+/// Runs with this failing read, or none if `failing` is 0. Returns an error if the marks don't show which of
+/// the two streams failed.
 fn end_of<'a>(
     rt: &HostRuntime,
     run: Run<'a>,
@@ -149,8 +150,8 @@ fn end_of<'a>(
     })
 }
 
-/// How many calls a run makes of a reader and a writer that don't fail, after which all is written and
-/// flushed once.
+/// Counts the reads and the writes of a run in which no call fails. Returns an error unless all input is
+/// read, and all output is written and flushed once.
 fn calls_of(rt: &HostRuntime, run: Run<'_>) -> Result<(usize, usize), Fail> {
     let end = end_of(
         rt,
@@ -169,7 +170,7 @@ fn calls_of(rt: &HostRuntime, run: Run<'_>) -> Result<(usize, usize), Fail> {
     Ok((end.reader.calls, writes))
 }
 
-/// Whether a run of which this read fails reports that, reads no more, and writes nothing.
+/// Returns whether a run with this failing read reports it, reads no more, and writes nothing.
 fn ends_unwritten(
     rt: &HostRuntime,
     run: Run<'_>,
@@ -184,7 +185,8 @@ fn ends_unwritten(
     )
 }
 
-/// Whether a run of which this write fails writes what those before it took, and calls no more.
+/// Returns whether a run with this failing write reports it, writes only the bytes before it, and calls the
+/// writer no more.
 fn ends_in_write(
     rt: &HostRuntime,
     run: Run<'_>,
@@ -200,7 +202,7 @@ fn ends_in_write(
     Ok(end.outcome == Err(StreamFault::Write) && end.writer.has_taken(taken, failing, 0))
 }
 
-/// Whether a run whose flush fails writes all, and flushes no more.
+/// Returns whether a run with a failing flush reports it, writes all output, and flushes no more.
 fn ends_in_flush(
     rt: &HostRuntime,
     run: Run<'_>,
@@ -213,8 +215,8 @@ fn ends_in_flush(
     Ok(end.outcome == Err(StreamFault::Write) && end.writer.has_taken(run.output, writes, 1))
 }
 
-/// Whether each read, each write and the flush that fails with this kind ends a run, and each write
-/// that takes nothing. Of a long input the last call fails alone.
+/// Returns whether a run ends at each read, each write and the flush that fails with this kind, and at each
+/// write that accepts nothing. For a long input, only the last read and the last write fail.
 fn each_call_ends(rt: &HostRuntime, run: Run<'_>, kind: ErrorKind) -> Result<bool, Fail> {
     let (reads, writes) = calls_of(rt, run)?;
     let is_short = run.input.len() < 10_000;
@@ -233,7 +235,8 @@ fn each_call_ends(rt: &HostRuntime, run: Run<'_>, kind: ErrorKind) -> Result<boo
     ends_in_flush(rt, run, writes, kind)
 }
 
-/// A path and its pieces, no input, the shortest one that is not empty, and that of the program's stored run.
+/// Inputs and outputs: a path and its pieces, no input, the shortest input that is not empty, and the input
+/// of the program's stored run.
 pub(crate) const SHORT: &[(&[u8], &[u8])] = &[
     (
         b"from \\foo\\bar\npieces\n",
@@ -264,7 +267,7 @@ fn each_call_that_fails(rt: HostRuntime) -> Result<(), Fail> {
     Ok(())
 }
 
-/// Whether the calls that fail end a run over this input, where `step` bytes go through a call.
+/// Returns whether failing calls end a run over this input, with at most `step` bytes a call.
 fn long_run_ends(rt: &HostRuntime, input: &str, output: &str, step: usize) -> Result<bool, Fail> {
     let (input, output) = (input.as_bytes(), output.as_bytes());
     let run = Run {
@@ -275,7 +278,7 @@ fn long_run_ends(rt: &HostRuntime, input: &str, output: &str, step: usize) -> Re
     each_call_ends(rt, run, ErrorKind::Interrupted)
 }
 
-/// The input has 4,095, 4,096, 4,097 or 65,536 bytes, or the output has.
+/// The lengths of inputs and outputs include 4,095, 4,096, 4,097 and 65,536 bytes.
 #[test]
 fn calls_that_fail_on_long_lines(rt: HostRuntime) -> Result<(), Fail> {
     for len in [4089, 4090, 4091, 4092, 4093, 4094, 65530, 65533] {
@@ -290,7 +293,7 @@ fn calls_that_fail_on_long_lines(rt: HostRuntime) -> Result<(), Fail> {
     Ok(())
 }
 
-/// An input of 2,000,000 bytes, and an output of as many.
+/// An input of 2,000,000 bytes, and an output of 2,000,016 bytes.
 #[test]
 fn calls_that_fail_on_the_longest(rt: HostRuntime) -> Result<(), Fail> {
     for (len, count) in [(1_999_999, 1), (0, 111_112)] {

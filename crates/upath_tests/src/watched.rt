@@ -1,5 +1,5 @@
-//! Calls of a watched stream that watches another: the outer one is called by its own method, and calls the
-//! inner one by that of the trait. What comes back, whether both marks are set, and how often the stream was
+//! Calls of a watched stream inside another one. The outer stream is called by its own method, and calls the
+//! inner one by the trait's method. The tests check the result, both marks, and how often the stream was
 //! called.
 
 use crate::streams::{FailingReader, FailingWriter, KINDS};
@@ -7,7 +7,7 @@ use std::io::{self, ErrorKind, Read, Write};
 use std::test::Fail;
 use upath::Watched;
 
-/// What a call returned, an error by its kind.
+/// Replaces an error by its kind.
 fn by_kind<T>(outcome: io::Result<T>) -> Result<T, ErrorKind> {
     match outcome {
         Ok(value) => Ok(value),
@@ -15,7 +15,7 @@ fn by_kind<T>(outcome: io::Result<T>) -> Result<T, ErrorKind> {
     }
 }
 
-/// A reader of this input, watched twice, whose call of the number `failing` fails.
+/// Creates a reader of this input, watched twice, whose call number `failing` fails.
 fn reader_of(input: &[u8], failing: usize, kind: ErrorKind) -> Watched<Watched<FailingReader<'_>>> {
     Watched::new(Watched::new(FailingReader {
         rest: input,
@@ -26,8 +26,8 @@ fn reader_of(input: &[u8], failing: usize, kind: ErrorKind) -> Watched<Watched<F
     }))
 }
 
-/// A writer, watched twice, whose write of the number `failing` fails, or takes nothing where `failure` is
-/// none.
+/// Creates a writer, watched twice, whose write number `failing` fails, or accepts nothing if `failure` is
+/// `None`.
 fn writer_of(
     rt: &HostRuntime,
     failing: usize,
@@ -39,8 +39,8 @@ fn writer_of(
     Watched::new(Watched::new(writer))
 }
 
-/// Whether a read that fails returns its kind and sets the marks, and the next one gives all that there
-/// is and leaves the marks.
+/// Returns whether a failing read returns its kind and sets the marks, and the next read returns all input
+/// and leaves the marks set.
 fn marks_a_read(kind: ErrorKind) -> bool {
     let mut reader = reader_of(b"ab", 1, kind);
     let mut buf = [0; 3];
@@ -51,8 +51,8 @@ fn marks_a_read(kind: ErrorKind) -> bool {
     is_marked && buf == [97, 98, 0] && inner.into_inner().calls == 2
 }
 
-/// Whether a write that fails, or takes nothing, returns the kind and sets the marks, and the next one takes
-/// all and leaves the marks.
+/// Returns whether a write that fails or accepts nothing returns its kind and sets the marks, and the next
+/// write accepts all and leaves the marks set.
 fn marks_a_write(rt: &HostRuntime, failure: Option<ErrorKind>) -> bool {
     let mut writer = writer_of(rt, 1, failure);
     let want = failure.unwrap_or(ErrorKind::WriteZero);
@@ -63,7 +63,8 @@ fn marks_a_write(rt: &HostRuntime, failure: Option<ErrorKind>) -> bool {
     is_marked && inner.into_inner().has_taken(b"cd", 2, 0)
 }
 
-/// Whether a flush that fails returns its kind and sets the marks, and the next one succeeds and leaves them.
+/// Returns whether a failing flush returns its kind and sets the marks, and the next flush succeeds and
+/// leaves the marks set.
 fn marks_a_flush(rt: &HostRuntime, kind: ErrorKind) -> bool {
     let mut writer = FailingWriter::new(rt, usize::MAX);
     writer.flush = Some(kind);
@@ -75,7 +76,7 @@ fn marks_a_flush(rt: &HostRuntime, kind: ErrorKind) -> bool {
     is_marked && inner.into_inner().has_taken(b"", 0, 2)
 }
 
-/// A write that takes nothing has failed with `WriteZero`.
+/// A write that accepts nothing fails with `WriteZero`.
 #[test]
 fn calls_that_fail(rt: HostRuntime) {
     assert!(rt; marks_a_write(&rt, None));
@@ -86,8 +87,7 @@ fn calls_that_fail(rt: HostRuntime) {
     }
 }
 
-/// Whether two reads give an input, the first of them as much of it as the buffer has room for, and set no
-/// mark.
+/// Returns whether two reads return an input, each as much as the buffer has room for, and set no mark.
 fn gives(rt: &HostRuntime, input: &[u8], room: usize) -> Result<bool, Fail> {
     let mut reader = reader_of(input, 0, ErrorKind::Other);
     let mut buf = vec![in rt.alloc(); 0u8; room]?;
@@ -103,8 +103,8 @@ fn gives(rt: &HostRuntime, input: &[u8], room: usize) -> Result<bool, Fail> {
     Ok(is_right && inner.into_inner().calls == 2)
 }
 
-/// Whether a write takes these bytes and a flush follows, and neither sets a mark; nor does a write of
-/// nothing that takes nothing.
+/// Returns whether a write accepts these bytes, a flush follows, and an empty write accepts nothing, all
+/// without setting a mark.
 fn takes(rt: &HostRuntime, bytes: &[u8]) -> bool {
     let mut writer = writer_of(rt, 2, None);
     let is_taken = by_kind(writer.write(bytes)) == Ok(bytes.len());
@@ -115,7 +115,7 @@ fn takes(rt: &HostRuntime, bytes: &[u8]) -> bool {
     is_right && !is_marked && !inner.has_failed() && inner.into_inner().has_taken(bytes, 2, 1)
 }
 
-/// How many bytes go through a call.
+/// How many bytes one call transfers.
 const LENGTHS: [usize; 10] = [0, 1, 2, 4095, 4096, 4097, 65535, 65536, 65537, 2_000_000];
 
 #[test]
