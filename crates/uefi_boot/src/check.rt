@@ -142,7 +142,7 @@ impl<'a> Check<'a> {
                 .saturating_mul(2)
                 .saturating_add(6);
             let sentence = format!(in self.rt.alloc();
-                "the device paths and the data are those of {other}"
+                "it has the device paths and the data of {other}"
             )?;
             return self.report(variable, offset, sentence.as_str());
         }

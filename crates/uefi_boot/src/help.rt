@@ -3,7 +3,7 @@
 pub(crate) const PROGRAM: &str =
     "usage: uefi_boot            prints the boot variables of this machine, or the entry on standard input
        uefi_boot FOLDER     prints the boot variables of a folder, such as /sys/firmware/efi/efivars
-       uefi_boot FILE ..    prints those of files, named as Boot0000 or Boot0000-GUID
+       uefi_boot FILE ..    prints the boot entries in files named Boot0000 or Boot0000-GUID
        uefi_boot -          prints the boot entry on standard input
        uefi_boot VERB ..    checks or changes the boot variables; uefi_boot VERB --help says how
        --json               prints as JSON
