@@ -1,15 +1,24 @@
 //! Nodes of type BIOS Boot Specification (UEFI Specification 2.10, section 10.3.6).
 #![tactic(auto)]
 
-ghost use Rattle.std.specs.Prelude.{◌≡◌, drop};
+ghost use Rattle.std.specs.Prelude.{◌≡◌, drop, ◌∷◌, []};
 ghost use Rattle.uefi_device_nodes.specs.TypedNodes.{bytes_from, bytes_in, end_of, number_in};
 ghost use Rattle.uefi_device_nodes.specs.NodeViews.{data_of};
+ghost use Rattle.uefi_node_table.specs.declared.layouts.TheConstants.{BOOT_SPECIFICATION_DEVICE_TYPE, BOOT_SPECIFICATION_STATUS_FLAG};
+ghost use Rattle.uefi_device_nodes.specs.NodeFields.{number};
 
+use crate::node::DeviceSubType;
 use crate::typed_node::TypedNode;
 use uefi_node_table::layouts::{
     BIOS_BOOT_SPEC_TYPE, BOOT_SPECIFICATION, BOOT_SPECIFICATION_DESCRIPTION_STRING,
     BOOT_SPECIFICATION_DEVICE_TYPE, BOOT_SPECIFICATION_LEAST, BOOT_SPECIFICATION_STATUS_FLAG,
 };
+
+/// Sub-types of the type [`DeviceType::BIOS_BOOT_SPEC`](crate::DeviceType).
+impl DeviceSubType {
+    /// A device that a legacy BIOS can boot.
+    pub const BIOS_BOOT_SPECIFICATION: DeviceSubType = DeviceSubType(BOOT_SPECIFICATION);
+}
 
 /// A device that a legacy BIOS can boot.
 ///
@@ -46,5 +55,61 @@ impl<'a> BootSpecification<'a> {
         ensures { result.now ≡ bytes_from BOOT_SPECIFICATION_DESCRIPTION_STRING (data_of self.now) }
     {
         self.tail(BOOT_SPECIFICATION_DESCRIPTION_STRING)
+    }
+}
+
+/// The structs from which these nodes are built.
+pub mod build {
+    use crate::fields::{Fields, put};
+    use crate::typed_node::TypedNode;
+    use uefi_node_table::layouts::{
+        BIOS_BOOT_SPEC_TYPE, BOOT_SPECIFICATION, BOOT_SPECIFICATION_DEVICE_TYPE,
+        BOOT_SPECIFICATION_FIXED, BOOT_SPECIFICATION_STATUS_FLAG,
+    };
+
+    /// A device that a legacy BIOS can boot.
+    ///
+    /// ```rust
+    /// let mut path = DevicePathBuf::new(rt.alloc())?;
+    /// path.push_node(&bios_boot_spec::BootSpecification {
+    ///     device_type: 2, status_flag: 0x1f, description_string: b"SATA\0",
+    /// })?;
+    /// let text = format!(in rt.alloc(); "{}", path.as_device_path())?;
+    /// assert_eq!(rt; text.as_str(), "BBS(HD,SATA,0x1F)");
+    /// ```
+    #[derive(Clone, Copy)]
+    pub struct BootSpecification<'a> {
+        /// The type of the device, as the BIOS Boot Specification numbers it.
+        pub device_type: u16,
+        /// The flags that the BIOS Boot Specification defines.
+        pub status_flag: u16,
+        /// The bytes of its description, including the NUL.
+        pub description_string: &'a [u8],
+    }
+
+    /// Builds the node from its fields.
+    impl<'a> Fields for BootSpecification<'a> {
+        type Layout = TypedNode<
+            'static,
+            BIOS_BOOT_SPEC_TYPE,
+            BOOT_SPECIFICATION,
+            BOOT_SPECIFICATION_FIXED,
+        >;
+
+        type Tail = &'a [u8];
+
+        ghost fields = { λ n. number BOOT_SPECIFICATION_DEVICE_TYPE n.device_type ∷
+            number BOOT_SPECIFICATION_STATUS_FLAG n.status_flag ∷ [] };
+
+        ghost after = { λ n. n.description_string.now };
+
+        fn tail(self) -> &'a [u8] {
+            self.description_string
+        }
+
+        fn put(&self, content: &mut [u8]) {
+            put(content, BOOT_SPECIFICATION_DEVICE_TYPE, self.device_type);
+            put(content, BOOT_SPECIFICATION_STATUS_FLAG, self.status_flag);
+        }
     }
 }

@@ -12,12 +12,6 @@
 pub mod acpi;
 pub mod bios_boot_spec;
 pub mod build_node;
-pub mod built_acpi;
-pub mod built_bios_boot_spec;
-pub mod built_hardware;
-pub mod built_media;
-pub mod built_messaging;
-mod built_network;
 pub mod errors;
 pub mod fields;
 pub mod hardware;

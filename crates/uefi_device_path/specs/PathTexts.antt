@@ -5,8 +5,6 @@ use Rattle.uefi_device_nodes.specs.Nodes.{Node}
 use Rattle.uefi_device_nodes.specs.NodeTexts.{node_text}
 use Rattle.uefi_device_path.specs.Instances.{instances}
 use Rattle.uefi_device_path.specs.LibefivarTexts.{libefivar_node_text}
-use Rattle.uefi_device_path.specs.declared.path_text.Form.{Form}
-use Rattle.uefi_device_path.specs.declared.path_text.Form.TheVariants.{Specified, Libefivar}
 use Rattle.uefi_device_path.specs.declared.path_text.TheConstants.{TEXT_UNITS_PER_BYTE}
 
 -- an instance: the texts of its nodes, with a slash between each two
@@ -23,18 +21,13 @@ unfoldable pub libefivar_text : List Node → List ℕ
 libefivar_text nodes =
     join_by (λ instance. join_by libefivar_node_text (codes "/") instance) (codes ",") (instances nodes)
 
--- a node in a form
-abbrev pub node_text_in : Form → Node → List ℕ
-node_text_in (Specified display_only shortcuts) = node_text display_only.0 shortcuts.0
-node_text_in Libefivar = libefivar_node_text
+-- an instance, with the text of each node
+abbrev pub instance_text_by : (Node → List ℕ) → List Node → List ℕ
+instance_text_by text nodes = join_by text (codes "/") nodes
 
--- an instance in a form
-abbrev pub instance_text_in : Form → List Node → List ℕ
-instance_text_in form nodes = join_by (node_text_in form) (codes "/") nodes
-
--- a path in a form
-abbrev pub path_text_in : Form → List Node → List ℕ
-path_text_in form nodes = join_by (instance_text_in form) (codes ",") (instances nodes)
+-- a path, with the text of each node
+abbrev pub path_text_by : (Node → List ℕ) → List Node → List ℕ
+path_text_by text nodes = join_by (instance_text_by text) (codes ",") (instances nodes)
 
 -- how many code units always hold the text of a path or a node with these bytes, and its NUL
 abbrev pub text_room : List ℕ → ℕ

@@ -25,7 +25,7 @@ use crate::file_path::{file_path_in, write_file_path_in};
 use crate::instance::DevicePathInstanceIterator;
 use crate::laws::text_lengths;
 use crate::node_iterator::DevicePathNodeIterator;
-use crate::path_text::{PathText, most_units};
+use crate::path_text::{LibefivarText, PathText, most_units};
 use std::alloc::Allocator;
 use std::fmt;
 use std::hash::{Hash, Hasher};
@@ -45,7 +45,7 @@ pub struct DevicePath<'a> {
 }
 
 impl<'a> DevicePath<'a> {
-    ghost use Rattle.uefi_device_path.specs.Views.{instance_nodes, instances_left, nodes_left, nodes_of, printed_path};
+    ghost use Rattle.uefi_device_path.specs.Views.{instance_nodes, instances_left, nodes_left, nodes_of, printed_by_libefivar, printed_path};
 
     /// Returns the device path that bytes consist of.
     pub(crate) fn of_path(bytes: &'a [u8]) -> Self
@@ -361,10 +361,10 @@ impl<'a> DevicePath<'a> {
     /// let text = format!(in rt.alloc(); "{}", path.as_device_path().display_libefivar())?;
     /// assert_eq!(rt; text.as_str(), r"HD(1,MBR,0x000000ab,0x3f,0xc8)/File(\a.efi)");
     /// ```
-    pub fn display_libefivar(&self) -> PathText<'a>
-        ensures { printed_path result ≡ libefivar_text (nodes_of self.now) }
+    pub fn display_libefivar(&self) -> LibefivarText<'a>
+        ensures { printed_by_libefivar result ≡ libefivar_text (nodes_of self.now) }
     {
-        PathText::of_libefivar(&self.bytes[..self.bytes.len() - 4])
+        LibefivarText::of(&self.bytes[..self.bytes.len() - 4])
     }
 
     /// Writes the text that [`DevicePath::display_libefivar`] prints to the start of a buffer, as

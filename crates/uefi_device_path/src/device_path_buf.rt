@@ -15,7 +15,8 @@ use crate::errors::BuildError;
 use std::alloc::{AllocError, Allocator, Global};
 use std::marker::Model;
 use uefi_device_nodes::build_node::{BuildNode, RawNode};
-use uefi_device_nodes::{DeviceSubType, DeviceType, built_media as media};
+use uefi_device_nodes::media::build as media;
+use uefi_device_nodes::{DeviceSubType, DeviceType};
 use uefi_path::Path;
 
 /// A device path in its own memory, which grows. A contract sees it as the list of its nodes,

@@ -12,7 +12,8 @@ use crate::device_path::DevicePath;
 use crate::errors::BuildError;
 use crate::path_in_buf::{append_at, push_at};
 use uefi_device_nodes::build_node::{BuildNode, RawNode};
-use uefi_device_nodes::{DeviceSubType, DeviceType, built_media as media};
+use uefi_device_nodes::media::build as media;
+use uefi_device_nodes::{DeviceSubType, DeviceType};
 use uefi_path::Path;
 
 /// A device path that is built in a caller's buffer. A contract sees it as `builder_nodes` of it,

@@ -80,7 +80,7 @@ pub use node_iterator::DevicePathNodeIterator;
 pub use path_in_buf::{append_in_buf, push_at_in_buf, push_in_buf};
 pub use path_list::{DevicePaths, check_paths};
 pub use path_reader::PathTextError;
-pub use path_text::{PathText, TEXT_UNITS_PER_BYTE};
+pub use path_text::{LibefivarText, PathText, TEXT_UNITS_PER_BYTE};
 pub use text_in_buf::push_text_in_buf;
 // The C library uses this; callers in Rattle have a call for each style.
 #[doc(hidden)]

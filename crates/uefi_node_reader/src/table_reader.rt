@@ -17,26 +17,10 @@ use crate::fields::after;
 use crate::form_places::{FormTest, form_place};
 use crate::node_tails::read_pieces;
 use crate::parsed_node::ParsedNode;
+use uefi_node_table::packed::FIRST_LETTERS;
 use uefi_node_table::printing::{begin_with_kind, matches};
 use uefi_node_table::rows::{Mode, Row};
 use uefi_node_table::table::{GROUPS, group};
-
-/// The first letters of the texts of the forms in each group, with a bit for each letter: the bit of a byte
-/// is the number of its low six bits. Most groups have no form that begins with the first letter of a text.
-const FIRST_LETTERS: [u64; GROUPS] = [
-    0x0041_200c,
-    0x0009_0842,
-    0x0008_0000,
-    0x0008_0000,
-    0x0008_0000,
-    0x0220_00e8_6256,
-    0x0000_0200,
-    0x0000_0200,
-    0x0000_0200,
-    0x0020_0000,
-    0x0045_a148,
-    0x0000_0004,
-];
 
 /// Puts bytes at their places in data.
 fn put_bytes(content: &mut [u8], bytes: &[(u8, u8)])
@@ -189,7 +173,8 @@ fn begins_in(letters: u64, text: &[u8]) -> bool
     }
 }
 
-/// Returns the letters that the texts of the forms in a group begin with.
+/// Returns the letters that the texts of the forms in a group begin with. Most groups have no form that
+/// begins with the first letter of a text.
 fn first_letters(index: usize) -> u64
     requires { index < 12 }
     ensures { IsTrue (all_begin_in result (group_forms index)) }
