@@ -1,5 +1,5 @@
 -- The first character of units in UTF-16.
-use Rattle.std.proofs.Common.{All, ◌≡◌, ℕ, ◌≤◌, ◌<◌, ◌+◌, ◌&&◌, false, true, List, [], ◌∷◌, length, drop, slice_index, ap, refl, sym, ◌∙◌, arith, add-one, add-zero}
+use Rattle.std.proofs.Common.{All, ◌≡◌, ℕ, ◌≤◌, ◌<◌, ◌+◌, ◌&&◌, ◌^◌, false, true, None, Option, Some, List, [], ◌∷◌, length, drop, get_or, slice_index, ap, refl, sym, ◌∙◌, arith, add-one, add-zero}
 use Rattle.std.proofs.lemmas.Bool.Decides.{nat_tests}
 use Rattle.std.proofs.lemmas.Grind.{common_steps}
 use Rattle.std.proofs.lemmas.List.{drop_all, get_or-drop}
@@ -7,9 +7,10 @@ use Rattle.std.proofs.lemmas.List.Elements.{All-from_get_or, All-head, All-tail,
 use Rattle.std.proofs.lemmas.Str.{encodes-IsAscii, utf16_chars-nil}
 use Rattle.std.proofs.Math.Seq.{drop-cons}
 use Rattle.std.specs.Char.Utf16.{is_high_surrogate, is_low_surrogate, lone_unit_char, surrogate_pair_char, utf16_chars, utf16_lossy_chars}
-use Rattle.std.specs.Option.{unwrap_or}
+use Rattle.std.specs.Option.{is_some, unwrap_or}
 use Rattle.std.specs.Str.{IsAscii, encode_utf8_all}
-use Rattle.uefi_text.specs.Units.{IsChar16, IsText, IsTextUnit}
+use Rattle.uefi_text.specs.Units.{IsChar16, IsText, IsTextUnit, deciding_place}
+use Rattle.uefi_text.proofs.Deciding.{IsText-none}
 
 -- the unit at a place, and those after it
 cut : (us : List ℕ) (i : ℕ) → i < length us → drop i us ≡ slice_index us i ∷ drop (i + 1) us
@@ -56,6 +57,12 @@ lossy_plain (u ∷ us) are =
 
 pub lossy_text : (us : List ℕ) → IsText us → utf16_lossy_chars us ≡ us
 lossy_text us is = lossy_plain us (All-weaker IsTextUnit IsChar16 (λ u is. is.1) us is)
+
+-- units of which none decides are a text
+pub lossy_undecided : (us : List ℕ) (place : Option ℕ) → ((k : ℕ) → get_or us k 0 < 2 ^ 16) → place ≡ deciding_place us → is_some place ≡ false
+    → utf16_lossy_chars us ≡ us
+lossy_undecided us None small found none = lossy_text us (IsText-none us small (sym found))
+lossy_undecided us (Some i) small found none = cc
 
 pub lossy_ascii : (us : List ℕ) → IsAscii us → encode_utf8_all (utf16_lossy_chars us) ≡ us
 lossy_ascii us are =

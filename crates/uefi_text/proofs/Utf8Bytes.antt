@@ -89,6 +89,11 @@ length-encode_utf8-two c low high = rw (encode_utf8-two c low high) refl
 pub length-encode_utf8-three : (c : ℕ) → 2048 ≤ c → c < 65536 → length (encode_utf8 c) ≡ 3
 length-encode_utf8-three c low high = rw (encode_utf8-three c low high) refl
 
+pub length-encode_utf8-four : (c : ℕ) → 65536 ≤ c → length (encode_utf8 c) ≡ 4
+length-encode_utf8-four c low = rw (encode_utf8-four c low) refl
+
+pub ruleset four_bytes = (encode_utf8-four, length-encode_utf8-four)
+
 pub ruleset unit_widths = (encode_utf8-two, encode_utf8-three, length-encode_utf8-two, length-encode_utf8-three, encode_ascii)
 
 -- a unit has one byte, a second from U+0080 on, and a third from U+0800 on

@@ -16,5 +16,13 @@ place_three xs n a b c inside =
     let room : n + 2 < length two = omega (arith, length-set (set xs n a) (n + 1) b, length-set xs n a) in
     rw next (take_more_set two (n + 2) c room ∙ ap (λ (l : List ℕ). l ++ c ∷ []) (place_two xs n a b (omega arith)) ∙ append_assoc (take n xs) (a ∷ b ∷ []) (c ∷ []))
 
+pub place_four : (xs : List ℕ) (n a b c d : ℕ) → n + 3 < length xs
+    → take (n + 4) (set (set (set (set xs n a) (n + 1) b) (n + 2) c) (n + 3) d) ≡ take n xs ++ a ∷ b ∷ c ∷ d ∷ []
+place_four xs n a b c d inside =
+    let three = set (set (set xs n a) (n + 1) b) (n + 2) c in
+    let next : n + 4 ≡ (n + 3) + 1 = omega arith in
+    let room : n + 3 < length three = omega (arith, length-set (set (set xs n a) (n + 1) b) (n + 2) c, length-set (set xs n a) (n + 1) b, length-set xs n a) in
+    rw next (take_more_set three (n + 3) d room ∙ ap (λ (l : List ℕ). l ++ d ∷ []) (place_three xs n a b c (omega arith)) ∙ append_assoc (take n xs) (a ∷ b ∷ c ∷ []) (d ∷ []))
+
 -- one, two or three elements, each written at the place after the one before it
 pub ruleset places_in_turn = (take_more_set, place_two, place_three)

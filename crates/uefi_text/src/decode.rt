@@ -286,24 +286,34 @@ fn lossy_len(units: &[u16]) -> usize
     len
 }
 
-/// Writes a character in UTF-8 from a place on, and returns the place after it.
-fn write_char(character: char, bytes: &mut [u8], place: usize) -> usize
-    requires { place + length (encode_utf8 character) ≤ length bytes.now }
-    ensures end { result ≡ place + length (encode_utf8 character) }
-    ensures bytes { bytes.new ≡ take place bytes.old ++ encode_utf8 character
-        ++ drop (place + length (encode_utf8 character)) bytes.old }
+/// Writes a character above U+FFFF in UTF-8 from a place on.
+#[inline(always)]
+#[tactic(auto, using(crate::proofs::Utf8Bytes::four_bytes, crate::proofs::Writing::place_four))]
+fn write_four(bytes: &mut [u8], place: usize, code: u32)
+    requires above { 0x10000 ≤ code }
+    requires character { code < 0x110000 }
+    requires room { place + length (encode_utf8 code) ≤ length bytes.old }
+    ensures { take (place + 4) bytes.new ≡ take place bytes.old ++ encode_utf8 code }
 {
-    let mut four = [0; 4];
-    let encoded = character.encode_utf8(&mut four).as_bytes();
-    // Each length by itself: a copy of a length that is known needs no `memcpy`.
-    match encoded {
-        [a] => bytes[place..place + 1].copy_from_slice(&[*a]),
-        [a, b] => bytes[place..place + 2].copy_from_slice(&[*a, *b]),
-        [a, b, c] => bytes[place..place + 3].copy_from_slice(&[*a, *b, *c]),
-        [a, b, c, d] => bytes[place..place + 4].copy_from_slice(&[*a, *b, *c, *d]),
-        _ => {}
+    bytes[place] = (0xf0 + code / 0x40000) as u8;
+    bytes[place + 1] = (0x80 + code / 0x1000 % 64) as u8;
+    bytes[place + 2] = (0x80 + code / 64 % 64) as u8;
+    bytes[place + 3] = (0x80 + code % 64) as u8;
+}
+
+/// Writes a character in UTF-8 from a place on, and returns the place after it.
+#[tactic(auto, using(crate::proofs::Utf8Bytes::four_bytes))]
+fn write_char(character: char, bytes: &mut [u8], place: usize) -> usize
+    requires { place + length (encode_utf8 character) ≤ length bytes.old }
+    ensures end { result ≡ place + length (encode_utf8 character) }
+    ensures bytes { take result bytes.new ≡ take place bytes.old ++ encode_utf8 character }
+{
+    let code = character as u32;
+    if code < 0x10000 {
+        return write_unit(bytes, place, code as u16);
     }
-    place + encoded.len()
+    write_four(bytes, place, code);
+    place + 4
 }
 
 /// Writes any units in UTF-8 into a slice that has exactly the room.

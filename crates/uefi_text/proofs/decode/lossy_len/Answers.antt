@@ -1,10 +1,7 @@
 -- No unit is left, so the bytes so far are all.
-use Rattle.std.proofs.Common.{◌≡◌, None, ap, arith, length}
+use Rattle.std.proofs.Common.{ap, arith, length}
 use Rattle.std.specs.Str.{encode_utf8_all}
-use Rattle.uefi_text.specs.Units.{deciding_place}
-use Rattle.uefi_text.proofs.Deciding.{IsText-none}
-use Rattle.std.proofs.lemmas.Grind.{common_steps}
-use Rattle.uefi_text.proofs.Surrogates.{lossy_text, none_left}
+use Rattle.uefi_text.proofs.Surrogates.{lossy_undecided, none_left}
 use Rattle.uefi_text.proofs.decode.lossy_len.Goals as goal
 
 pub returns : goal.returns
@@ -14,7 +11,5 @@ returns c =
 
 pub returns-then-is_none : goal.returns-then-is_none
 returns-then-is_none c =
-    let none : deciding_place c.args.units.now ≡ None = grind (arith, common_steps) in
-    let text = IsText-none c.args.units.now (λ k. omega (arith, c.type_inv.units k)) none in
-    let same = ap (λ us. length (encode_utf8_all us)) (lossy_text c.args.units.now text) in
-    grind (arith, common_steps, same)
+    let plain = lossy_undecided c.args.units.now _ (λ k. omega (arith, c.type_inv.units k)) c.find_deciding_place.ensures c.if-is_none.ensures in
+    omega (arith, ap (λ us. length (encode_utf8_all us)) plain)
