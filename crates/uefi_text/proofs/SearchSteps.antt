@@ -1,5 +1,5 @@
 -- The steps of the search, as the code makes them.
-use Rattle.std.proofs.Common.{◌≡◌, ◌∙◌, ◌+◌, ◌<◌, ◌≤◌, ◌≢◌, ◌↔◌, ℕ, Bool, IsTrue, List, [], ◌∷◌, ap, sym, subst, refl, arith, length-drop, drop, get_or, length, Some, Option}
+use Rattle.std.proofs.Common.{◌≡◌, ◌∙◌, ◌+◌, ◌<◌, ◌≤◌, ◌≢◌, ◌↔◌, ℕ, Bool, IsTrue, List, [], ◌∷◌, ap, sym, subst, refl, arith, length-drop, drop, get_or, inl, inr, length, None, Some, Option}
 use Rattle.std.proofs.Math.ListN.{drop_of_length-le}
 use Rattle.std.proofs.lemmas.List.{drop-drop, get_or-drop}
 use Rattle.uefi_text.specs.Patterns.{Matches, Nothing, Any, One, OneOf, Itself}
@@ -7,7 +7,7 @@ use Rattle.uefi_text.specs.PatternParts.{Refuses, TakesOne}
 use Rattle.uefi_text.specs.declared.patterns.Star.{Star}
 use Rattle.uefi_text.proofs.Caseless.{next}
 use Rattle.uefi_text.proofs.FirstParts.{refuses_nothing}
-use Rattle.uefi_text.proofs.GreedySearch.{Searching, at_star, takes, goes_back, ends, star_at_end}
+use Rattle.uefi_text.proofs.GreedySearch.{Later, Searching, at_star, takes, goes_back, ends, star_at_end}
 
 pub star_step : (pattern text : List ℕ) (at place : ℕ) (star : Option Star) → Searching pattern text at place star
     → at < length pattern → get_or pattern at 0 ≡ 42 → Searching pattern text (at + 1) place (Some (record { after = at + 1; tried = place }))
@@ -32,6 +32,15 @@ pub back_step : (pattern text : List ℕ) (at place : ℕ) (star : Option Star) 
     → Searching pattern text last.after (last.tried + 1) (Some (record { after = last.after; tried = last.tried + 1 }))
 back_step pattern text at place star last s is inside refuses =
     goes_back pattern text at place (get_or text place 0) last (subst (Searching pattern text at place) is s) refuses (next text place inside)
+
+-- a unit is refused, and no `*` can take one more
+pub refused : (pattern text : List ℕ) (at place : ℕ) (star : Option Star) → Searching pattern text at place star → star ≡ None
+    → place < length text → Refuses (drop at pattern) (get_or text place 0) → Matches pattern text → ⊥
+refused pattern text at place star s none inside refuses m =
+    elim (s.complete m) [
+      | inl here ↦ refuses (drop (place + 1) text) (subst (λ us. Matches (drop at pattern) us) (next text place inside) here)
+      | inr later ↦ subst (λ s. Later pattern text s) none later
+    ]
 
 -- a `*` at a place
 pub star_there : (pattern : List ℕ) (at : ℕ) → (0 < length (drop at pattern)) × (get_or (drop at pattern) 0 0 ≡ 42)

@@ -1,13 +1,30 @@
 -- Each block writes the items from its start on, and after the last one that is all of them.
 use borrow.Rule.Slice.PartMut.{put_mid, same_len_mid}
 use Rattle.std.proofs.Common.{◌≡◌, ◌∙◌, ◌+◌, ◌-◌, ◌*◌, ◌≤◌, ◌++◌, ap, sym, length, map, take, drop, arith, take-add}
-use Rattle.std.proofs.lemmas.List.{length-take, length-take-le, map-append, take_all}
+use Rattle.std.proofs.lemmas.List.{length-take, length-take-le, map-append, nil_from_length, take_all}
 use Rattle.std.proofs.lemmas.Slice.{take-put_mid}
 use Rattle.std.proofs.lemmas.Grind.{common_steps}
 use Rattle.uefi_text.specs.Packed.{packed_items}
 use Rattle.uefi_text.proofs.Packing.{length-packed_items, packed_items-part, part-fits}
 use Rattle.std.proofs.Math.Nat.{mul-le-mul_right}
 use Rattle.uefi_text.proofs.unaligned_slice.read_blocks.Goals as goal
+
+pub slice_bounds-read_le-end : goal.slice_bounds-read_le-end
+slice_bounds-read_le-end g c =
+    let some : 1 ≤ length c.args.dest.now = omega arith in
+    let fits : c.SIZE.result ≤ length c.args.bytes.now = rw c.SIZE.ensures (omega (arith, mul-le-mul_right g.T.Packed.SIZE some, c.requires)) in
+    sym (length-take-le c.SIZE.result c.args.bytes.now fits)
+
+pub returns-then-len-eq0 : goal.returns-then-len-eq0
+returns-then-len-eq0 g c =
+    ap (map g.T.Packed.number) (nil_from_length c.args.dest.now c.if-len-eq0.true)
+    ∙ sym (ap (λ n. packed_items g.T.Packed.SIZE n c.args.bytes.now) c.if-len-eq0.true)
+
+pub read_le-first-requires : goal.read_le-first-requires
+read_le-first-requires g c = sym (slice_bounds-read_le-end g c) ∙ c.SIZE.ensures
+
+pub loop-start-smaller : goal.loop-start-smaller
+loop-start-smaller g c = omega arith
 
 pub read_block-requires-clause-fits : goal.read_block-requires-clause-fits
 read_block-requires-clause-fits g c =
@@ -58,12 +75,6 @@ returns g c =
     let places = take_all c.loop-start.start c.loop-start.dest (omega (arith, so_far.len, so_far.within)) in
     let items = take_all c.loop-start.start (packed_items g.T.Packed.SIZE len c.args.bytes.now) (omega (arith, so_far.within)) in
     sym (ap (map g.T.Packed.number) places) ∙ so_far.items ∙ items
-
-pub slice_bounds-read_le-end : goal.slice_bounds-read_le-end
-slice_bounds-read_le-end g c =
-    let some : 1 ≤ length c.args.dest.now = omega arith in
-    let fits : c.SIZE.result ≤ length c.args.bytes.now = rw c.SIZE.ensures (omega (arith, mul-le-mul_right g.T.Packed.SIZE some, c.requires)) in
-    sym (length-take-le c.SIZE.result c.args.bytes.now fits)
 
 pub slice_bounds-read_block-count : goal.slice_bounds-read_block-count
 slice_bounds-read_block-count g c =

@@ -1,12 +1,13 @@
 use Rattle.std.proofs.Common.{ap, arith, drop, length, length-drop, subst, ◌∙◌, ◌<◌, ◌≤◌, ◌↔◌, IsTrue, []}
+use Rattle.std.proofs.lemmas.Bool.{false≢true}
 use Rattle.std.specs.List.{slice_index}
 use Rattle.uefi_text.specs.PatternParts.{Refuses, TakesOne, IsPart}
 use Rattle.uefi_text.specs.declared.patterns.Part.{Part}
 use Rattle.uefi_text.specs.Patterns.{Matches}
 use Rattle.uefi_text.specs.Views.{read_units}
-use Rattle.uefi_text.proofs.SearchCosts.{star_cost, unit_cost, back_cost}
-use Rattle.uefi_text.proofs.GreedySearch.{within_at, within_more}
-use Rattle.uefi_text.proofs.SearchSteps.{at_end, back_step, star_step, star_there, unit_step}
+use Rattle.uefi_text.proofs.SearchCosts.{left, star_cost, unit_cost, back_cost}
+use Rattle.uefi_text.proofs.GreedySearch.{tried, within_at, within_more}
+use Rattle.uefi_text.proofs.SearchSteps.{at_end, back_step, refused, star_step, star_there, unit_step}
 use Rattle.uefi_text.proofs.counted.CountedReader.matches.Goals as goal
 
 pub searching-preserved-in-Star : goal.searching-preserved-in-Star
@@ -85,3 +86,35 @@ returns-clause-matches c =
     at_end (read_units c.args.pattern.now) (read_units c.args.self.now) c.searching.at c.searching.place c.searching.star c.matches_nothing.result
     c.searching.invariant.search past
     (subst (λ us. IsTrue c.matches_nothing.result ↔ Matches (drop c.searching.at us) []) c.searching.invariant.pattern c.matches_nothing.ensures.matches)
+
+-- the counts of reads say that each step takes from what is left
+pub searching-smaller-in-Star : goal.searching-smaller-in-Star
+searching-smaller-in-Star c =
+    let there = star_there (read_units c.args.pattern.now) c.searching.at
+    (subst (λ us. IsPart Part.Star (drop c.searching.at us) c.get-unit.result) c.searching.invariant.pattern c.in-Star.ensures.part) in
+    let text = length (read_units c.args.self.now) in
+    let pattern = length (read_units c.args.pattern.now) in
+    omega (arith, star_cost text pattern _ c.searching.at (left text pattern (tried c.searching.star) c.searching.at) 0 c.searching.star c.searching.invariant.star there.0 (omega arith))
+
+pub searching-smaller : goal.searching-smaller
+searching-smaller c =
+    let text = length (read_units c.args.self.now) in
+    let pattern = length (read_units c.args.pattern.now) in
+    let within = within_at c.searching.star c.in-Some.last _ _ c.in-Some.is c.searching.invariant.star in
+    let inside : c.searching.place < text = omega (arith, ap length c.searching.invariant.text) in
+    omega (
+      arith,
+      back_cost text pattern _ c.searching.at 0 1 (left text pattern (tried c.searching.star) c.searching.at) c.searching.star c.in-Some.last
+          c.in-Some.is within.1 inside c.searching.invariant.in_pattern (omega arith) (omega arith),
+    )
+
+pub returns-in_default-clause-matches : goal.returns-in_default-clause-matches
+returns-in_default-clause-matches c =
+    let us = read_units c.args.pattern.now in
+    let inside : c.searching.place < length (read_units c.args.self.now) = omega (arith, ap length c.searching.invariant.text) in
+    let unit = c.get-unit.ensures.unit ∙ ap (λ us. slice_index us c.searching.place) c.searching.invariant.text in
+    let refuses = subst (λ u. Refuses (drop c.searching.at us) u) unit
+    (subst (λ us. Refuses (drop c.searching.at us) c.get-unit.result) c.searching.invariant.pattern c.in-Refuses.ensures.part) in (
+      λ is. absurd (false≢true is),
+      λ m. absurd (refused us (read_units c.args.self.now) c.searching.at c.searching.place c.searching.star c.searching.invariant.search c.in_default.is inside refuses m),
+    )
