@@ -7,14 +7,11 @@
 #include <time.h>
 
 size_t ours_device_path_check(const uint8_t *bytes, size_t count);
-size_t ours_device_path(const uint8_t *one, size_t one_count, const uint8_t *two, size_t two_count, size_t rounds);
-size_t ours_load_option(const uint8_t *one, size_t one_count, const uint8_t *two, size_t two_count, size_t rounds);
+size_t ours_device_path_walk(const uint8_t *bytes, size_t count);
+size_t ours_load_option_walk(const uint8_t *bytes, size_t count);
 size_t edk2_check(const uint8_t *bytes, size_t count);
 size_t edk2_walk(const uint8_t *bytes, size_t count);
 size_t edk2_option(const uint8_t *bytes, size_t count);
-
-static size_t ours_walk(const uint8_t *bytes, size_t count) { return ours_device_path(bytes, count, bytes, count, 1); }
-static size_t ours_option(const uint8_t *bytes, size_t count) { return ours_load_option(bytes, count, bytes, count, 1); }
 
 typedef size_t call(const uint8_t *bytes, size_t count);
 static volatile size_t kept;
@@ -67,12 +64,12 @@ int main(void)
     for (size_t i = 0; i < sizeof rooms / sizeof *rooms; i++) {
         size_t count = path(bytes, rooms[i]);
         compare("checked", ours_device_path_check, edk2_check, bytes, count);
-        compare("and walked", ours_walk, edk2_walk, bytes, count);
+        compare("and walked", ours_device_path_walk, edk2_walk, bytes, count);
         if (count < 65530) {
             const uint8_t front[] = {1, 0, 0, 0, (uint8_t)count, (uint8_t)(count >> 8), 'b', 0, 'o', 0, 'o', 0, 't', 0, 0, 0};
             memmove(bytes + sizeof front, bytes, count);
             memcpy(bytes, front, sizeof front);
-            compare("a load option", ours_option, edk2_option, bytes, count + sizeof front);
+            compare("a load option", ours_load_option_walk, edk2_option, bytes, count + sizeof front);
         }
     }
     return 0;

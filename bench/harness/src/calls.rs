@@ -2,7 +2,7 @@
 use crate::Call;
 use crate::inputs::{
     Inputs, ascii, cjk, dotted_path, early_emoji, early_latin1, empty_nodes, latin1, long_nodes,
-    path, uneven_path,
+    mixed, path, uneven_path,
 };
 use crate::plain;
 
@@ -118,6 +118,7 @@ unsafe extern "C" {
     fn ours_path_cmp(_: *const u16, _: usize, _: *const u16, _: usize, rounds: usize) -> usize;
     fn ours_components(_: *const u16, _: usize, _: *const u16, _: usize, rounds: usize) -> usize;
     fn ours_parent(_: *const u16, _: usize, _: *const u16, _: usize, rounds: usize) -> usize;
+    fn ours_join(_: *const u16, _: usize, _: *const u16, _: usize, rounds: usize) -> usize;
     fn ours_validate_path(_: *const u16, _: usize, _: *const u16, _: usize, rounds: usize)
     -> usize;
     fn ours_normalize(_: *const u16, _: usize, _: *const u16, _: usize, rounds: usize) -> usize;
@@ -502,6 +503,19 @@ mod ours {
         }
     }
 
+    pub fn join(inputs: &mut Inputs, rounds: usize) -> usize {
+        // SAFETY: each pointer comes with the length of the slice that it is of.
+        unsafe {
+            ours_join(
+                inputs.units[0].as_ptr(),
+                inputs.units[0].len(),
+                inputs.units[1].as_ptr(),
+                inputs.units[1].len(),
+                rounds,
+            )
+        }
+    }
+
     pub fn validate(inputs: &mut Inputs, rounds: usize) -> usize {
         // SAFETY: each pointer comes with the length of the slice that it is of.
         unsafe {
@@ -620,6 +634,13 @@ pub const CALLS: &[Call] = &[
         name: "as_str_in_buf cjk",
         sizes: SIZES,
         inputs: cjk,
+        original: original!(as_str_in_buf),
+        ours: ours::as_str_in_buf,
+    },
+    Call {
+        name: "as_str_in_buf mixed",
+        sizes: SIZES,
+        inputs: mixed,
         original: original!(as_str_in_buf),
         ours: ours::as_str_in_buf,
     },
@@ -897,6 +918,13 @@ pub const CALLS: &[Call] = &[
         ours: ours::parent,
     },
     Call {
+        name: "join",
+        sizes: SIZES,
+        inputs: path,
+        original: original!(join),
+        ours: ours::join,
+    },
+    Call {
         name: "path_buf_from",
         sizes: SIZES,
         inputs: path,
@@ -918,6 +946,13 @@ pub const CALLS: &[Call] = &[
         ours: ours::path_push,
     },
     // Beside plain Rust: the crate keeps its `validate_path` to itself, and has no normal paths.
+    Call {
+        name: "path_push beside plain Rust",
+        sizes: PARTS,
+        inputs: path,
+        original: Some(plain::path_push),
+        ours: ours::path_push,
+    },
     Call {
         name: "validate",
         sizes: SIZES,

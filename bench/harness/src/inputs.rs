@@ -77,6 +77,19 @@ pub fn cjk(size: usize) -> Inputs {
     )
 }
 
+/// A text in which characters of ASCII, of Latin-1 and of CJK alternate at random, so that no processor
+/// predicts the branches over a long one.
+pub fn mixed(size: usize) -> Inputs {
+    let mut state = 1u64;
+    let characters = (0..size).map(|_| {
+        state = state
+            .wrapping_mul(6364136223846793005)
+            .wrapping_add(1442695040888963407);
+        ['a', 'é', '漢'][(state >> 33) as usize % 3]
+    });
+    Inputs::of(characters.collect())
+}
+
 /// A text of ASCII, but for one character at its front: the thirtieth, or the last of a shorter text.
 fn ascii_but(character: char, size: usize) -> Inputs {
     let place = 29.min(size - 1);

@@ -367,6 +367,16 @@ pub fn parent(inputs: &mut Inputs, rounds: usize) -> usize {
 }
 
 #[inline(never)]
+fn joined_len(path: &Path) -> usize {
+    black_box(path.join(path)).to_cstr16().num_chars()
+}
+
+pub fn join(inputs: &mut Inputs, rounds: usize) -> usize {
+    let paths = paths(inputs);
+    repeat(rounds, |k| joined_len(paths[k]))
+}
+
+#[inline(never)]
 fn path_buf_len(string: CString16) -> usize {
     black_box(PathBuf::from(string)).to_cstr16().num_chars()
 }

@@ -1,5 +1,5 @@
-//! Readers of device paths and load options, a judge of paths and a maker of normal paths, in plain Rust, as one would write
-//! them without this library: each length is tested before it is used.
+//! Readers of device paths and load options, a judge of paths, a maker of normal paths and a push, in plain Rust, as one would
+//! write them without this library: each length is tested before it is used.
 use crate::inputs::Inputs;
 
 fn number(bytes: &[u8], at: usize) -> Option<usize> {
@@ -53,6 +53,7 @@ fn load_option_data(bytes: &[u8]) -> usize {
 }
 
 const SEPARATOR: u16 = b'\\' as u16;
+const SLASH: u16 = b'/' as u16;
 const DOT: u16 = b'.' as u16;
 
 /// The characters that no file's name holds.
@@ -186,4 +187,26 @@ pub fn validate(inputs: &mut Inputs, rounds: usize) -> usize {
 
 pub fn normalize(inputs: &mut Inputs, rounds: usize) -> usize {
     repeat(rounds, |k| normal_len(text(inputs, k)))
+}
+
+/// Adds a path to a text, each slash replaced, after a separator where the text needs one.
+#[inline(never)]
+fn push(text: &mut Vec<u16>, part: &[u16]) -> usize {
+    if !part.is_empty() && text.last().is_some_and(|unit| *unit != SEPARATOR) {
+        text.push(SEPARATOR);
+    }
+    let replaced = |unit: &u16| if *unit == SLASH { SEPARATOR } else { *unit };
+    text.extend(part.iter().map(replaced));
+    1
+}
+
+pub fn path_push(inputs: &mut Inputs, rounds: usize) -> usize {
+    let (part, mut path, mut total) = (text(inputs, 0), Vec::new(), 0);
+    for _ in 0..rounds {
+        path.clear();
+        for _ in 0..crate::calls::PUSHES {
+            total += push(&mut path, part);
+        }
+    }
+    total + path.len()
 }

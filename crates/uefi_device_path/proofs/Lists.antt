@@ -1,14 +1,15 @@
 -- Device paths that lie packed are split in one way.
-use Rattle.std.proofs.Common.{◌≡◌, ◌≢◌, ◌∙◌, ap, sym, refl, subst, ℕ, ◌+◌, ◌≤◌, false, List, [], ◌∷◌, ◌++◌, All, length, append_assoc, length-append, inl, inr, arith}
+use Rattle.std.proofs.Common.{◌≡◌, ◌≢◌, ◌∙◌, ap, sym, refl, subst, ℕ, ◌+◌, ◌≤◌, false, List, [], ◌∷◌, ◌++◌, ◌-◌, All, drop, length, take, append_assoc, length-append, inl, inr, arith}
 use Rattle.std.proofs.lemmas.Bool.{cases_Bool}
 use Rattle.std.proofs.lemmas.Grind.{common_steps}
+use Rattle.std.proofs.lemmas.List.{take-append-drop}
 use Rattle.std.proofs.lemmas.List.Elements.{All-head, All-tail, All-append, All-cons, All-nil}
 use Rattle.uefi_device_nodes.specs.Nodes.{Node, IsInner, node_bytes, end_entire}
-use Rattle.uefi_device_path.specs.Paths.{BeginWith, BeginWithPath, nodes_bytes, nodes_in, path_bytes}
-use Rattle.uefi_device_path.specs.PathLists.{ArePacked, ArePaths, BeginWithPaths, IsPathList, ListRefusedFor, is_end_entire, list_bytes, paths_among, paths_in}
+use Rattle.uefi_device_path.specs.Paths.{BeginWith, BeginWithPath, IsPath, nodes_bytes, nodes_in, path_bytes, without_end}
+use Rattle.uefi_device_path.specs.PathLists.{ArePacked, ArePaths, BeginWithPaths, HasFirst, IsPathList, ListRefusedFor, is_end_entire, list_bytes, paths_among, paths_in}
 use Rattle.uefi_device_path.specs.Faults.{RefusedFor}
 use Rattle.uefi_device_path.specs.declared.errors.DevicePathError.{DevicePathError}
-use Rattle.uefi_device_path.proofs.Splits.{Stops-end, nodes_in-nodes_bytes, prefix_free, refused_no_path, refused_once, same_error, same_node, split_once}
+use Rattle.uefi_device_path.proofs.Splits.{Stops-end, begin_long, nodes_in-nodes_bytes, path_front, prefix_free, refused_no_path, refused_once, same_error, same_node, split_once}
 
 -- no inner node is taken for one that ends a path
 inner_goes_on : (n : Node) → IsInner n → is_end_entire n ≡ false
@@ -145,6 +146,26 @@ after_path bytes rest path packed begins = go (paths_in bytes) packed.are_paths 
         let paths_are = All-tail (All IsInner) other paths are in
         let shown : paths_in rest ≡ paths = ap paths_in tails ∙ paths_in-list_bytes paths paths_are in
         (ArePacked-list_bytes paths rest paths_are tails, same ∙ ap (λ k. k ∷ paths) (sym both.0) ∙ ap (λ ks. path ∷ ks) (sym shown))
+
+-- bytes that begin with a device path have it up to the bytes after it
+pub first_here : (bytes after : List ℕ) (path : List Node) → BeginWith bytes path (node_bytes end_entire ++ after)
+    → HasFirst bytes (length bytes - length after)
+first_here bytes after path begins =
+    let rest = node_bytes end_entire ++ after in
+    let long = begin_long bytes path rest begins in
+    let cut : length rest ≡ 4 + length after = omega arith in
+    let len : length bytes - length rest + 4 ≡ length bytes - length after = omega (arith, long, cut) in
+    record { within = omega arith; is_path = subst (λ n. IsPath (take n bytes)) len (path_front bytes path rest after begins refl) }
+
+-- device paths whose first has this length are that one and the others
+pub first_split : (bytes : List ℕ) (n : ℕ) → ArePacked bytes → HasFirst bytes n
+    → ArePacked (drop n bytes) × (paths_in bytes ≡ nodes_in (without_end (take n bytes)) ∷ paths_in (drop n bytes))
+first_split bytes n packed first =
+    let nodes = nodes_in (without_end (take n bytes)) in
+    let path = first.is_path in
+    let front : take n bytes ≡ path_bytes nodes = path.ends ∙ ap (λ k. k ++ node_bytes end_entire) path.nodes.join in
+    let join = sym (take-append-drop n bytes) ∙ ap (λ k. k ++ drop n bytes) front ∙ path_split nodes (drop n bytes) in
+    after_path bytes (drop n bytes) nodes packed (record { inner = path.nodes.inner; join = join })
 
 pub few_paths : (paths : List (List Node)) → length paths ≤ length (list_bytes paths)
 few_paths [] = omega arith

@@ -1,9 +1,9 @@
 -- Device paths that lie packed, one after the other.
-use Rattle.std.specs.Prelude.{◌≡◌, ◌≢◌, ℕ, ◌+◌, ◌==◌, ◌&&◌, Bool, if◌then◌else◌, Some, List, [], ◌∷◌, ◌++◌, length, All}
+use Rattle.std.specs.Prelude.{◌≡◌, ◌≢◌, ℕ, ◌+◌, ◌==◌, ◌&&◌, ◌≤◌, Bool, if◌then◌else◌, Some, List, [], ◌∷◌, ◌++◌, length, take, All}
 use Rattle.std.specs.List.{flat_map, onto_first}
 use Rattle.uefi_device_nodes.specs.NodeFaults.{node_fault}
 use Rattle.uefi_device_nodes.specs.Nodes.{Node, IsInner}
-use Rattle.uefi_device_path.specs.Paths.{nodes_bytes, nodes_in, path_bytes}
+use Rattle.uefi_device_path.specs.Paths.{IsPath, nodes_bytes, nodes_in, path_bytes}
 use Rattle.uefi_device_path.specs.Faults.{RefusedFor}
 use Rattle.uefi_device_path.specs.declared.errors.DevicePathError.{DevicePathError}
 use Rattle.uefi_device_nodes.specs.declared.errors.NodeError.{NodeError}
@@ -44,6 +44,11 @@ pub record ArePacked (bytes : List ℕ) : Type 0 where
 pub record IsPathList (bytes : List ℕ) : Type 0 where
   pub packed : ArePacked bytes
   pub some : paths_in bytes ≢ []
+
+-- bytes begin with a device path of this length
+pub record HasFirst (bytes : List ℕ) (len : ℕ) : Type 0 where
+  pub within : len ≤ length bytes
+  pub is_path : IsPath (take len bytes)
 
 -- after these device paths no other begins, for the reason and at the place that the error says
 pub record RefusesList (bytes : List ℕ) (error : DevicePathError) (paths : List (List Node))

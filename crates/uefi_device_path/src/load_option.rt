@@ -6,7 +6,7 @@ ghost use Rattle.uefi_text.specs.FromSliceWithNul.{with_nul_refusal};
 ghost use Rattle.uefi_text.specs.UnitBytes.{unit_bytes, units_of_bytes};
 ghost use Rattle.uefi_text.specs.Units.{IsNulTerminated, IsString, nul_terminated};
 ghost use Rattle.uefi_text.specs.Views.{items_of};
-ghost use Rattle.uefi_device_path.specs.PathLists.{IsPathList, list_bytes};
+ghost use Rattle.uefi_device_path.specs.PathLists.{HasFirst, IsPathList, list_bytes};
 ghost use Rattle.std.specs.String.{string_bytes};
 ghost use Rattle.uefi_device_path.specs.LoadOptions.{Entry, EntryRefusedFor, IsEntry, entry_bytes, entry_with, lossy_utf8, GivesOption};
 ghost use Rattle.uefi_device_path.specs.LoadOptionParts.{AreWell};
@@ -17,7 +17,7 @@ ghost use Rattle.std.specs.Cmp.Lexicographic.{nat_list_eq_equiv, pointwise, on_t
 
 use crate::errors::{LoadOptionCause, LoadOptionError};
 use crate::load_option_parts::LoadOptionParts;
-use crate::path_list::{DevicePaths, find_fault};
+use crate::path_list::{DevicePaths, check_list};
 use std::alloc::{AllocError, Allocator};
 use std::fmt;
 use std::hash::{Hash, Hasher};
@@ -39,9 +39,12 @@ pub struct LoadOption<'a> {
     attributes: u32,
     description: UnalignedSlice<'a, u16>,
     list: &'a [u8],
+    /// The length of the first path of the list.
+    first_len: usize,
     optional: &'a [u8],
     pub ghost ends: { IsNulTerminated (items_of description) },
     pub ghost is_path_list: { IsPathList list.now },
+    pub ghost first: { HasFirst list.now first_len },
     pub ghost whole: { bytes.now
         ≡ entry_bytes (entry_with attributes (items_of description) list.now optional.now) },
 }
@@ -136,12 +139,13 @@ impl<'a> LoadOption<'a> {
             return Err(LoadOptionParts::without_list(attributes, description, error));
         }
         let (list, optional) = rest.split_at(list_length);
-        match find_fault(list) {
-            Ok(()) => Ok(LoadOption {
+        match check_list(list) {
+            Ok(first_len) => Ok(LoadOption {
                 bytes,
                 attributes,
                 description,
                 list,
+                first_len,
                 optional,
             }),
             Err(fault) => Err(LoadOptionParts::before(attributes, description, start, fault)),
@@ -264,7 +268,7 @@ impl<'a> LoadOption<'a> {
         ensures bound { length (paths_left result) < 2 ^ 64 }
         ensures runs { GivesEach nodes_of paths_left result }
     {
-        DevicePaths::of(self.list)
+        DevicePaths::of_list(self.list, self.first_len)
     }
 
     /// Returns the bytes after the file path list.

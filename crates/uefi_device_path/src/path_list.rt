@@ -1,8 +1,8 @@
 //! Device paths that are packed one after the other.
 #![tactic(auto, unfolding(crate::specs::Views::paths_left))]
 
-ghost use Rattle.std.specs.Prelude.{◌≡◌, ◌≤◌, ◌<◌, ◌^◌, ◌↔◌, length, IsOk, OnOk, IfErr};
-ghost use Rattle.uefi_device_path.specs.PathLists.{ArePacked, BreaksAfter, IsPathList, ListRefusedFor, paths_in};
+ghost use Rattle.std.specs.Prelude.{◌≡◌, ◌≤◌, ◌<◌, ◌^◌, ◌↔◌, length, IfErr, IfOk, IsOk, OnOk};
+ghost use Rattle.uefi_device_path.specs.PathLists.{ArePacked, BreaksAfter, HasFirst, IsPathList, ListRefusedFor, paths_in};
 ghost use Rattle.uefi_device_path.specs.Paths.{AreNodes, nodes_in};
 ghost use Rattle.uefi_device_path.specs.declared.errors.DevicePathError.{DevicePathError};
 ghost use Rattle.uefi_text.specs.Runs.{GivesEach};
@@ -24,21 +24,27 @@ pub(crate) struct ListFault<'a> {
     pub ghost are_nodes: { AreNodes nodes.now },
 }
 
-/// Finds the first fault of bytes that should be one or more device paths, and nothing else.
-pub(crate) fn find_fault(bytes: &[u8]) -> Result<(), ListFault<'_>>
+/// Checks that bytes are one or more device paths, and nothing else. Returns the length of the first
+/// path, or the first fault.
+pub(crate) fn check_list(bytes: &[u8]) -> Result<usize, ListFault<'_>>
     ensures ok { OnOk result (IsPathList bytes.now) }
+    ensures first { IfOk result (λ len. HasFirst bytes.now len) }
     ensures refusal { IfErr result (λ fault. ListRefusedFor bytes.now fault.error) }
     ensures before { IfErr result (λ fault. BreaksAfter bytes.now (paths_in fault.paths.now)
         (nodes_in fault.nodes.now) fault.error.cause) }
     ensures within { IfErr result (λ fault. fault.error.offset ≤ length bytes.now) }
 {
     let mut rest = bytes;
+    let mut first_len = 0;
     'paths: loop {
         let start = bytes.len() - rest.len();
         match DevicePath::read(rest) {
             Ok((_, after)) => {
+                if start == 0 {
+                    first_len = bytes.len() - after.len();
+                }
                 if after.is_empty() {
-                    return Ok(());
+                    return Ok(first_len);
                 }
                 rest = after;
             }
@@ -74,8 +80,8 @@ pub fn check_paths(bytes: &[u8]) -> Result<(), DevicePathError>
         ListRefusedFor bytes.now other → other ≡ error) }
     ensures within { IfErr result (λ error. error.offset ≤ length bytes.now) }
 {
-    match find_fault(bytes) {
-        Ok(()) => Ok(()),
+    match check_list(bytes) {
+        Ok(_) => Ok(()),
         Err(fault) => Err(fault.error),
     }
 }
@@ -84,6 +90,9 @@ pub fn check_paths(bytes: &[u8]) -> Result<(), DevicePathError>
 /// paths that remain.
 #[derive(Drop)]
 pub struct DevicePaths<'a> {
+    /// The first of the paths, if its end is known.
+    first: Option<DevicePath<'a>>,
+    /// The other paths.
     rest: &'a [u8],
     pub ghost packed: { ArePacked rest.now },
 }
@@ -98,7 +107,25 @@ impl<'a> DevicePaths<'a> {
         ensures bound { length (paths_left result) < 2 ^ 64 }
         ensures runs { GivesEach nodes_of paths_left result }
     {
-        DevicePaths { rest: bytes }
+        DevicePaths {
+            first: None,
+            rest: bytes,
+        }
+    }
+
+    /// Creates an iterator over device paths, given as bytes, and as the length of the first of them.
+    pub(crate) fn of_list(bytes: &'a [u8], first_len: usize) -> Self
+        requires packed { ArePacked bytes.now }
+        requires first { HasFirst bytes.now first_len }
+        ensures same { paths_left result ≡ paths_in bytes.now }
+        ensures bound { length (paths_left result) < 2 ^ 64 }
+        ensures runs { GivesEach nodes_of paths_left result }
+    {
+        let (first, rest) = bytes.split_at(first_len);
+        DevicePaths {
+            first: Some(DevicePath::of_path(first)),
+            rest,
+        }
     }
 }
 
@@ -113,6 +140,10 @@ impl<'a> Iterator for DevicePaths<'a> {
     ghost remaining = { item_count paths_left };
 
     fn next(&mut self) -> Option<DevicePath<'a>> {
+        if let Some(first) = self.first {
+            self.first = None;
+            return Some(first);
+        }
         if self.rest.is_empty() {
             return None;
         }
