@@ -13,7 +13,9 @@ pub mod acpi;
 pub mod bios_boot_spec;
 pub mod build_node;
 pub mod errors;
+mod fabric;
 pub mod fields;
+mod flash;
 pub mod hardware;
 #[doc(hidden)]
 pub mod laws;
@@ -23,9 +25,12 @@ mod network;
 pub mod node;
 pub mod node_enum;
 pub mod node_text;
+mod storage;
 #[doc(hidden)]
 pub mod tails;
 pub mod typed_node;
+mod usb;
+mod wireless;
 
 pub use errors::{NodeConversionError, NodeError};
 pub use node::{DevicePathNode, DeviceSubType, DeviceType};

@@ -89,7 +89,8 @@ impl NodeForm for Libefivar {
 /// Puts nodes, given as bytes, with a slash between each two.
 fn put_instance<S: TextSink, F: NodeForm>(sink: &mut S, form: F, bytes: &[u8])
     requires { AreNodes bytes.now }
-    ensures { WritesInCalls S.puts sink.old (instance_text_by (F.node_text form) (nodes_in bytes.now)) sink.new }
+    ensures { WritesInCalls S.puts sink.old
+        (instance_text_by (F.node_text form) (nodes_in bytes.now)) sink.new }
 {
     if bytes.is_empty() {
         return;
@@ -108,7 +109,8 @@ fn put_instance<S: TextSink, F: NodeForm>(sink: &mut S, form: F, bytes: &[u8])
 /// Puts the instances of nodes, given as bytes, with a comma between each two.
 fn put_path<S: TextSink, F: NodeForm>(sink: &mut S, form: F, bytes: &[u8])
     requires { AreNodes bytes.now }
-    ensures { WritesInCalls S.puts sink.old (path_text_by (F.node_text form) (nodes_in bytes.now)) sink.new }
+    ensures { WritesInCalls S.puts sink.old
+        (path_text_by (F.node_text form) (nodes_in bytes.now)) sink.new }
 {
     let (first, after_first) = cut_instance(bytes);
     put_instance(sink, form, first);

@@ -453,8 +453,8 @@ pub const ROW_STARTS: [u16; 13] = [
     0, 6, 16, 25, 34, 52, 87, 100, 110, 119, 135, 150, 164
 ];
 
-/// The first letters of the texts in each group, with a bit for each letter: the bit of a byte is the number of its low
-/// six bits.
+/// The first letters of the texts in each group, with a bit for each letter: the bit of a byte is the number
+/// of its low six bits.
 #[rattlefmt::skip]
 pub const FIRST_LETTERS: [u64; 12] = [
     0x41200c, 0x90842, 0x80000, 0x80000, 0x80000, 0x22000e86256, 0x200, 0x200, 0x200, 0x200000,
