@@ -211,6 +211,15 @@ pub(crate) const READ_BY_EDK2: &str = "\
 02030c000001018000020180 AcpiAdr(0x80010100,0x80010200)
 02031000000101800002018000030180 AcpiAdr(0x80010100,0x80010200,0x80010300)
 01010500ab Path(1,1,ab)
+020106000201 AcpiPath(1,0201)
+030106000201 Msg(1,0201)
+040106000201 MediaPath(1,0201)
+010906000102 HardwarePath(9,0102)
+02090500ab AcpiPath(9,AB)
+036307000102ff Msg(99,0102FF)
+03c80400 Msg(0xC8)
+0463050000 MediaPath(99,00)
+05020600aabb BbsPath(2,AABB)
 02010c00d041080a0000000001010600000101050800000000000302080000000000 PcieRoot(0x0)/Pci(0x1,0x0)/Ctrl(0x0\
     )/Scsi(0x0,0x0)
 02010c00d041030a00000000010106000014030506000400030506000100 PciRoot(0x0)/Pci(0x14,0x0)/USB(0x4,0x0)/USB\
@@ -443,10 +452,9 @@ PciRoot(0x0)/Pci(0x1F,0x2)/Sata(0x0,0xFFFF,0x0)/HD(1,GPT,12345678-9abc-def0-1234
 VendorHw(12345678-9ABC-DEF0-1234-56789ABCDEF0) => no node at offset 0: expected the name of a node at of\
     fset 0
 Infiniband(0x0,0,0x0,0x0,0x0) => no node at offset 0: expected 8 hexadecimal digits at offset 15
-HardwarePath(1,0201) => no node at offset 0: expected the name of a node at offset 0
-AcpiPath(1,0201) => no node at offset 0: expected the name of a node at offset 0
-Msg(1,0201) => no node at offset 0: expected the name of a node at offset 0
-MediaPath(1,0201) => no node at offset 0: expected the name of a node, such as `Media(` at offset 0
+HardwarePath(1,0201) => no node at offset 0: expected a shorter node, or one whose text tells all of it \
+    at offset 20
+BbsPath(2,xy) => no node at offset 0: expected 2 hexadecimal digits at offset 10
 Boot0001* PciRoot(0) => no node at offset 0: expected the name of a node at offset 0
 NVDIMM(12345678-9ABC-DEF0-1234-56789ABCDEF0) => no node at offset 0: expected the name of a node at offs\
     et 0

@@ -1,5 +1,5 @@
 -- Nodes of no kind, where what they expect is put in.
-use Rattle.std.proofs.Common.{◌≡◌, ℕ, false, eqb, List, [], ◌∷◌, ◌++◌, length, refl, sym, ap, subst, ◌∙◌, length-append, arith}
+use Rattle.std.proofs.Common.{◌≡◌, ℕ, true, false, eqb, List, [], ◌∷◌, ◌++◌, length, refl, sym, ap, subst, ◌∙◌, length-append, arith}
 use Rattle.std.specs.Prelude.{Option, Some, None, Result, Ok, Err, codes}
 use Rattle.std.specs.Option.{ok_or}
 use Rattle.std.proofs.lemmas.List.{append_cancel_right}
@@ -7,7 +7,7 @@ use Rattle.uefi_node_table.specs.declared.rows.Tail.TheVariants.{Bytes}
 use Rattle.uefi_device_nodes.specs.Nodes.{Node}
 use Rattle.uefi_node_reader.specs.Helps.{GoesOn, IsThing}
 use Rattle.uefi_node_reader.specs.LenientFields.{after_literal, any_number}
-use Rattle.uefi_node_reader.specs.LenientCalls.{path_told, types_end, types_told, whole}
+use Rattle.uefi_node_reader.specs.LenientCalls.{plain_told, sub_type_end, types_end, types_told, whole}
 use Rattle.uefi_node_reader.specs.Numerals.{has_digit}
 use Rattle.uefi_node_reader.specs.Stops.{◌>?◌, past, rest_end, stop_at, stop_of}
 use Rattle.uefi_node_reader.specs.TableReading.{first_of}
@@ -17,7 +17,7 @@ use Rattle.uefi_node_reader.specs.declared.faults.Expected.TheVariants.{Byte, Nu
 use Rattle.uefi_node_reader.specs.declared.faults.Stop.{Stop}
 use Rattle.uefi_node_reader.proofs.HelpedFields.{past_some}
 use Rattle.uefi_node_reader.proofs.HelpedForms.{end_first, end_goes, end_reads, stop_within, stopped}
-use Rattle.uefi_node_reader.proofs.HelpedTexts.{expects, literal_kept, literal_reads}
+use Rattle.uefi_node_reader.proofs.HelpedTexts.{expects, is_firm, literal_kept, literal_reads}
 use Rattle.uefi_node_reader.proofs.LenientNumbers.{IsApart, none_more, number_taken, number_thing, taken_kept, taken_past}
 use Rattle.uefi_node_reader.proofs.Literals.{after_takes, ok_some}
 use Rattle.uefi_node_reader.proofs.Readings.{Helped, Kept, Reading, Reads, Within, helped_then, kept_then, leaf, leaf_helped, leaf_kept, leaf_reads, left_of, or_stop, reads_then}
@@ -32,9 +32,6 @@ byte = leaf read_byte (Number 255)
 abbrev comma : Reading
 comma = leaf (after (codes ",")) (Byte 44)
 
-abbrev second : Reading
-second text = byte text >? rest_end Bytes (codes ")")
-
 byte_reads : Reads byte
 byte_reads = leaf_reads read_byte (Number 255) (λ text rest e.
     let p = past_some (any_number 256 text) rest e in (taken_past (any_number 256) text p.0 rest (number_taken 256 text p.0 rest p.1)).0)
@@ -45,11 +42,12 @@ comma_reads = leaf_reads (after (codes ",")) (Byte 44) (λ text rest e. (codes "
 first_reads : Reads (λ text. byte text >? comma)
 first_reads = reads_then byte comma byte_reads comma_reads
 
-second_reads : Reads second
+second_reads : Reads sub_type_end
 second_reads = reads_then byte (rest_end Bytes (codes ")")) byte_reads (end_reads Bytes (codes ")"))
 
-types_reads : Reads types_end
-types_reads = reads_then (λ text. byte text >? comma) second first_reads second_reads
+types_reads : (kind : Option ℕ) → Reads (types_end kind)
+types_reads None = reads_then (λ text. byte text >? comma) sub_type_end first_reads second_reads
+types_reads (Some kind) = second_reads
 
 module _ (back thing more : List ℕ) (what : Expected) (is : IsThing what thing more) (closed : eqb (first_of back) 41 ≡ false) where
   abbrev other : List ℕ
@@ -96,35 +94,37 @@ module _ (back thing more : List ℕ) (what : Expected) (is : IsThing what thing
       absurd (omega (arith, ap length p, length-append middle back, length-append left back, l))) e)
       comma_stays
 
-  second_goes : Helped back other n what second
+  second_goes : Helped back other n what sub_type_end
   second_goes = helped_then back other n what byte (rest_end Bytes (codes ")")) byte_reads (end_reads Bytes (codes ")")) byte_goes
       (λ front middle e f. byte_stays front middle (λ l.
       apart_of 41 refl refl (end_first back thing more what is closed (ap (λ (z : List ℕ). rest_end Bytes (codes ")") (z ++ back)) (sym (none_more middle l)) ∙ f))) e)
       (end_goes back thing more what is closed Bytes (codes ")") refl)
 
-  types_go : Helped back other n what types_end
-  types_go = helped_then back other n what (λ text. byte text >? comma) second first_reads second_reads first_goes
+  types_go : (kind : Option ℕ) → Helped back other n what (types_end kind)
+  types_go None = helped_then back other n what (λ text. byte text >? comma) sub_type_end first_reads second_reads first_goes
       (λ front middle e f. first_stays front middle e) second_goes
+  types_go (Some kind) = second_goes
 
   -- a node of no kind that stops goes on
-  pub path_goes : (front : List ℕ) → path_told (after_literal (codes "Path(") (front ++ back)) ≡ Err (Some (stop_at back what))
-      → GoesOn (length more) (path_told (after_literal (codes "Path(") (front ++ (thing ++ more))))
-  path_goes front e = by (after_literal (codes "Path(") (front ++ back)) refl e
+  pub plain_goes : (name : List ℕ) (kind : Option ℕ) → is_firm name false ≡ true → (front : List ℕ)
+      → plain_told kind (after_literal name (front ++ back)) ≡ Err (Some (stop_at back what))
+      → GoesOn (length more) (plain_told kind (after_literal name (front ++ (thing ++ more))))
+  plain_goes name kind firm front e = by (after_literal name (front ++ back)) refl e
     where
-      goes : (rest : List ℕ) → Within n (types_end rest) → (o : Option Node) → GoesOn (length more) (ok_or o (Some (stop_of (types_end rest))))
+      goes : (rest : List ℕ) → Within n (types_end kind rest) → (o : Option Node) → GoesOn (length more) (ok_or o (Some (stop_of (types_end kind rest))))
       goes rest h (Some node) = tt
-      goes rest h None = stop_within n (types_end rest) h
+      goes rest h None = stop_within n (types_end kind rest) h
 
-      stop_is : (rest : List ℕ) (o : Option Node) → ok_or o (Some (stop_of (types_end rest))) ≡ Err (Some (stop_at back what)) → types_end rest ≡ Err (stop_at back what)
+      stop_is : (rest : List ℕ) (o : Option Node) → ok_or o (Some (stop_of (types_end kind rest))) ≡ Err (Some (stop_at back what)) → types_end kind rest ≡ Err (stop_at back what)
       stop_is rest (Some node) q = cc
-      stop_is rest None q = let same : stop_of (types_end rest) ≡ stop_at back what = cc in stopped back thing more what is closed (types_end rest) same
+      stop_is rest None q = let same : stop_of (types_end kind rest) ≡ stop_at back what = cc in stopped back thing more what is closed (types_end kind rest) same
 
-      by : (r : Result (List ℕ) Stop) → after_literal (codes "Path(") (front ++ back) ≡ r → path_told r ≡ Err (Some (stop_at back what))
-          → GoesOn (length more) (path_told (after_literal (codes "Path(") (front ++ (thing ++ more))))
+      by : (r : Result (List ℕ) Stop) → after_literal name (front ++ back) ≡ r → plain_told kind r ≡ Err (Some (stop_at back what))
+          → GoesOn (length more) (plain_told kind (after_literal name (front ++ (thing ++ more))))
       by (Err stop) p q = cc
       by (Ok rest) p q =
-          let t = stop_is rest (whole (types_told rest)) q in
-          let s = left_of back other (front ++ back) rest ((literal_reads (codes "Path(") false).rest (front ++ back) rest p) front refl (types_reads.stop rest (stop_at back what) t) in
-          let start = literal_kept back other (codes "Path(") false refl front s.0 (p ∙ ap (λ (z : List ℕ). Ok z) s.1) in
-          subst (λ (r : Result (List ℕ) Stop). GoesOn (length more) (path_told r)) (sym start)
-          (goes (s.0 ++ other) (types_go s.0 (ap types_end (sym s.1) ∙ t)) (whole (types_told (s.0 ++ other))))
+          let t = stop_is rest (whole (types_told kind rest)) q in
+          let s = left_of back other (front ++ back) rest ((literal_reads name false).rest (front ++ back) rest p) front refl ((types_reads kind).stop rest (stop_at back what) t) in
+          let start = literal_kept back other name false firm front s.0 (p ∙ ap (λ (z : List ℕ). Ok z) s.1) in
+          subst (λ (r : Result (List ℕ) Stop). GoesOn (length more) (plain_told kind r)) (sym start)
+          (goes (s.0 ++ other) (types_go kind s.0 (ap (types_end kind) (sym s.1) ∙ t)) (whole (types_told kind (s.0 ++ other))))

@@ -11,15 +11,19 @@ use Rattle.uefi_device_nodes.specs.Nodes.{Node}
 use Rattle.uefi_node_reader.specs.Ambiguous.{ambiguous_stop, bare_number_left, base_stop, is_empty_call, is_named_alone}
 use Rattle.uefi_node_reader.specs.Helps.{ExpectedHelps, GoesOn}
 use Rattle.uefi_node_reader.specs.LenientFields.{after_literal}
-use Rattle.uefi_node_reader.specs.LenientCalls.{call_told, call_tried, form_tried, forms_tried, or_next, path_told}
+use Rattle.uefi_node_reader.specs.LenientCalls.{call_told, call_tried, form_tried, forms_tried, names_tried, or_next, plain_names, plain_told}
 use Rattle.uefi_node_reader.specs.OtherForms.{pasted_forms}
 use Rattle.uefi_node_reader.specs.Stops.{further, stop_at}
 use Rattle.uefi_node_reader.specs.TableReading.{first_of}
 use Rattle.uefi_node_reader.specs.declared.faults.Expected.TheVariants.{Base}
 use Rattle.uefi_node_reader.specs.declared.faults.Stop.{Stop}
 use Rattle.uefi_node_reader.proofs.HelpedForms.{is_mending, tried_goes}
-use Rattle.uefi_node_reader.proofs.HelpedPaths.{path_goes}
-use Rattle.uefi_node_reader.proofs.HelpedTexts.{expects}
+use Rattle.uefi_node_reader.proofs.HelpedPaths.{plain_goes}
+use Rattle.uefi_node_reader.proofs.HelpedTexts.{expects, is_firm}
+
+-- a name of a call, and the type that it stands for, if it stands for one
+abbrev Name : Type 0
+Name = List ℕ × Option ℕ
 
 table_mends : list_all is_mending forms ≡ true
 unfolding group_forms
@@ -129,32 +133,46 @@ module _ (old new : List ℕ) (n : ℕ) (at : Stop)
   abbrev in_forms : List Form → Stage
   in_forms all text furthest = forms_tried all furthest text
 
-  abbrev in_path : Stage
-  in_path text furthest = or_next (path_told (after_literal (codes "Path(") text)) (λ stop. Err (further furthest stop))
+  abbrev in_names : List Name → Stage
+  in_names names text furthest = names_tried names furthest text
 
-  calls_go : (path_told (after_literal (codes "Path(") old) ≡ Err (Some at) → GoesOn n (path_told (after_literal (codes "Path(") new)))
+  names_keep : (names : List Name) → Keeps (in_names names)
+  names_keep [] stop h = h
+  names_keep (name ∷ names) stop h = next_right n (plain_told name.1 (after_literal name.0 new))
+      (λ last. names_tried names (further stop last) new) (λ last. names_keep names (further stop last) (further_left n stop last h))
+
+  calls_go : ((name : Name) → is_firm name.0 false ≡ true → plain_told name.1 (after_literal name.0 old) ≡ Err (Some at)
+      → GoesOn n (plain_told name.1 (after_literal name.0 new)))
       → call_tried None old ≡ Err (Some at) → GoesOn n (call_tried None new)
-  calls_go path e =
-      elim (stages_go (in_forms forms) (after_stage (in_forms pasted_forms) in_path) (forms_go forms table_mends)
-      (stages_keep (in_forms pasted_forms) in_path (λ stop. forms_keep n pasted_forms stop new) path_keeps)
-      (stages_go (in_forms pasted_forms) in_path (forms_go pasted_forms pasted_mends) path_keeps path_go) None e) [
+  calls_go plain e =
+      elim (stages_go (in_forms forms) (after_stage (in_forms pasted_forms) (in_names plain_names)) (forms_go forms table_mends)
+      (stages_keep (in_forms pasted_forms) (in_names plain_names) (λ stop. forms_keep n pasted_forms stop new) (names_keep plain_names))
+      (stages_go (in_forms pasted_forms) (in_names plain_names) (forms_go pasted_forms pasted_mends) (names_keep plain_names) (names_go plain_names refl)) None e) [
         | inl none ↦ cc
         | inr f ↦ f None
       ]
     where
-      path_keeps : Keeps in_path
-      path_keeps stop h = next_right n (path_told (after_literal (codes "Path(") new)) (λ last. Err (further stop last)) (λ last. further_left n stop last h)
-
-      path_go : Goes in_path
-      path_go furthest e = by (path_told (after_literal (codes "Path(") old)) refl e
+      names_go : (names : List Name) → list_all (λ (name : Name). is_firm name.0 false) names ≡ true → Goes (in_names names)
+      names_go [] firm furthest e = let same : furthest ≡ Some at = cc in inl same
+      names_go (name ∷ names) firm furthest e =
+          let parts = and_parts (is_firm name.0 false) (list_all (λ (name : Name). is_firm name.0 false) names) firm in
+          by (plain_told name.1 (after_literal name.0 old)) refl e (plain name parts.0) (λ stop. names_go names parts.1 (further furthest stop))
         where
-          by : (r : Result Node (Option Stop)) → path_told (after_literal (codes "Path(") old) ≡ r → or_next r (λ stop. Err (further furthest stop)) ≡ Err (Some at)
-              → (furthest ≡ Some at) ⊎ ((found : Option Stop) → GoesOn n (in_path new found))
-          by (Ok node) p q = cc
-          by (Err end) p q = let same : further furthest end ≡ Some at = cc in elim (further_one furthest end at same) [
-            | inl one ↦ inl one
-            | inr one ↦ inr (λ found. next_left n (path_told (after_literal (codes "Path(") new)) (λ stop. Err (further found stop))
-                (path (p ∙ ap (λ (o : Option Stop). Err o) one)) (λ stop. further_right n found stop))
+          by : (r : Result Node (Option Stop)) → plain_told name.1 (after_literal name.0 old) ≡ r
+              → or_next r (λ stop. names_tried names (further furthest stop) old) ≡ Err (Some at)
+              → (plain_told name.1 (after_literal name.0 old) ≡ Err (Some at) → GoesOn n (plain_told name.1 (after_literal name.0 new)))
+              → ((stop : Option Stop) → names_tried names (further furthest stop) old ≡ Err (Some at)
+              → (further furthest stop ≡ Some at) ⊎ ((found : Option Stop) → GoesOn n (names_tried names found new)))
+              → (furthest ≡ Some at) ⊎ ((found : Option Stop) → GoesOn n (names_tried (name ∷ names) found new))
+          by (Ok node) p q here others = cc
+          by (Err stop) p q here others = elim (others stop q) [
+            | inl same ↦ elim (further_one furthest stop at same) [
+              | inl one ↦ inl one
+              | inr one ↦ inr (λ found. next_left n (plain_told name.1 (after_literal name.0 new)) (λ last. names_tried names (further found last) new)
+                  (here (p ∙ ap (λ (o : Option Stop). Err o) one)) (λ last h. names_keep names (further found last) (further_right n found last h)))
+            ]
+            | inr f ↦ inr (λ found. next_right n (plain_told name.1 (after_literal name.0 new)) (λ last. names_tried names (further found last) new)
+                (λ last. f (further found last)))
           ]
 
 -- a call that tells different nodes stops where a base is expected
@@ -188,4 +206,5 @@ expected_helps front back thing more what e bracket is clear = by (ambiguous_sto
         let same : stop ≡ stop_at back what = cc in
         absurd (expects thing more what is Base (sym (base_alone (front ++ back) stop p) ∙ ap (λ (s : Stop). s.expected) same))
     by None p q = based (ambiguous_stop new) clear (calls_go (front ++ back) new (length more) (stop_at back what)
-        (λ form m. tried_goes back thing more what is closed form m front) (path_goes back thing more what is closed front) q)
+        (λ form m. tried_goes back thing more what is closed form m front)
+        (λ name firm. plain_goes back thing more what is closed name.0 name.1 firm front) q)

@@ -1,6 +1,6 @@
 -- What is read leniently is told, and what is read strictly is read so too.
-use Rattle.std.proofs.Common.{◌≡◌, ◌++◌, append_assoc, take, ℕ, suc, ◌+◌, Bool, true, false, cond, eqb, not, ◌==◌, ◌&&◌, ◌⊎◌, List, [], ◌∷◌, drop, refl, sym, ap, subst, ◌∙◌, inl, inr, arith, true≢false}
-use Rattle.std.specs.Prelude.{Option, Some, None, Result, Ok, Err, codes, position}
+use Rattle.std.proofs.Common.{◌≡◌, ◌++◌, append_assoc, take, ℕ, suc, ◌+◌, ◌<◌, Bool, true, false, cond, eqb, not, ◌==◌, ◌&&◌, ◌⊎◌, List, [], ◌∷◌, drop, refl, sym, ap, subst, ◌∙◌, inl, inr, arith, true≢false}
+use Rattle.std.specs.Prelude.{IfSome, Option, Some, None, Result, Ok, Err, codes, position}
 use Rattle.std.specs.Char.{to_ascii_uppercase}
 use Rattle.std.specs.List.{list_all, list_any, position_or_len}
 use Rattle.std.specs.Option.{ok_or, option_map, option_or}
@@ -14,9 +14,9 @@ use Rattle.uefi_node_reader.specs.FieldReading.{read_if}
 use Rattle.uefi_device_nodes.specs.NodeTexts.{node_text}
 use Rattle.uefi_node_reader.specs.LenientFields.{after_letter, after_literal, any_number, begins_base, literal_left, past_base, pieces_set}
 use Rattle.uefi_node_reader.specs.Ambiguous.{ambiguous_stop}
-use Rattle.uefi_node_reader.specs.LenientCalls.{begins_call_name, call_told, call_tried, cut_call, form_told, form_tried, forms_tried, is_textless, named_told, path_told, tidied, told_in, types_told, whole}
+use Rattle.uefi_node_reader.specs.LenientCalls.{begins_call_name, call_told, call_tried, cut_call, form_told, form_tried, forms_tried, is_textless, named_told, names_tried, plain_names, plain_told, sub_type_told, tidied, told_in, types_told, whole}
 use Rattle.uefi_node_reader.specs.LenientNodes.{call_read, or_short, or_textless, IsRestOf, bare_read, begins_call, call_in, end_fault, ended, ended_at, exact_or, cut_file, fault_at_byte, file_in, file_or_call, lenient_read, name_end, named_read, or_fault, rooted, spaced, stop_fault, written_read}
-use Rattle.uefi_node_reader.specs.Stops.{◌>?◌, rest_end, stop_at, stop_of}
+use Rattle.uefi_node_reader.specs.Stops.{◌>?◌, further, rest_end, stop_at, stop_of}
 use Rattle.uefi_node_reader.specs.NamedFiles.{IsTold, ends_name, is_after_node, is_name, name_bytes, name_data, name_read, node_read, past_spaces}
 use Rattle.uefi_node_reader.specs.TableReading.{blank, is_empty, is_read, is_sound, rest_read}
 use Rattle.uefi_node_table.specs.declared.rows.Mode.{Mode}
@@ -115,14 +115,43 @@ whole_read (Some read) node e = by (is_empty read.1) e
     by false q = cc
     by true q = let same : read.0 ≡ node = cc in (read.1, λ i. Some (same i, read.1))
 
-path_is_told : (r : Result (List ℕ) Stop) (node : Node) → path_told r ≡ Ok node → IsTold node
-path_is_told (Err stop) node e = cc
-path_is_told (Ok rest) node e =
-    let read = whole_read (types_told rest) node (ok_some (whole (types_told rest)) _ node e) in
-    let k = bind_some (any_number 256 rest) _ (node, read.0) read.1 in
-    let u = bind_some (after (codes ",") k.0.1) _ (node, read.0) k.2 in
-    let s = bind_some (any_number 256 u.0) _ (node, read.0) u.2 in
-    inr (inl (rest_takes k.0.0 s.0.0 (number_small 256 rest k.0.0 k.0.1 (omega arith) k.1) (number_small 256 u.0 s.0.0 s.0.1 (omega arith) s.1) s.0.1 node read.0 s.2))
+sub_type_is_told : (kind : ℕ) → kind < 256 → (text : List ℕ) (node : Node) (rest : List ℕ)
+    → sub_type_told kind text ≡ Some (node, rest) → IsTold node
+sub_type_is_told kind small text node rest e =
+    let s = bind_some (any_number 256 text) _ (node, rest) e in
+    inr (inl (rest_takes kind s.0.0 small (number_small 256 text s.0.0 s.0.1 (omega arith) s.1) s.0.1 node rest s.2))
+
+types_are_told : (kind : Option ℕ) → IfSome kind (λ n. n < 256) → (text : List ℕ) (node : Node) (rest : List ℕ)
+    → types_told kind text ≡ Some (node, rest) → IsTold node
+types_are_told (Some kind) small text node rest e = sub_type_is_told kind small text node rest e
+types_are_told None small text node rest e =
+    let k = bind_some (any_number 256 text) _ (node, rest) e in
+    let u = bind_some (after (codes ",") k.0.1) _ (node, rest) k.2 in
+    sub_type_is_told k.0.0 (number_small 256 text k.0.0 k.0.1 (omega arith) k.1) u.0 node rest u.2
+
+plain_is_told : (kind : Option ℕ) → IfSome kind (λ n. n < 256) → (r : Result (List ℕ) Stop) (node : Node)
+    → plain_told kind r ≡ Ok node → IsTold node
+plain_is_told kind small (Err stop) node e = cc
+plain_is_told kind small (Ok rest) node e =
+    let read = whole_read (types_told kind rest) node (ok_some (whole (types_told kind rest)) _ node e) in
+    types_are_told kind small rest node read.0 read.1
+
+-- the types that names stand for are bytes
+abbrev AreSmall : List (List ℕ × Option ℕ) → Type 0
+AreSmall [] = Unit {0}
+AreSmall (name ∷ names) = IfSome name.1 (λ n. n < 256) × AreSmall names
+
+names_are_told : (names : List (List ℕ × Option ℕ)) → AreSmall names → (furthest : Option Stop) (text : List ℕ) (node : Node)
+    → names_tried names furthest text ≡ Ok node → IsTold node
+names_are_told [] small furthest text node e = cc
+names_are_told (name ∷ names) small furthest text node e =
+    elim (next_way (plain_told name.1 (after_literal name.0 text)) _ node e) [
+      | inl p ↦ plain_is_told name.1 small.0 (after_literal name.0 text) node p
+      | inr q ↦ names_are_told names small.1 (further furthest q.0) text node q.1
+    ]
+
+plain_small : AreSmall plain_names
+plain_small = (tt, (omega arith, (omega arith, (omega arith, (omega arith, (omega arith, tt))))))
 
 call_is_told : (o : Option Stop) (text : List ℕ) (node : Node) → call_tried o text ≡ Ok node → IsTold node
 call_is_told (Some stop) text node e = cc
@@ -130,10 +159,7 @@ call_is_told None text node e = elim (next_way (forms_tried forms None text) _ n
   | inl p ↦ forms_told forms table_sound None text node p
   | inr q ↦ elim (next_way (forms_tried pasted_forms q.0 text) _ node q.1) [
     | inl p ↦ forms_told pasted_forms pasted_sound q.0 text node p
-    | inr p ↦ elim (next_way (path_told (after_literal (codes "Path(") text)) _ node p.1) [
-      | inl p ↦ path_is_told (after_literal (codes "Path(") text) node p
-      | inr p ↦ cc
-    ]
+    | inr p ↦ names_are_told plain_names plain_small p.0 text node p.1
   ]
 ]
 

@@ -106,23 +106,45 @@ abbrev pub whole : Option (Node × List ℕ) → Option Node
 whole None = None
 whole (Some read) = if is_empty read.1 then Some read.0 else None
 
--- the node of no known kind, from its type on in a tidied text, and the rest of the text
-abbrev pub types_told : List ℕ → Option (Node × List ℕ)
-types_told text = any_number 256 text >>= λ kind.
-    after (codes ",") kind.1 >>= λ u. any_number 256 u >>= λ sub_kind.
-    plain_rest kind.0 sub_kind.0 sub_kind.1
+-- the names of calls for nodes of no known kind, with the type that a name stands for, if the call does not
+-- contain the type
+abbrev pub plain_names : List (List ℕ × Option ℕ)
+plain_names = (codes "Path(", None) ∷ (codes "HardwarePath(", Some 1) ∷ (codes "AcpiPath(", Some 2) ∷
+    (codes "Msg(", Some 3) ∷ (codes "MediaPath(", Some 4) ∷ (codes "BbsPath(", Some 5) ∷ []
 
--- the rest of a text after a node of no known kind, or where the text stops
-abbrev pub types_end : List ℕ → Result (List ℕ) Stop
-types_end text = ok_or (past (any_number 256 text)) (stop_at text (expected.Number 255))
-    >? exact_end (codes ",")
-    >? λ rest. ok_or (past (any_number 256 rest)) (stop_at rest (expected.Number 255))
+-- the node of no known kind of a type, from its sub-type on in a tidied text, and the rest of the text
+abbrev pub sub_type_told : ℕ → List ℕ → Option (Node × List ℕ)
+sub_type_told kind text = any_number 256 text >>= λ sub_kind. plain_rest kind sub_kind.0 sub_kind.1
+
+-- the node of no known kind, from its type on in a tidied text, or from its sub-type on if its type is known,
+-- and the rest of the text
+abbrev pub types_told : Option ℕ → List ℕ → Option (Node × List ℕ)
+types_told None text = any_number 256 text >>= λ kind. after (codes ",") kind.1 >>= sub_type_told kind.0
+types_told (Some kind) text = sub_type_told kind text
+
+-- the rest of a text after a node of no known kind, from its sub-type on, or where the text stops
+abbrev pub sub_type_end : List ℕ → Result (List ℕ) Stop
+sub_type_end text = ok_or (past (any_number 256 text)) (stop_at text (expected.Number 255))
     >? rest_end Bytes (codes ")")
 
--- the node of no known kind that is a whole tidied text from its type on, or where the text stops
-abbrev pub path_told : Result (List ℕ) Stop → Result Node (Option Stop)
-path_told (Err stop) = Err None
-path_told (Ok rest) = ok_or (whole (types_told rest)) (Some (stop_of (types_end rest)))
+-- the rest of a text after a node of no known kind, or where the text stops
+abbrev pub types_end : Option ℕ → List ℕ → Result (List ℕ) Stop
+types_end None text = ok_or (past (any_number 256 text)) (stop_at text (expected.Number 255))
+    >? exact_end (codes ",") >? sub_type_end
+types_end (Some kind) text = sub_type_end text
+
+-- the node of no known kind that is a whole tidied text after its name, or where the text stops
+abbrev pub plain_told : Option ℕ → Result (List ℕ) Stop → Result Node (Option Stop)
+plain_told kind (Err stop) = Err None
+plain_told kind (Ok rest) = ok_or (whole (types_told kind rest)) (Some (stop_of (types_end kind rest)))
+
+-- the node of a tidied text that begins with one of these names, or else where the text stops, at least
+-- `furthest`
+abbrev pub names_tried : List (List ℕ × Option ℕ) → Option Stop → List ℕ → Result Node (Option Stop)
+names_tried [] furthest text = Err furthest
+names_tried (name ∷ names) furthest text =
+    or_next (plain_told name.1 (after_literal name.0 text))
+    (λ stop. names_tried names (further furthest stop) text)
 
 -- the node of a tidied text, in a form of the table, in a form that people paste, or of no known kind, or
 -- where the text stops; a call that becomes ambiguous stops there
@@ -130,7 +152,7 @@ abbrev pub call_tried : Option Stop → List ℕ → Result Node (Option Stop)
 call_tried (Some stop) text = Err (Some stop)
 call_tried None text = or_next (forms_tried forms None text)
     (λ stop. or_next (forms_tried pasted_forms stop text)
-    (λ other. or_next (path_told (after_literal (codes "Path(") text)) (λ last. Err (further other last))))
+    (λ other. names_tried plain_names other text))
 
 -- the node of a tidied text, or where the text stops
 abbrev pub call_told : List ℕ → Result Node (Option Stop)

@@ -2,11 +2,11 @@
 #![tactic(auto)]
 
 ghost use Rattle.std.specs.Option.{option_map};
-ghost use Rattle.std.specs.Prelude.{◌≡◌, IfSome, IsTrue, codes};
+ghost use Rattle.std.specs.Prelude.{◌≡◌, IfSome, IsTrue, map};
 ghost use Rattle.std.specs.Result.{result_map_both};
 ghost use Rattle.uefi_node_table.specs.Rows.{as_form};
 ghost use Rattle.uefi_node_reader.specs.LenientFields.{after_literal};
-ghost use Rattle.uefi_node_reader.specs.LenientCalls.{begins_call_name, call_told, form_told, form_tried, is_textless, named_told, path_told, told_in};
+ghost use Rattle.uefi_node_reader.specs.LenientCalls.{begins_call_name, call_told, form_told, form_tried, is_textless, named_told, names_tried, plain_names, plain_told, told_in};
 ghost use Rattle.uefi_node_reader.specs.TableReading.{form_read, is_filled, is_read, is_sound};
 ghost use Rattle.uefi_node_reader.specs.ParsedNodeViews.{text_node_data, parsed_node};
 
@@ -150,18 +150,58 @@ impl Attempt for Tidied {
     }
 }
 
-/// Reads a node of no known kind from its tidied text, or fails with where the text stops.
-fn try_path(text: &[u8]) -> Result<ParsedNode<'_>, Option<Stop>>
+/// Reads a node of no known kind from its tidied text, if the text begins with this name. Fails with where
+/// the text stops, or with `None` if it begins with another.
+fn try_name<'a>(
+    name: &[u8],
+    device_type: Option<u8>,
+    text: &'a [u8],
+) -> Result<ParsedNode<'a>, Option<Stop>>
     ensures { result_map_both parsed_node (λ e. e) result
-        ≡ path_told (after_literal (codes "Path(") text.now) }
+        ≡ plain_told device_type (after_literal name.now text.now) }
 {
-    let Ok(rest) = after_literal(b"Path(", text) else {
+    let Ok(rest) = after_literal(name, text) else {
         return Err(None);
     };
-    match told_types(rest) {
+    match told_types(device_type, rest) {
         Some((node, [])) => Ok(node),
-        _ => Err(Some(stop_of(types_end(rest)))),
+        _ => Err(Some(stop_of(types_end(device_type, rest)))),
     }
+}
+
+/// Reads a node of no known kind from its tidied text, if the text begins with one of these names. Fails with
+/// `furthest`, or with where the text stops if it was read further.
+fn try_names<'a>(
+    names: &[(&[u8], Option<u8>)],
+    furthest: Option<Stop>,
+    text: &'a [u8],
+) -> Result<ParsedNode<'a>, Option<Stop>>
+    ensures { result_map_both parsed_node (λ e. e) result
+        ≡ names_tried (map (λ name. (name.0.now, name.1)) names.now) furthest text.now }
+{
+    let mut so_far = furthest;
+    for (name, device_type) in names {
+        match try_name(name, *device_type, text) {
+            Ok(node) => return Ok(node),
+            Err(stop) => so_far = further(so_far, stop),
+        }
+    }
+    Err(so_far)
+}
+
+/// Reads a node of no known kind from its tidied text. Fails as [`try_names`] does.
+fn try_plain(furthest: Option<Stop>, text: &[u8]) -> Result<ParsedNode<'_>, Option<Stop>>
+    ensures { result_map_both parsed_node (λ e. e) result ≡ names_tried plain_names furthest text.now }
+{
+    let names: [(&[u8], Option<u8>); 6] = [
+        (b"Path(", None),
+        (b"HardwarePath(", Some(1)),
+        (b"AcpiPath(", Some(2)),
+        (b"Msg(", Some(3)),
+        (b"MediaPath(", Some(4)),
+        (b"BbsPath(", Some(5)),
+    ];
+    try_names(&names, furthest, text)
 }
 
 /// Reads a node from a tidied text, or fails with where the text stops. A call that programs print for
@@ -180,8 +220,5 @@ pub(crate) fn try_call(text: &[u8]) -> Result<ParsedNode<'_>, Option<Stop>>
         Ok(node) => return Ok(node),
         Err(stop) => stop,
     };
-    match try_path(text) {
-        Ok(node) => Ok(node),
-        Err(stop) => Err(further(furthest, stop)),
-    }
+    try_plain(furthest, text)
 }

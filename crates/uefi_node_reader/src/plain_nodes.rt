@@ -7,7 +7,7 @@ ghost use Rattle.std.specs.Result.{result_map_both};
 ghost use Rattle.uefi_device_nodes.specs.Nodes.{node_with};
 ghost use Rattle.uefi_device_nodes.specs.NodeTexts.{is_irregular};
 ghost use Rattle.uefi_node_reader.specs.LenientFields.{any_number};
-ghost use Rattle.uefi_node_reader.specs.LenientCalls.{types_end, types_told};
+ghost use Rattle.uefi_node_reader.specs.LenientCalls.{sub_type_end, sub_type_told, types_end, types_told};
 ghost use Rattle.uefi_node_reader.specs.Numerals.{number_read};
 ghost use Rattle.uefi_node_reader.specs.PlainNodes.{is_plain, plain_read, plain_rest, types_read};
 ghost use Rattle.uefi_node_reader.specs.Stops.{past, stop_at};
@@ -111,23 +111,25 @@ fn any_byte(text: &[u8]) -> Option<(u8, &[u8])>
     Some((value as u8, rest))
 }
 
-/// Reads a type and a sub-type of a tidied text, and returns the rest of the text too.
-fn any_types(text: &[u8]) -> Option<(u8, u8, &[u8])>
-    ensures { option_and_then (λ x. plain_rest x.0 x.1 x.2.now) result ≡ types_told text.now }
+/// Reads a node of no known kind of a type from its sub-type on, as people write it, and returns the rest of
+/// the text too.
+fn told_sub_type(device_type: u8, text: &[u8]) -> Option<(ParsedNode<'_>, &[u8])>
+    ensures { option_map (λ x. (parsed_node x.0, x.1.now)) result ≡ sub_type_told device_type text.now }
 {
-    let (device_type, rest) = any_byte(text)?;
-    let rest = after(b",", rest)?;
-    let (sub_type, rest) = any_byte(rest)?;
-    Some((device_type, sub_type, rest))
+    let (sub_type, rest) = any_byte(text)?;
+    plain_from(device_type, sub_type, rest)
 }
 
-/// Reads a node of no known kind from its type on, as people write it, and returns the rest of the
-/// text too.
-pub(crate) fn told_types(text: &[u8]) -> Option<(ParsedNode<'_>, &[u8])>
-    ensures { option_map (λ x. (parsed_node x.0, x.1.now)) result ≡ types_told text.now }
+/// Reads a node of no known kind from its type on, as people write it, or from its sub-type on if its type
+/// is known. Returns the rest of the text too.
+pub(crate) fn told_types(device_type: Option<u8>, text: &[u8]) -> Option<(ParsedNode<'_>, &[u8])>
+    ensures { option_map (λ x. (parsed_node x.0, x.1.now)) result ≡ types_told device_type text.now }
 {
-    let (device_type, sub_type, rest) = any_types(text)?;
-    plain_from(device_type, sub_type, rest)
+    if let Some(device_type) = device_type {
+        return told_sub_type(device_type, text);
+    }
+    let (device_type, rest) = any_byte(text)?;
+    told_sub_type(device_type, after(b",", rest)?)
 }
 
 /// Reads the number of a byte, and returns the rest of the text.
@@ -141,13 +143,22 @@ fn byte_end(text: &[u8]) -> Result<&[u8], Stop>
     }
 }
 
-/// Reads a node of no known kind from its type on, as people write it, and returns only the rest of
-/// the text.
-pub(crate) fn types_end(text: &[u8]) -> Result<&[u8], Stop>
-    ensures { result_map_both (λ x. x.now) (λ e. e) result ≡ types_end text.now }
+/// Reads a node of no known kind from its sub-type on, as people write it, and returns only the rest of the
+/// text.
+fn sub_type_end(text: &[u8]) -> Result<&[u8], Stop>
+    ensures { result_map_both (λ x. x.now) (λ e. e) result ≡ sub_type_end text.now }
 {
     let rest = byte_end(text)?;
-    let rest = exact_end(b",", rest)?;
-    let rest = byte_end(rest)?;
     rest_end(Tail::Bytes, b")", rest)
+}
+
+/// Reads a node as [`told_types`] does, and returns only the rest of the text.
+pub(crate) fn types_end(device_type: Option<u8>, text: &[u8]) -> Result<&[u8], Stop>
+    ensures { result_map_both (λ x. x.now) (λ e. e) result ≡ types_end device_type text.now }
+{
+    if device_type.is_some() {
+        return sub_type_end(text);
+    }
+    let rest = byte_end(text)?;
+    sub_type_end(exact_end(b",", rest)?)
 }
