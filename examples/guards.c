@@ -22,7 +22,7 @@
 #include "nardcorbel.h"
 
 enum { PAGE = 65536, AREA = 2 * PAGE, FILL = 0xa5, UNCHANGED = 99 };
-enum area { BUFFER = 3, PLACE, CHARACTER, NODE, SCRATCH, AREAS }; /* after the areas of three inputs */
+enum area { BUFFER = 3, PLACE, CHARACTER, NODE, AREAS }; /* after the areas of three inputs */
 
 /* The effect on a buffer, and the meaning of `reason` and `place` of a row. */
 enum rule {
@@ -93,11 +93,13 @@ COMPARES(string_matches) COMPARES(path_equal) COMPARES(path_order) COMPARES(path
 COMPARES(units_equal_ignore_case) COMPARES(units_order_ignore_case) COMPARES(units_matches)
 COMPARES(fat_name_equal) COMPARES(string_equal_until_nul) COMPARES(device_path_is_expansion)
 FINDS(string_with_nul) FINDS(string_until_nul) FINDS(packed_until_nul) FINDS(path_file_name) FINDS(path_parent_length)
-FINDS(device_path_check)
+FINDS(device_path_check) FINDS(lenient_text_extent) FINDS(libefivar_text_extent)
 CHANGES(string_make_uppercase) CHANGES(string_make_lowercase) CHANGES(device_path_begin)
-ADDS(path_push) ADDS(device_path_append) ADDS(device_path_push_text)
+ADDS(path_push) ADDS(device_path_append) ADDS(device_path_push_text) ADDS(device_path_push_lenient_text)
+ADDS(device_path_push_libefivar_text)
 WRITES(units_from_bytes) WRITES(string_from_utf8) WRITES(utf8_from_string) WRITES(path_parent) WRITES(fat_from_string)
 WRITES(fat_from_units) WRITES(string_from_fat) WRITES(device_path_file_path) WRITES(device_path_libefivar_text) WRITES(utf8_from_units_lossy)
+WRITES(lenient_text_fault) WRITES(libefivar_text_fault)
 CALL(path_verdict, IN(0), place, JUDGED)
 CALL(path_next_component, IN(0), place, (nard_size *)buffer.at, (nard_size *)buffer.at + 1)
 CALL(device_path_needs, IN(0), place, (nard_size *)buffer.at)
@@ -124,41 +126,6 @@ static nard_result call_device_path_next_node(void)
     nard_size fields[] = {node->device_type, node->sub_type, node->start, node->length};
     memcpy(buffer.at, reason == NARD_OK ? (const void *)fields : node, reason == NARD_OK ? sizeof fields : sizeof *node);
     return reason;
-}
-
-/* The second buffer has `number` bytes. */
-static nard_result call_device_path_push_lenient_text(void)
-{
-    nard_byte *scratch = put(SCRATCH, NULL, number);
-    return nard_device_path_push_lenient_text(OUT, IN(0), scratch, number, place);
-}
-
-static nard_result call_device_path_push_libefivar_text(void)
-{
-    nard_byte *scratch = put(SCRATCH, NULL, number);
-    return nard_device_path_push_libefivar_text(OUT, IN(0), scratch, number, place);
-}
-
-static nard_result call_libefivar_text_fault(void)
-{
-    nard_byte *scratch = put(SCRATCH, NULL, number);
-    return nard_libefivar_text_fault(IN(0), scratch, number, OUT, place);
-}
-
-static nard_result call_lenient_text_fault(void)
-{
-    nard_byte *scratch = put(SCRATCH, NULL, number);
-    return nard_lenient_text_fault(IN(0), scratch, number, OUT, place);
-}
-
-static nard_result call_lenient_text_extent(void)
-{
-    return nard_lenient_text_extent(IN(0), put(SCRATCH, NULL, number), number, place);
-}
-
-static nard_result call_libefivar_text_extent(void)
-{
-    return nard_libefivar_text_extent(IN(0), put(SCRATCH, NULL, number), number, place);
 }
 
 /* The number of a name or of an order is the character then. */
@@ -413,52 +380,43 @@ static const struct row rows[] = {
     FAULT(device_path_push_text, REFUSED, NO_NODE, 3, .before = BYTES(PCI END), .in = {BYTES("\\a/Pci(0x1f,0x0)")}),
     FAULT(device_path_push_text, REFUSED, NOT_UTF8, 1, .before = BYTES(END), .in = {BYTES("x\xc3")}),
     FAULT(device_path_push_text, REFUSED, UNKNOWN_END, 1, .before = BYTES(UNKNOWN), .in = {BYTES("\xc3")}),
-    ROW(device_path_push_lenient_text, WHOLE, .before = BYTES(PCI END "x"), .in = {BYTES("pci( 31, 0 )/File(a)")}, .number = 21,
+    ROW(device_path_push_lenient_text, WHOLE, .before = BYTES(PCI END "x"), .in = {BYTES("pci( 31, 0 )/File(a)")},
         .out = BYTES(PCI PCI FILE_A END)),
-    ROW(device_path_push_lenient_text, WHOLE, .before = BYTES(END), .in = {BYTES(",\\a")}, .number = 4,
+    ROW(device_path_push_lenient_text, WHOLE, .before = BYTES(END), .in = {BYTES(",\\a")},
         .out = BYTES("\x7f\1\4\0" FILE_A END)),
-    ROW(device_path_push_lenient_text, WHOLE, .before = BYTES(PCI END), .in = {BYTES("")}, .number = 1, .out = BYTES(PCI END)),
+    ROW(device_path_push_lenient_text, WHOLE, .before = BYTES(PCI END), .in = {BYTES("")}, .out = BYTES(PCI END)),
     /* Bytes and texts of libefivar, which efibootmgr prints. */
     ROW(device_path_push_lenient_text, WHOLE, .before = BYTES(END),
-        .in = {BYTES("PciRoot(0x0)/Pci(0x1f,0x2)/Sata(0,65535,0)")}, .number = 43,
+        .in = {BYTES("PciRoot(0x0)/Pci(0x1f,0x2)/Sata(0,65535,0)")},
         .out = BYTES("\2\1\14\0\xd0\x41\3\12\0\0\0\0" "\1\1\6\0\2\x1f" "\3\x12\12\0\0\0\xff\xff\0\0" END)),
     ROW(device_path_push_lenient_text, WHOLE, .before = BYTES(END),
-        .in = {BYTES("HD(1,GPT,76543210-ba98-fedc-0102-030405060708,0x800,0x64000)/File(\\EFI\\a)")}, .number = 74,
+        .in = {BYTES("HD(1,GPT,76543210-ba98-fedc-0102-030405060708,0x800,0x64000)/File(\\EFI\\a)")},
         .out = BYTES("\4\1\x2a\0\1\0\0\0\0\10\0\0\0\0\0\0\0\x40\6\0\0\0\0\0\x10\x32\x54\x76\x98\xba\xdc\xfe\1\2\3\4\5\6\7\10\2\2"
                      "\4\4\x12\0\\\0E\0F\0I\0\\\0a\0\0\0" END)),
-    FAULT(device_path_push_lenient_text, REFUSED, SCRATCH_TOO_SMALL, 3, .before = BYTES(PCI END), .in = {BYTES("(a")}, .number = 2),
-    FAULT(device_path_push_lenient_text, REFUSED, NO_NODE, 7, .before = BYTES(PCI END), .in = {BYTES("\\a/Pci(0x100)")},
-          .number = 14),
+    FAULT(device_path_push_lenient_text, REFUSED, NO_NODE, 7, .before = BYTES(PCI END), .in = {BYTES("\\a/Pci(0x100)")}),
     FAULT(device_path_push_lenient_text, REFUSED, NOT_UTF8, 1, .before = BYTES(END), .in = {BYTES("x\xc3")}),
     FAULT(device_path_push_lenient_text, REFUSED, UNKNOWN_END, 1, .before = BYTES(UNKNOWN), .in = {BYTES("\xc3")}),
     ROW(device_path_push_libefivar_text, WHOLE, .before = BYTES(END), .in = {BYTES("NVMe(0xc,00-25-38-B3-91-B0-4C-5D)")},
-        .number = 34, .out = BYTES("\3\x17\x10\0\14\0\0\0\0\x25\x38\xb3\x91\xb0\x4c\x5d" END)),
-    ROW(device_path_push_libefivar_text, WHOLE, .before = BYTES(END), .in = {BYTES("Ata(1,0,12)")}, .number = 12,
+        .out = BYTES("\3\x17\x10\0\14\0\0\0\0\x25\x38\xb3\x91\xb0\x4c\x5d" END)),
+    ROW(device_path_push_libefivar_text, WHOLE, .before = BYTES(END), .in = {BYTES("Ata(1,0,12)")},
         .out = BYTES("\3\1\10\0\1\0\14\0" END)),
-    FAULT(device_path_push_libefivar_text, REFUSED, SCRATCH_TOO_SMALL, 3, .before = BYTES(PCI END), .in = {BYTES("(a")},
-          .number = 2),
-    FAULT(device_path_push_libefivar_text, REFUSED, NO_NODE, 8, .before = BYTES(PCI END), .in = {BYTES("PciRoot(12)")},
-          .number = 12),
+    FAULT(device_path_push_libefivar_text, REFUSED, NO_NODE, 8, .before = BYTES(PCI END), .in = {BYTES("PciRoot(12)")}),
     FAULT(device_path_push_libefivar_text, REFUSED, NOT_UTF8, 1, .before = BYTES(END), .in = {BYTES("x\xc3")}),
     FAULT(device_path_push_libefivar_text, REFUSED, UNKNOWN_END, 1, .before = BYTES(UNKNOWN), .in = {BYTES("\xc3")}),
-    ROW(libefivar_text_fault, TEXT, .in = {BYTES("PciRoot(0x0)/SAS(0x1)")}, .number = 22,
+    ROW(libefivar_text_fault, TEXT, .in = {BYTES("PciRoot(0x0)/SAS(0x1)")},
         .out = UNITS(u"no node at offset 13: expected a shorter node, or one whose text tells all of it at offset 17")),
-    ROW(libefivar_text_fault, TEXT, .in = {BYTES("file(a)")}, .number = 8, .out = UNITS(u"")),
-    FAULT(libefivar_text_fault, REFUSED, SCRATCH_TOO_SMALL, 3, .in = {BYTES("(a")}, .number = 2),
+    ROW(libefivar_text_fault, TEXT, .in = {BYTES("file(a)")}, .out = UNITS(u"")),
     FAULT(libefivar_text_fault, REFUSED, NOT_UTF8, 1, .in = {BYTES("x\xc3")}),
-    ROW(lenient_text_fault, TEXT, .in = {BYTES("PciRoot(0)/Pci(256,0)")}, .number = 22,
+    ROW(lenient_text_fault, TEXT, .in = {BYTES("PciRoot(0)/Pci(256,0)")},
         .out = UNITS(u"no node at offset 11: expected a number up to 0xFF at offset 15")),
-    ROW(lenient_text_fault, TEXT, .in = {BYTES("file(a)")}, .number = 8, .out = UNITS(u"")),
-    FAULT(lenient_text_fault, REFUSED, SCRATCH_TOO_SMALL, 3, .in = {BYTES("(a")}, .number = 2),
+    ROW(lenient_text_fault, TEXT, .in = {BYTES("file(a)")}, .out = UNITS(u"")),
     FAULT(lenient_text_fault, REFUSED, NOT_UTF8, 1, .in = {BYTES("x\xc3")}),
-    ROW(lenient_text_extent, READ, .in = {BYTES("Pci(0,1)/File(\\a)\xc3\1")}, .number = 20, .place = 17),
-    ROW(lenient_text_extent, READ, .in = {BYTES("Pci(0,1) , Pci(0,2)")}, .number = 20, .place = 19),
-    ROW(lenient_text_extent, READ, .in = {BYTES("")}, .number = 1, .place = 0),
-    FAULT(lenient_text_extent, READ, NO_NODE, 9, .in = {BYTES("Pci(0,1)/")}, .number = 10),
-    FAULT(lenient_text_extent, READ, SCRATCH_TOO_SMALL, 3, .in = {BYTES("(a")}, .number = 2),
-    ROW(libefivar_text_extent, READ, .in = {BYTES("Ata(1,0,12)..")}, .number = 14, .place = 11),
-    FAULT(libefivar_text_extent, READ, NO_NODE, 6, .in = {BYTES("Fibre(1)..")}, .number = 11),
-    FAULT(libefivar_text_extent, READ, SCRATCH_TOO_SMALL, 3, .in = {BYTES("(a")}, .number = 2),
+    ROW(lenient_text_extent, READ, .in = {BYTES("Pci(0,1)/File(\\a)\xc3\1")}, .place = 17),
+    ROW(lenient_text_extent, READ, .in = {BYTES("Pci(0,1) , Pci(0,2)")}, .place = 19),
+    ROW(lenient_text_extent, READ, .in = {BYTES("")}, .place = 0),
+    FAULT(lenient_text_extent, READ, NO_NODE, 9, .in = {BYTES("Pci(0,1)/")}),
+    ROW(libefivar_text_extent, READ, .in = {BYTES("Ata(1,0,12)..")}, .place = 11),
+    FAULT(libefivar_text_extent, READ, NO_NODE, 6, .in = {BYTES("Fibre(1)..")}),
     ROW(load_option_write, WHOLE, .in = {UNITS(u"b\0c"), BYTES(PCI FILE_A END FILE_A), BYTES("x")}, .number = 0xf00000001,
         .out = BYTES(OPTION)),
     ROW(load_option_write, WHOLE, .in = {UNITS(u"b"), {full_list, 65535, 1}, BYTES("")}, .out = {full_option, 65545, 1}),

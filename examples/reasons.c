@@ -13,7 +13,7 @@
 
 #include "nardcorbel.h"
 
-enum { REASONS = 34, TOO_SMALL = 4 };
+enum { REASONS = 33, TOO_SMALL = 4 };
 
 static uint64_t status_of(nard_result reason)
 {

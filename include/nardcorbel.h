@@ -122,8 +122,7 @@ extern "C" {
     REASON(NOT_A_NAME, 29, "no load option has the name or the kind") \
     REASON(END_OF_ORDER, 30, "the order ends here") /* nothing is wrong */ \
     REASON(NO_NODE, 31, "no node") \
-    REASON(NO_FIELD, 32, "no such field") \
-    REASON(SCRATCH_TOO_SMALL, 33, "scratch too small")
+    REASON(NO_FIELD, 32, "no such field") /* 33 is not used */
 
 enum nard_reason {
 #define NARD_AS_CONSTANT(name, number, text) NARD_##name = number,
@@ -762,12 +761,9 @@ nard_result NARD_CALL nard_device_path_push_text(nard_byte *buffer, nard_size ro
  * text of an NVMe node is the specification's text of another node: use nard_device_path_push_libefivar_text to read efibootmgr's
  * output.
  *
- *   scratch, scratch_room   for copies of calls and names: one byte more than the text; it then contains anything
- *
  * Returns NARD_OK, or the first of these that holds
  *   as nard_device_path_check of the buffer, with its *length
  *   NARD_NOT_UTF8           the first *length bytes are UTF-8, and the next are not
- *   NARD_SCRATCH_TOO_SMALL  scratch_room < *length, which is byte_count + 1
  *   NARD_NO_NODE            a node can't be read; *length is the offset of the first wrong byte, or of the wrong number, digits or
  *                           name, or byte_count if the text ends too early
  *   NARD_BUFFER_TOO_SMALL   room < *length, the size that the path would have, or SIZE_MAX if the size is larger
@@ -775,8 +771,7 @@ nard_result NARD_CALL nard_device_path_push_text(nard_byte *buffer, nard_size ro
  * unchanged.
  */
 nard_result NARD_CALL nard_device_path_push_lenient_text(nard_byte *buffer, nard_size room, const nard_byte *bytes,
-                                                         nard_size byte_count, nard_byte *scratch, nard_size scratch_room,
-                                                         nard_size *length);
+                                                         nard_size byte_count, nard_size *length);
 
 /*
  * Adds the nodes of a text, as libefivar and efibootmgr print it, to the device path that a buffer begins with, before its end. The
@@ -788,8 +783,7 @@ nard_result NARD_CALL nard_device_path_push_lenient_text(nard_byte *buffer, nard
  * has the same arguments and results.
  */
 nard_result NARD_CALL nard_device_path_push_libefivar_text(nard_byte *buffer, nard_size room, const nard_byte *bytes,
-                                                           nard_size byte_count, nard_byte *scratch, nard_size scratch_room,
-                                                           nard_size *length);
+                                                           nard_size byte_count, nard_size *length);
 
 /*
  * Finds the end of the path at the start of a text. Other data may follow the path: efibootmgr -v prints optional data directly
@@ -798,22 +792,17 @@ nard_result NARD_CALL nard_device_path_push_libefivar_text(nard_byte *buffer, na
  * If nard_device_path_push_lenient_text reads the whole text, the path is the whole text. If that call stops at a byte because a
  * node should end there, the path is the text before this byte. The data that follow need not be UTF-8.
  *
- *   scratch, scratch_room   for copies: one byte more than the text; it then contains anything
- *
  * Returns
- *   NARD_OK                 *length is the size of the path's text in bytes
- *   NARD_SCRATCH_TOO_SMALL  scratch_room < *length, which is byte_count + 1
- *   NARD_NO_NODE            the text does not begin with a path; *length is as from nard_device_path_push_lenient_text
+ *   NARD_OK        *length is the size of the path's text in bytes
+ *   NARD_NO_NODE   the text does not begin with a path; *length is as from nard_device_path_push_lenient_text
  */
-nard_result NARD_CALL nard_lenient_text_extent(const nard_byte *bytes, nard_size byte_count, nard_byte *scratch,
-                                               nard_size scratch_room, nard_size *length);
+nard_result NARD_CALL nard_lenient_text_extent(const nard_byte *bytes, nard_size byte_count, nard_size *length);
 
 /*
  * Finds the end of the path at the start of a text that libefivar or efibootmgr printed. The path is as
  * nard_device_path_push_libefivar_text reads it; the arguments and results are as for nard_lenient_text_extent.
  */
-nard_result NARD_CALL nard_libefivar_text_extent(const nard_byte *bytes, nard_size byte_count, nard_byte *scratch,
-                                                 nard_size scratch_room, nard_size *length);
+nard_result NARD_CALL nard_libefivar_text_extent(const nard_byte *bytes, nard_size byte_count, nard_size *length);
 
 /*
  * Writes in words why a text is refused. The words say why nard_device_path_push_lenient_text returns NARD_NO_NODE, as UTF-16 with
@@ -821,24 +810,21 @@ nard_result NARD_CALL nard_libefivar_text_extent(const nard_byte *bytes, nard_si
  *     no node at offset 11: expected a number up to 0xFF at offset 20
  * If that call reads the text, the words are empty.
  *
- *   scratch, scratch_room   for copies: one byte more than the text; it then contains anything
- *
  * Returns NARD_OK, or the first of these that holds
  *   NARD_NOT_UTF8           the first *length bytes are UTF-8, and the next are not
- *   NARD_SCRATCH_TOO_SMALL  scratch_room < *length, which is byte_count + 1
  *   NARD_BUFFER_TOO_SMALL   room <= *length, the length of the words in units without their NUL
  * If the call returns NARD_OK, the words and a NUL were written, *length is their length without it, and the rest of the buffer is
  * unchanged. Otherwise the buffer is unchanged.
  */
-nard_result NARD_CALL nard_lenient_text_fault(const nard_byte *bytes, nard_size byte_count, nard_byte *scratch,
-                                              nard_size scratch_room, nard_unit *buffer, nard_size room, nard_size *length);
+nard_result NARD_CALL nard_lenient_text_fault(const nard_byte *bytes, nard_size byte_count, nard_unit *buffer, nard_size room,
+                                              nard_size *length);
 
 /*
  * Writes in words why a text of libefivar is refused. The words say why nard_device_path_push_libefivar_text returns NARD_NO_NODE, as
  * nard_lenient_text_fault says it for nard_device_path_push_lenient_text.
  */
-nard_result NARD_CALL nard_libefivar_text_fault(const nard_byte *bytes, nard_size byte_count, nard_byte *scratch,
-                                                nard_size scratch_room, nard_unit *buffer, nard_size room, nard_size *length);
+nard_result NARD_CALL nard_libefivar_text_fault(const nard_byte *bytes, nard_size byte_count, nard_unit *buffer, nard_size room,
+                                                nard_size *length);
 
 /*
  * Writes a load option of one device path, the value of a variable Boot####.
@@ -1359,44 +1345,44 @@ static inline NARD_MUST_USE nard_result NARD_CALL nard_call_device_path_push_tex
 #define nard_device_path_push_text nard_call_device_path_push_text
 
 static inline NARD_MUST_USE nard_result NARD_CALL nard_call_device_path_push_lenient_text(nard_byte *buffer, nard_size room,
-        const nard_byte *bytes, nard_size byte_count, nard_byte *scratch, nard_size scratch_room, nard_size *length)
+        const nard_byte *bytes, nard_size byte_count, nard_size *length)
 {
-    return nard_device_path_push_lenient_text(nard_given_byte_room(buffer), room, nard_given_bytes(bytes), byte_count, nard_given_byte_room(scratch), scratch_room, length);
+    return nard_device_path_push_lenient_text(nard_given_byte_room(buffer), room, nard_given_bytes(bytes), byte_count, length);
 }
 #define nard_device_path_push_lenient_text nard_call_device_path_push_lenient_text
 
 static inline NARD_MUST_USE nard_result NARD_CALL nard_call_device_path_push_libefivar_text(nard_byte *buffer, nard_size room,
-        const nard_byte *bytes, nard_size byte_count, nard_byte *scratch, nard_size scratch_room, nard_size *length)
+        const nard_byte *bytes, nard_size byte_count, nard_size *length)
 {
-    return nard_device_path_push_libefivar_text(nard_given_byte_room(buffer), room, nard_given_bytes(bytes), byte_count, nard_given_byte_room(scratch), scratch_room, length);
+    return nard_device_path_push_libefivar_text(nard_given_byte_room(buffer), room, nard_given_bytes(bytes), byte_count, length);
 }
 #define nard_device_path_push_libefivar_text nard_call_device_path_push_libefivar_text
 
 static inline NARD_MUST_USE nard_result NARD_CALL nard_call_lenient_text_extent(const nard_byte *bytes, nard_size byte_count,
-        nard_byte *scratch, nard_size scratch_room, nard_size *length)
+        nard_size *length)
 {
-    return nard_lenient_text_extent(nard_given_bytes(bytes), byte_count, nard_given_byte_room(scratch), scratch_room, length);
+    return nard_lenient_text_extent(nard_given_bytes(bytes), byte_count, length);
 }
 #define nard_lenient_text_extent nard_call_lenient_text_extent
 
 static inline NARD_MUST_USE nard_result NARD_CALL nard_call_libefivar_text_extent(const nard_byte *bytes, nard_size byte_count,
-        nard_byte *scratch, nard_size scratch_room, nard_size *length)
+        nard_size *length)
 {
-    return nard_libefivar_text_extent(nard_given_bytes(bytes), byte_count, nard_given_byte_room(scratch), scratch_room, length);
+    return nard_libefivar_text_extent(nard_given_bytes(bytes), byte_count, length);
 }
 #define nard_libefivar_text_extent nard_call_libefivar_text_extent
 
 static inline NARD_MUST_USE nard_result NARD_CALL nard_call_lenient_text_fault(const nard_byte *bytes, nard_size byte_count,
-        nard_byte *scratch, nard_size scratch_room, nard_unit *buffer, nard_size room, nard_size *length)
+        nard_unit *buffer, nard_size room, nard_size *length)
 {
-    return nard_lenient_text_fault(nard_given_bytes(bytes), byte_count, nard_given_byte_room(scratch), scratch_room, nard_given_unit_room(buffer), room, length);
+    return nard_lenient_text_fault(nard_given_bytes(bytes), byte_count, nard_given_unit_room(buffer), room, length);
 }
 #define nard_lenient_text_fault nard_call_lenient_text_fault
 
 static inline NARD_MUST_USE nard_result NARD_CALL nard_call_libefivar_text_fault(const nard_byte *bytes, nard_size byte_count,
-        nard_byte *scratch, nard_size scratch_room, nard_unit *buffer, nard_size room, nard_size *length)
+        nard_unit *buffer, nard_size room, nard_size *length)
 {
-    return nard_libefivar_text_fault(nard_given_bytes(bytes), byte_count, nard_given_byte_room(scratch), scratch_room, nard_given_unit_room(buffer), room, length);
+    return nard_libefivar_text_fault(nard_given_bytes(bytes), byte_count, nard_given_unit_room(buffer), room, length);
 }
 #define nard_libefivar_text_fault nard_call_libefivar_text_fault
 

@@ -20,7 +20,7 @@ static void (*edk2_forget)(void);
 static char text[4096];
 static uint16_t wide[4096], other[4096], pattern[64];
 static size_t count, pattern_count, path_size, place;
-static nard_byte path[16384], scratch[4096];
+static nard_byte path[16384];
 static uint16_t room[16384];
 static volatile size_t kept;
 
@@ -29,7 +29,7 @@ static void start_path(void) { memcpy(path, "\x7f\xff\x04\x00", 4); }
 static void our_lenient(void)
 {
     start_path();
-    kept += nard_device_path_push_lenient_text(path, sizeof path, (const nard_byte *)text, count, scratch, sizeof scratch, &place);
+    kept += nard_device_path_push_lenient_text(path, sizeof path, (const nard_byte *)text, count, &place);
 }
 
 static void our_strict(void)

@@ -36,7 +36,7 @@ static _Thread_local struct {
 /* -1, and errno for a reason. */
 static int refused(nard_result reason)
 {
-    errno = reason == NARD_BUFFER_TOO_SMALL ? ENOSPC : reason == NARD_SCRATCH_TOO_SMALL ? ENOMEM : EINVAL;
+    errno = reason == NARD_BUFFER_TOO_SMALL ? ENOSPC : EINVAL;
     return -1;
 }
 
@@ -103,12 +103,9 @@ API ssize_t efidp_format_device_path(char *buf, size_t size, const uint8_t *dp, 
 /* Writes the path that a text means to a buffer. */
 static nard_result read_text(const char *text, uint8_t *buffer, nard_size room, nard_size *length)
 {
-    nard_size count = strlen(text);
-    uint8_t *scratch = malloc(count + 1);
-    nard_result reason = scratch ? nard_device_path_begin(buffer, room, length) : NARD_SCRATCH_TOO_SMALL;
+    nard_result reason = nard_device_path_begin(buffer, room, length);
     if (reason == NARD_OK)
-        reason = nard_device_path_push_lenient_text(buffer, room, (const uint8_t *)text, count, scratch, count + 1, length);
-    free(scratch);
+        reason = nard_device_path_push_lenient_text(buffer, room, (const uint8_t *)text, strlen(text), length);
     return reason;
 }
 

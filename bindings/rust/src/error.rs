@@ -125,7 +125,6 @@ reasons! {
     EndOfOrder = END_OF_ORDER, "the order ends here";
     NoNode = NO_NODE, "no node";
     NoField = NO_FIELD, "no such field";
-    ScratchTooSmall = SCRATCH_TOO_SMALL, "scratch too small";
 }
 
 impl fmt::Display for Error {
@@ -135,9 +134,7 @@ impl fmt::Display for Error {
             write!(f, ", {character:?} (U+{:04X})", u32::from(character))?;
         }
         match self.reason {
-            Reason::BufferTooSmall | Reason::ScratchTooSmall => {
-                write!(f, ": it needs room for {}", self.place)
-            }
+            Reason::BufferTooSmall => write!(f, ": it needs room for {}", self.place),
             Reason::PathEmpty
             | Reason::NoParent
             | Reason::NodeOfEnd

@@ -34,7 +34,6 @@ pub const NOT_A_NAME: u32 = 29;
 pub const END_OF_ORDER: u32 = 30;
 pub const NO_NODE: u32 = 31;
 pub const NO_FIELD: u32 = 32;
-pub const SCRATCH_TOO_SMALL: u32 = 33;
 pub const BOOT: u8 = 0;
 pub const DRIVER: u8 = 1;
 pub const SYS_PREP: u8 = 2;
@@ -242,24 +241,24 @@ call!(nard_device_path_append(buffer: &mut [u8], bytes: &[u8], length: &mut usiz
 call!(nard_device_path_push_text(buffer: &mut [u8], bytes: &[u8], length: &mut usize) -> u32
     as (buffer.as_mut_ptr(), buffer.len(), bytes.as_ptr(), bytes.len(), length)
     of (*mut u8, usize, *const u8, usize, *mut usize));
-call!(nard_device_path_push_lenient_text(buffer: &mut [u8], bytes: &[u8], scratch: &mut [u8], length: &mut usize) -> u32
-    as (buffer.as_mut_ptr(), buffer.len(), bytes.as_ptr(), bytes.len(), scratch.as_mut_ptr(), scratch.len(), length)
-    of (*mut u8, usize, *const u8, usize, *mut u8, usize, *mut usize));
-call!(nard_device_path_push_libefivar_text(buffer: &mut [u8], bytes: &[u8], scratch: &mut [u8], length: &mut usize) -> u32
-    as (buffer.as_mut_ptr(), buffer.len(), bytes.as_ptr(), bytes.len(), scratch.as_mut_ptr(), scratch.len(), length)
-    of (*mut u8, usize, *const u8, usize, *mut u8, usize, *mut usize));
-call!(nard_lenient_text_extent(bytes: &[u8], scratch: &mut [u8], length: &mut usize) -> u32
-    as (bytes.as_ptr(), bytes.len(), scratch.as_mut_ptr(), scratch.len(), length)
-    of (*const u8, usize, *mut u8, usize, *mut usize));
-call!(nard_libefivar_text_extent(bytes: &[u8], scratch: &mut [u8], length: &mut usize) -> u32
-    as (bytes.as_ptr(), bytes.len(), scratch.as_mut_ptr(), scratch.len(), length)
-    of (*const u8, usize, *mut u8, usize, *mut usize));
-call!(nard_lenient_text_fault(bytes: &[u8], scratch: &mut [u8], buffer: &mut [u16], length: &mut usize) -> u32
-    as (bytes.as_ptr(), bytes.len(), scratch.as_mut_ptr(), scratch.len(), buffer.as_mut_ptr(), buffer.len(), length)
-    of (*const u8, usize, *mut u8, usize, *mut u16, usize, *mut usize));
-call!(nard_libefivar_text_fault(bytes: &[u8], scratch: &mut [u8], buffer: &mut [u16], length: &mut usize) -> u32
-    as (bytes.as_ptr(), bytes.len(), scratch.as_mut_ptr(), scratch.len(), buffer.as_mut_ptr(), buffer.len(), length)
-    of (*const u8, usize, *mut u8, usize, *mut u16, usize, *mut usize));
+call!(nard_device_path_push_lenient_text(buffer: &mut [u8], bytes: &[u8], length: &mut usize) -> u32
+    as (buffer.as_mut_ptr(), buffer.len(), bytes.as_ptr(), bytes.len(), length)
+    of (*mut u8, usize, *const u8, usize, *mut usize));
+call!(nard_device_path_push_libefivar_text(buffer: &mut [u8], bytes: &[u8], length: &mut usize) -> u32
+    as (buffer.as_mut_ptr(), buffer.len(), bytes.as_ptr(), bytes.len(), length)
+    of (*mut u8, usize, *const u8, usize, *mut usize));
+call!(nard_lenient_text_extent(bytes: &[u8], length: &mut usize) -> u32
+    as (bytes.as_ptr(), bytes.len(), length)
+    of (*const u8, usize, *mut usize));
+call!(nard_libefivar_text_extent(bytes: &[u8], length: &mut usize) -> u32
+    as (bytes.as_ptr(), bytes.len(), length)
+    of (*const u8, usize, *mut usize));
+call!(nard_lenient_text_fault(bytes: &[u8], buffer: &mut [u16], length: &mut usize) -> u32
+    as (bytes.as_ptr(), bytes.len(), buffer.as_mut_ptr(), buffer.len(), length)
+    of (*const u8, usize, *mut u16, usize, *mut usize));
+call!(nard_libefivar_text_fault(bytes: &[u8], buffer: &mut [u16], length: &mut usize) -> u32
+    as (bytes.as_ptr(), bytes.len(), buffer.as_mut_ptr(), buffer.len(), length)
+    of (*const u8, usize, *mut u16, usize, *mut usize));
 call!(nard_load_option_write(attributes: usize, description: &[u16], bytes: &[u8], optional: &[u8], buffer: &mut [u8], length: &mut usize) -> u32
     as (attributes, description.as_ptr(), description.len(), bytes.as_ptr(), bytes.len(), optional.as_ptr(), optional.len(), buffer.as_mut_ptr(), buffer.len(), length)
     of (usize, *const u16, usize, *const u8, usize, *const u8, usize, *mut u8, usize, *mut usize));

@@ -1,7 +1,6 @@
 -- A caller sees what became of what a call writes.
-use Rattle.std.proofs.Common.{◌≡◌, refl, subst, ℕ, ◌+◌, ◌<◌, ◌≤◌, ◌^◌, Bool, true, false, nat_lt, ◌&&◌, not, if◌then◌else◌, List, [], ◌∷◌, ◌++◌, All, length, Option, None, Some, Result, Ok, Err, arith}
+use Rattle.std.proofs.Common.{◌≡◌, refl, subst, ℕ, ◌<◌, ◌^◌, Bool, true, false, nat_lt, if◌then◌else◌, List, [], ◌∷◌, ◌++◌, All, length, Option, None, Some, Result, Ok, Err, arith}
 use Rattle.std.proofs.lemmas.Grind.{common_steps}
-use Rattle.std.proofs.lemmas.Bool.Decides.{nat_tests}
 use Rattle.std.specs.Prelude.{IfOk, OnErr, OnOk}
 use Rattle.std.specs.Result.{result_err, result_map_both}
 use Rattle.uefi_text.specs.Packed.{IsByte}
@@ -19,7 +18,6 @@ use Rattle.uefi_device_path.specs.Nodes.{Node}
 use Rattle.uefi_device_path.specs.OptionBuilding.{room_fault, written_where}
 use Rattle.uefi_device_path.specs.Paths.{BeginWithPath, path_bytes}
 use Rattle.uefi_device_path.specs.StyledReading.{IsReadAs, ReadingStopsAt, lenient_refusal, path_read}
-use Rattle.uefi_device_path.specs.Styles.{HasScratch, is_copied}
 use Rattle.uefi_device_path.specs.TextStyle.{TextStyle}
 use Rattle.uefi_device_path.specs.declared.errors.BuildError.{BuildError}
 use Rattle.uefi_device_path.specs.declared.errors.BuildError.TheVariants as build
@@ -28,15 +26,14 @@ use Rattle.uefi_device_path.specs.declared.errors.GrowError.{GrowError}
 use Rattle.uefi_device_path.specs.declared.errors.GrowError.TheVariants.{Build, Path}
 use Rattle.uefi_device_path.specs.declared.errors.OptionBuildError.{OptionBuildError}
 use Rattle.uefi_device_path.specs.declared.lenient_errors.PushLenientTextError.{PushLenientTextError}
-use Rattle.uefi_device_path.specs.declared.lenient_errors.PushLenientTextError.TheVariants.{NoNode, ScratchTooSmall}
+use Rattle.uefi_device_path.specs.declared.lenient_errors.PushLenientTextError.TheVariants.{NoNode}
 use Rattle.uefi_device_path.specs.declared.lenient_errors.TextFault.{TextFault}
 use Rattle.nardcorbel.specs.DevicePathBuffers.{entry_of_path}
-use Rattle.nardcorbel.specs.Outcomes.{Shows, ShowsNumber, when_read, refusal_at, unless}
+use Rattle.nardcorbel.specs.Outcomes.{Shows, ShowsNumber, when_read, unless}
 use Rattle.nardcorbel.specs.Outcomes.Outcome.{Content, Number, Text}
 use Rattle.nardcorbel.specs.Reading.{read_path, read_text}
-use Rattle.nardcorbel.specs.Refusals.{build_refused, fault_refusal, grow_refused, missing_scratch, option_refused, path_refusal, room_refused, text_refused}
+use Rattle.nardcorbel.specs.Refusals.{build_refused, fault_refusal, grow_refused, option_refused, path_refusal, room_refused, text_refused}
 use Rattle.nardcorbel.specs.declared.outcomes.Refusal.{Refusal}
-use Rattle.nardcorbel.specs.declared.reasons.TheConstants.{SCRATCH_TOO_SMALL}
 
 -- what a call reports of what it gives
 abbrev pub Reports : {E : Type 0} → (E → Refusal) → Result ℕ E → ℕ → ℕ → ℕ → Type 0
@@ -165,34 +162,18 @@ added_by style old new nodes (Ok others) (Err error) before returned number smal
       buffer = grind (arith, common_steps);
     }
 
--- the same by the second buffer
-pub added : (style : TextStyle) (old new text scratch : List ℕ) (nodes : List Node) (given : Result ℕ PushLenientTextError) (before returned number : ℕ)
+-- the same of a text
+pub added : (style : TextStyle) (old new text : List ℕ) (nodes : List Node) (given : Result ℕ PushLenientTextError) (before returned number : ℕ)
     → length old < 2 ^ 63
-    → (is_copied style ≡ true → length scratch ≤ length text → given ≡ Err (ScratchTooSmall (length text + 1)))
-    → (HasScratch style text scratch → (fault : TextFault) → ReadingStopsAt style text fault → given ≡ Err (NoNode fault))
-    → ((others : List Node) → HasScratch style text scratch → IsReadAs style text others → result_err given ≡ lenient_refusal nodes others (length old))
+    → ((fault : TextFault) → ReadingStopsAt style text fault → given ≡ Err (NoNode fault))
+    → ((others : List Node) → IsReadAs style text others → result_err given ≡ lenient_refusal nodes others (length old))
     → ((others : List Node) → IsReadAs style text others → IfOk given (λ len. len ≡ length (path_bytes (nodes ++ others))))
     → ((others : List Node) → IsReadAs style text others → OnOk given (new ≡ with_prefix (path_bytes (nodes ++ others)) old))
     → OnErr given (new ≡ old) → Reports (text_refused style) given before returned number
-    → Shows (unless (missing_scratch style text scratch) (refusal_at SCRATCH_TOO_SMALL)
-    (when_read (read_text style text) (λ others. Content (path_bytes (nodes ++ others))))) before old returned number new
+    → Shows (when_read (read_text style text) (λ others. Content (path_bytes (nodes ++ others)))) before old returned number new
 unfolding read_text
-added style old new text scratch nodes given before returned number small no_scratch stops refusal len_is wrote none shown =
-    by (is_copied style) refl (nat_lt (length text) (length scratch)) refl
-  where
-    there : HasScratch style text scratch
-        → Shows (when_read (result_map_both (λ ns. ns) (fault_refusal style) (path_read style text)) (λ others. Content (path_bytes (nodes ++ others)))) before old returned number new
-    there has = added_by style old new nodes (path_read style text) given before returned number small (stops has) (λ others e. refusal others has e) len_is wrote none shown
-
-    by : (copied : Bool) → is_copied style ≡ copied → (room : Bool) → nat_lt (length text) (length scratch) ≡ room
-        → Shows (unless (if copied && not room then Some (length text + 1) else None) (refusal_at SCRATCH_TOO_SMALL)
-        (when_read (result_map_both (λ ns. ns) (fault_refusal style) (path_read style text)) (λ others. Content (path_bytes (nodes ++ others))))) before old returned number new
-    by true e false f =
-        let same = no_scratch e (grind (arith, nat_tests, f)) in
-        let said = subst (λ r. Reports (text_refused style) r before returned number) same shown in
-        record { reason = said.reason; place = said.place; buffer = subst (λ r. OnErr r (new ≡ old)) same none }
-    by true e true f = there (λ _. grind (arith, nat_tests, f))
-    by false e room f = there (λ yes. absurd (cc (e, yes)))
+added style old new text nodes given before returned number small stops refusal len_is wrote none shown =
+    added_by style old new nodes (path_read style text) given before returned number small stops refusal len_is wrote none shown
 
 -- a load option that was written, or why it was not
 pub entry_by : (entry : Entry) (fault : Option OptionBuildError) (old new : List ℕ) (given : Result ℕ OptionBuildError) (before returned number : ℕ) → number < 2 ^ 64

@@ -5,17 +5,15 @@ use Rattle.uefi_device_path.specs.Nodes.{Node}
 use Rattle.uefi_device_path.specs.OptionBuilding.{fields_fault}
 use Rattle.uefi_device_path.specs.Paths.{path_bytes}
 use Rattle.uefi_device_path.specs.TextStyle.{TextStyle}
-use Rattle.nardcorbel.specs.Outcomes.{Outcome, when_read, refusal_at, unless}
+use Rattle.nardcorbel.specs.Outcomes.{Outcome, when_read, unless}
 use Rattle.nardcorbel.specs.Outcomes.Outcome.{Content}
 use Rattle.nardcorbel.specs.Reading.{read_text, read_utf8}
-use Rattle.nardcorbel.specs.Refusals.{missing_scratch, option_refused}
-use Rattle.nardcorbel.specs.declared.reasons.TheConstants.{SCRATCH_TOO_SMALL}
+use Rattle.nardcorbel.specs.Refusals.{option_refused}
 
 -- the nodes of a text in UTF-8, read in a style, are added to these
-abbrev pub added_text : TextStyle → List ℕ → List ℕ → List Node → Outcome
-added_text style bytes scratch nodes = when_read (read_utf8 bytes) (λ text.
-    unless (missing_scratch style text scratch) (refusal_at SCRATCH_TOO_SMALL)
-    (when_read (read_text style text) (λ others. Content (path_bytes (nodes ++ others)))))
+abbrev pub added_text : TextStyle → List ℕ → List Node → Outcome
+added_text style bytes nodes = when_read (read_utf8 bytes) (λ text.
+    when_read (read_text style text) (λ others. Content (path_bytes (nodes ++ others))))
 
 -- the load option of one device path
 abbrev pub entry_of_path : ℕ → List ℕ → List Node → List ℕ → Entry

@@ -1,5 +1,5 @@
 -- The errors of the library as a caller in C sees them: a reason, and the place at fault.
-use Rattle.std.specs.Prelude.{ℕ, ◌+◌, ◌-◌, ◌&&◌, not, nat_lt, if◌then◌else◌, List, length, Option, Some, None}
+use Rattle.std.specs.Prelude.{ℕ, ◌-◌, List, length}
 use Rattle.uefi_text.specs.declared.errors.FromSliceUntilNulError.{FromSliceUntilNulError}
 use Rattle.uefi_text.specs.declared.errors.FromSliceUntilNulError.TheVariants as until_nul
 use Rattle.uefi_text.specs.declared.errors.FromSliceWithNulError.{FromSliceWithNulError}
@@ -19,12 +19,12 @@ use Rattle.uefi_device_path.specs.declared.errors.OptionBuildError.TheVariants a
 use Rattle.uefi_device_path.specs.declared.lenient_errors.PushLenientTextError.{PushLenientTextError}
 use Rattle.uefi_device_path.specs.declared.lenient_errors.PushLenientTextError.TheVariants as text
 use Rattle.uefi_device_path.specs.declared.lenient_errors.TextFault.{TextFault}
-use Rattle.uefi_device_path.specs.Styles.{is_copied}
 use Rattle.uefi_device_path.specs.TextStyle.{TextStyle}
+use Rattle.uefi_device_path.specs.TextStyle.TheVariants.{Printed, Lenient, Libefivar}
 use Rattle.nardcorbel.specs.Outcomes.{refusal_at, refusal_for}
 use Rattle.nardcorbel.specs.Reasons.{name_reason, node_reason, option_reason, with_nul_reason}
 use Rattle.nardcorbel.specs.declared.outcomes.Refusal.{Refusal}
-use Rattle.nardcorbel.specs.declared.reasons.TheConstants.{NO_NUL, INVALID_CHAR, INTERIOR_NUL, BUFFER_TOO_SMALL, EMPTY_LIST, NODE_OF_END, NODE_TOO_LONG, LIST_TOO_LONG, NO_NODE, SCRATCH_TOO_SMALL}
+use Rattle.nardcorbel.specs.declared.reasons.TheConstants.{NO_NUL, INVALID_CHAR, INTERIOR_NUL, BUFFER_TOO_SMALL, EMPTY_LIST, NODE_OF_END, NODE_TOO_LONG, LIST_TOO_LONG, NO_NODE}
 
 -- units that begin with no string: the place is that of the unit at fault, or after all of them if a NUL is
 -- missing; memory is never the reason
@@ -85,18 +85,15 @@ option_refused option.TooLong = refusal_for LIST_TOO_LONG
 option_refused (option.BufferTooSmall needed) = refusal_at BUFFER_TOO_SMALL needed
 option_refused option.OutOfMemory = refusal_for BUFFER_TOO_SMALL
 
--- the fault of a text in a style: where its node begins, or, if the text is copied, the byte that is wrong
+-- the fault of a text in a style: where its node begins if the style is that of printed texts, and
+-- otherwise the byte that is wrong
 abbrev pub fault_refusal : TextStyle → TextFault → Refusal
-fault_refusal style fault = refusal_at NO_NODE (if is_copied style then fault.byte else fault.node)
+fault_refusal Printed fault = refusal_at NO_NODE fault.node
+fault_refusal Lenient fault = refusal_at NO_NODE fault.byte
+fault_refusal Libefivar fault = refusal_at NO_NODE fault.byte
 
 -- a text in a style whose nodes are not added
 abbrev pub text_refused : TextStyle → PushLenientTextError → Refusal
 text_refused style (text.Path error) = path_refusal error
-text_refused style (text.ScratchTooSmall needed) = refusal_at SCRATCH_TOO_SMALL needed
 text_refused style (text.NoNode fault) = fault_refusal style fault
 text_refused style (text.BufferTooSmall needed) = refusal_at BUFFER_TOO_SMALL needed
-
--- how long the second buffer has to be, if it is not longer than a text that is copied
-abbrev pub missing_scratch : TextStyle → List ℕ → List ℕ → Option ℕ
-missing_scratch style text scratch =
-    if is_copied style && not (nat_lt (length text) (length scratch)) then Some (length text + 1) else None

@@ -8,10 +8,9 @@ use Rattle.uefi_device_path.specs.TextStyle.{TextStyle}
 use Rattle.uefi_device_path.specs.declared.lenient_errors.PushLenientTextError.{PushLenientTextError}
 use Rattle.uefi_device_path.specs.declared.lenient_errors.PushLenientTextError.TheVariants.{NoNode}
 use Rattle.uefi_device_path.specs.declared.lenient_errors.TextFault.{TextFault}
-use Rattle.nardcorbel.specs.Outcomes.{Outcome, when_read, refusal_at, unless}
+use Rattle.nardcorbel.specs.Outcomes.{Outcome, when_read, refusal_at}
 use Rattle.nardcorbel.specs.Outcomes.Outcome.{Number, Text}
-use Rattle.nardcorbel.specs.Refusals.{fault_refusal, missing_scratch}
-use Rattle.nardcorbel.specs.declared.reasons.TheConstants.{SCRATCH_TOO_SMALL}
+use Rattle.nardcorbel.specs.declared.reasons.TheConstants.{NO_NODE}
 
 -- the fault of a text whose nodes are not added, if that is why
 abbrev pub fault_in : PushLenientTextError → Option TextFault
@@ -23,14 +22,12 @@ abbrev pub fault_text : Option TextFault → List ℕ
 fault_text None = []
 fault_text (Some fault) = text_fault_text fault
 
--- the fault of a text that is copied, in words
-abbrev pub fault_outcome : TextStyle → List ℕ → List ℕ → Outcome
-fault_outcome style scratch text =
-    unless (missing_scratch style text scratch) (refusal_at SCRATCH_TOO_SMALL)
-    (Text (utf16_units (fault_text (result_err (path_read style text)))))
+-- the fault of a text in a style, in words
+abbrev pub fault_outcome : TextStyle → List ℕ → Outcome
+fault_outcome style text = Text (utf16_units (fault_text (result_err (path_read style text))))
 
--- how many bytes of a text that is copied are the path that it begins with
-abbrev pub extent_outcome : TextStyle → List ℕ → List ℕ → Outcome
-extent_outcome style text scratch =
-    unless (missing_scratch style text scratch) (refusal_at SCRATCH_TOO_SMALL)
-    (when_read (result_map_both (λ end. end) (fault_refusal style) (text_extent style text)) Number)
+-- how many bytes of a text are the path that it begins with, or the byte that is wrong
+abbrev pub extent_outcome : TextStyle → List ℕ → Outcome
+extent_outcome style text =
+    when_read (result_map_both (λ end. end) (λ fault. refusal_at NO_NODE fault.byte) (text_extent style text))
+    Number

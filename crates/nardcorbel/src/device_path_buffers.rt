@@ -14,7 +14,7 @@ ghost use Rattle.nardcorbel.specs.Reading.{read_path, read_string};
 ghost use Rattle.nardcorbel.specs.Refusals.{build_refused, grow_refused, text_refused};
 
 use crate::outcomes::{Refusal, Refused, read_path, read_string, read_utf8, refuse, report};
-use crate::reasons::{BUFFER_TOO_SMALL, NO_NODE, SCRATCH_TOO_SMALL};
+use crate::reasons::{BUFFER_TOO_SMALL, NO_NODE};
 use uefi_device_path::build::RawNode;
 use uefi_device_path::{
     DevicePath, DeviceSubType, DeviceType, LoadOptionBuilder, PushLenientTextError, TextStyle,
@@ -126,14 +126,13 @@ pub extern "C" fn nard_device_path_append(buffer: &mut [u8], bytes: &[u8], place
     report(append_in_buf(buffer, path), place)
 }
 
-/// Returns why the nodes of a text are not added. The place of a fault is where its node begins,
-/// or, if the text is copied, the byte that is wrong.
+/// Returns why the nodes of a text are not added. The place of a fault is where its node begins if
+/// the style is that of printed texts, and otherwise the byte that is wrong.
 fn text_refused(style: TextStyle, error: PushLenientTextError) -> Refusal
     ensures { result ≡ text_refused style error }
 {
     match error {
         PushLenientTextError::Path(error) => error.refusal(),
-        PushLenientTextError::ScratchTooSmall(needed) => Refusal::at(SCRATCH_TOO_SMALL, needed),
         PushLenientTextError::NoNode(fault) => match style {
             TextStyle::Printed => Refusal::at(NO_NODE, fault.node),
             TextStyle::Lenient | TextStyle::Libefivar => Refusal::at(NO_NODE, fault.byte),
@@ -144,14 +143,8 @@ fn text_refused(style: TextStyle, error: PushLenientTextError) -> Refusal
 
 /// Adds the nodes of a text in UTF-8, read in a style, before the end of the device path at the
 /// start of a buffer.
-fn push_styled_text(
-    style: TextStyle,
-    buffer: &mut [u8],
-    bytes: &[u8],
-    scratch: &mut [u8],
-    place: &mut usize,
-) -> u32
-    ensures { Shows (when_read (read_path buffer.old) (added_text style bytes.now scratch.old))
+fn push_styled_text(style: TextStyle, buffer: &mut [u8], bytes: &[u8], place: &mut usize) -> u32
+    ensures { Shows (when_read (read_path buffer.old) (added_text style bytes.now))
         place.old buffer.old result place.new buffer.new }
 {
     if let Err(refusal) = read_path(buffer) {
@@ -161,7 +154,7 @@ fn push_styled_text(
         Ok(text) => text,
         Err(refusal) => return refuse(refusal, place),
     };
-    match push_styled_text_in_buf(style, buffer, text, scratch) {
+    match push_styled_text_in_buf(style, buffer, text) {
         Ok(len) => report::<Refusal>(Ok(len), place),
         Err(error) => refuse(text_refused(style, error), place),
     }
@@ -188,10 +181,10 @@ pub extern "C" fn nard_device_path_push_text(
     bytes: &[u8],
     place: &mut usize,
 ) -> u32
-    ensures { Shows (when_read (read_path buffer.old) (added_text Printed bytes.now []))
+    ensures { Shows (when_read (read_path buffer.old) (added_text Printed bytes.now))
         place.old buffer.old result place.new buffer.new }
 {
-    push_styled_text(TextStyle::Printed, buffer, bytes, &mut [], place)
+    push_styled_text(TextStyle::Printed, buffer, bytes, place)
 }
 
 /// Adds the nodes of a text in UTF-8, as people write it, before the end of the device path at the
@@ -203,25 +196,22 @@ pub extern "C" fn nard_device_path_push_text(
 /// |---|---|---|
 /// | of [`nard_device_path_check`] | the buffer does not begin with a device path | of that call |
 /// | `NOT_UTF8` | the bytes are not UTF-8 | the number of bytes before the fault |
-/// | `SCRATCH_TOO_SMALL` | `scratch` is not longer than the bytes | the length that it needs |
 /// | `NO_NODE` | the text is not read as a path | the byte of it that is wrong, or its length |
 /// | `BUFFER_TOO_SMALL` | the buffer is too small | the size that the path needs |
 ///
 /// At `OK`, `place` becomes the size of the path. A size above the greatest `usize` is given as the
 /// greatest `usize`. If the call fails, the buffer is unchanged. Bytes after the path are never
-/// changed. Afterwards the contents of `scratch` are unspecified. Does not allocate (UEFI
-/// Specification 2.10, section 10.6.1).
+/// changed. Does not allocate (UEFI Specification 2.10, section 10.6.1).
 #[unsafe(no_mangle)]
 pub extern "C" fn nard_device_path_push_lenient_text(
     buffer: &mut [u8],
     bytes: &[u8],
-    scratch: &mut [u8],
     place: &mut usize,
 ) -> u32
-    ensures { Shows (when_read (read_path buffer.old) (added_text Lenient bytes.now scratch.old))
+    ensures { Shows (when_read (read_path buffer.old) (added_text Lenient bytes.now))
         place.old buffer.old result place.new buffer.new }
 {
-    push_styled_text(TextStyle::Lenient, buffer, bytes, scratch, place)
+    push_styled_text(TextStyle::Lenient, buffer, bytes, place)
 }
 
 /// Adds the nodes of a text in UTF-8 that libefivar and efibootmgr print before the end of the
@@ -231,13 +221,12 @@ pub extern "C" fn nard_device_path_push_lenient_text(
 pub extern "C" fn nard_device_path_push_libefivar_text(
     buffer: &mut [u8],
     bytes: &[u8],
-    scratch: &mut [u8],
     place: &mut usize,
 ) -> u32
-    ensures { Shows (when_read (read_path buffer.old) (added_text Libefivar bytes.now scratch.old))
+    ensures { Shows (when_read (read_path buffer.old) (added_text Libefivar bytes.now))
         place.old buffer.old result place.new buffer.new }
 {
-    push_styled_text(TextStyle::Libefivar, buffer, bytes, scratch, place)
+    push_styled_text(TextStyle::Libefivar, buffer, bytes, place)
 }
 
 /// Returns whether both begin with a device path, and the second is a short form of the first, as

@@ -107,8 +107,7 @@ pub const NO_NODE: u32 = 31;
 /// The data of a node has no number of this width at this place.
 pub const NO_FIELD: u32 = 32;
 
-/// The second buffer is not longer than the text.
-pub const SCRATCH_TOO_SMALL: u32 = 33;
+// The number 33 is not used again: it was `SCRATCH_TOO_SMALL` in version 0.7.0.
 
 /// The order of two strings if one of them is not a string: the least number of its type, so that
 /// no test for "greater" holds.
@@ -158,7 +157,6 @@ pub fn numbers()
     ensures end_of_order { END_OF_ORDER ≡ 30 }
     ensures no_node { NO_NODE ≡ 31 }
     ensures no_field { NO_FIELD ≡ 32 }
-    ensures scratch_too_small { SCRATCH_TOO_SMALL ≡ 33 }
     ensures no_order { NO_ORDER ≡ negsuc 2147483647 }
 {}
 

@@ -1,23 +1,18 @@
 //! The end of the path at the start of a text in bytes.
-ghost use Rattle.std.specs.Prelude.{◌≡◌, IsTrue};
-ghost use Rattle.uefi_device_path.specs.Styles.{is_copied};
+ghost use Rattle.std.specs.Prelude.{◌≡◌};
 ghost use Rattle.uefi_device_path.specs.TextStyle.TheVariants.{Lenient, Libefivar};
 ghost use Rattle.nardcorbel.specs.Outcomes.{ShowsNumber};
 ghost use Rattle.nardcorbel.specs.TextFaults.{extent_outcome};
 
 use crate::outcomes::{Refusal, refuse, report};
-use crate::reasons::{NO_NODE, SCRATCH_TOO_SMALL};
+use crate::reasons::NO_NODE;
 use uefi_device_path::{TextStyle, styled_text_extent};
 
 /// Reports how many bytes at the start of a text are a path in a style.
-fn find_extent(style: TextStyle, bytes: &[u8], scratch: &mut [u8], place: &mut usize) -> u32
-    requires { IsTrue (is_copied style) }
-    ensures { ShowsNumber (extent_outcome style bytes.now scratch.old) place.old result place.new }
+fn find_extent(style: TextStyle, bytes: &[u8], place: &mut usize) -> u32
+    ensures { ShowsNumber (extent_outcome style bytes.now) place.old result place.new }
 {
-    if scratch.len() <= bytes.len() {
-        return refuse(Refusal::at(SCRATCH_TOO_SMALL, bytes.len() + 1), place);
-    }
-    match styled_text_extent(style, bytes, scratch) {
+    match styled_text_extent(style, bytes) {
         Ok(end) => report::<Refusal>(Ok(end), place),
         Err(fault) => refuse(Refusal::at(NO_NODE, fault.byte), place),
     }
@@ -26,31 +21,21 @@ fn find_extent(style: TextStyle, bytes: &[u8], scratch: &mut [u8], place: &mut u
 /// Reports how many bytes at the start of a text, as people write it, are a path, as
 /// [`lenient_text_extent`](uefi_device_path) does: programs print other data directly after a path.
 ///
-/// A `scratch` that is not longer than the bytes is refused as `SCRATCH_TOO_SMALL`, and `place`
-/// becomes the length that it needs. Then a text that does not begin with a path is refused as
-/// `NO_NODE`, and `place` becomes the byte of it that is wrong, or its length. Otherwise `place`
-/// becomes the number of bytes of the path. The bytes after it need not be UTF-8. Afterwards the
-/// contents of `scratch` are unspecified. Does not allocate.
+/// A text that does not begin with a path is refused as `NO_NODE`, and `place` becomes the byte of
+/// it that is wrong, or its length. Otherwise `place` becomes the number of bytes of the path. The
+/// bytes after it need not be UTF-8. Does not allocate.
 #[unsafe(no_mangle)]
-pub extern "C" fn nard_lenient_text_extent(
-    bytes: &[u8],
-    scratch: &mut [u8],
-    place: &mut usize,
-) -> u32
-    ensures { ShowsNumber (extent_outcome Lenient bytes.now scratch.old) place.old result place.new }
+pub extern "C" fn nard_lenient_text_extent(bytes: &[u8], place: &mut usize) -> u32
+    ensures { ShowsNumber (extent_outcome Lenient bytes.now) place.old result place.new }
 {
-    find_extent(TextStyle::Lenient, bytes, scratch, place)
+    find_extent(TextStyle::Lenient, bytes, place)
 }
 
 /// Reports how many bytes of a text that libefivar prints are the path at its start, as
 /// `nard_device_path_push_libefivar_text` reads it.
 #[unsafe(no_mangle)]
-pub extern "C" fn nard_libefivar_text_extent(
-    bytes: &[u8],
-    scratch: &mut [u8],
-    place: &mut usize,
-) -> u32
-    ensures { ShowsNumber (extent_outcome Libefivar bytes.now scratch.old) place.old result place.new }
+pub extern "C" fn nard_libefivar_text_extent(bytes: &[u8], place: &mut usize) -> u32
+    ensures { ShowsNumber (extent_outcome Libefivar bytes.now) place.old result place.new }
 {
-    find_extent(TextStyle::Libefivar, bytes, scratch, place)
+    find_extent(TextStyle::Libefivar, bytes, place)
 }

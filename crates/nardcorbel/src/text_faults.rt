@@ -1,16 +1,14 @@
 //! Messages that say why a text as people write it, or as libefivar prints it, is not read.
-ghost use Rattle.std.specs.Prelude.{◌≡◌, ◌<◌, IsTrue, Option, length};
+ghost use Rattle.std.specs.Prelude.{◌≡◌, Option};
 ghost use Rattle.std.specs.Result.{result_err};
 ghost use Rattle.uefi_device_path.specs.StyledReading.{path_read};
-ghost use Rattle.uefi_device_path.specs.Styles.{is_copied};
 ghost use Rattle.uefi_device_path.specs.declared.lenient_errors.TextFault.{TextFault};
 ghost use Rattle.uefi_device_path.specs.TextStyle.TheVariants.{Lenient, Libefivar};
 ghost use Rattle.nardcorbel.specs.Outcomes.{Shows, when_read};
 ghost use Rattle.nardcorbel.specs.Reading.{read_utf8};
 ghost use Rattle.nardcorbel.specs.TextFaults.{fault_in, fault_outcome, fault_text};
 
-use crate::outcomes::{Refusal, read_utf8, refuse, report};
-use crate::reasons::SCRATCH_TOO_SMALL;
+use crate::outcomes::{read_utf8, refuse, report};
 use uefi_device_path::{PushLenientTextError, TextFault, TextStyle, laws, push_styled_text_in_buf};
 use uefi_text::text_sink::{Printed, TextSink};
 use uefi_text::write_units;
@@ -37,47 +35,32 @@ fn fault_in(error: PushLenientTextError) -> Option<TextFault>
 {
     match error {
         PushLenientTextError::NoNode(fault) => Some(fault),
-        PushLenientTextError::Path(_)
-        | PushLenientTextError::ScratchTooSmall(_)
-        | PushLenientTextError::BufferTooSmall(_) => None,
+        PushLenientTextError::Path(_) | PushLenientTextError::BufferTooSmall(_) => None,
     }
 }
 
-/// Returns the fault of a text that is not read. Afterwards the contents of the second buffer are
-/// unspecified.
-fn find_fault(style: TextStyle, text: &str, scratch: &mut [u8]) -> Option<TextFault>
-    requires copied { IsTrue (is_copied style) }
-    requires room { length text.now < length scratch.old }
+/// Returns the fault of a text that is not read.
+fn find_fault(style: TextStyle, text: &str) -> Option<TextFault>
     ensures { result ≡ result_err (path_read style text.now) }
 {
     // The law does nothing: it says that the empty path is not refused.
     laws::accepted_paths();
-    match push_styled_text_in_buf(style, &mut [0x7f, 0xff, 4, 0], text, scratch) {
+    match push_styled_text_in_buf(style, &mut [0x7f, 0xff, 4, 0], text) {
         Ok(_) => None,
         Err(error) => fault_in(error),
     }
 }
 
 /// Writes in words why a text is not read in a style.
-fn write_fault(
-    style: TextStyle,
-    bytes: &[u8],
-    scratch: &mut [u8],
-    buffer: &mut [u16],
-    place: &mut usize,
-) -> u32
-    requires { IsTrue (is_copied style) }
-    ensures { Shows (when_read (read_utf8 bytes.now) (fault_outcome style scratch.old))
+fn write_fault(style: TextStyle, bytes: &[u8], buffer: &mut [u16], place: &mut usize) -> u32
+    ensures { Shows (when_read (read_utf8 bytes.now) (fault_outcome style))
         place.old buffer.old result place.new buffer.new }
 {
     let text = match read_utf8(bytes) {
         Ok(text) => text,
         Err(refusal) => return refuse(refusal, place),
     };
-    if scratch.len() <= text.len() {
-        return refuse(Refusal::at(SCRATCH_TOO_SMALL, text.len() + 1), place);
-    }
-    let fault = find_fault(style, text, scratch);
+    let fault = find_fault(style, text);
     report(write_units(buffer, &FaultText { fault }), place)
 }
 
@@ -86,23 +69,19 @@ fn write_fault(
 /// 0xFF at offset 20`. There are no words if the text is read.
 ///
 /// Bytes that are not UTF-8 are refused as `NOT_UTF8`, and `place` becomes the number of bytes
-/// before the fault. Then a `scratch` that is not longer than these bytes is refused as
-/// `SCRATCH_TOO_SMALL`, and `place` becomes the length that it needs. Otherwise `place` becomes the
-/// number of units of the words, without their NUL, and a buffer is refused as `BUFFER_TOO_SMALL`
-/// exactly if it has at most that many places. If the call fails, the buffer is unchanged. Units
-/// after the NUL are never changed. Afterwards the contents of `scratch` are unspecified. Does not
-/// allocate.
+/// before the fault. Otherwise `place` becomes the number of units of the words, without their NUL,
+/// and a buffer is refused as `BUFFER_TOO_SMALL` exactly if it has at most that many places. If the
+/// call fails, the buffer is unchanged. Units after the NUL are never changed. Does not allocate.
 #[unsafe(no_mangle)]
 pub extern "C" fn nard_lenient_text_fault(
     bytes: &[u8],
-    scratch: &mut [u8],
     buffer: &mut [u16],
     place: &mut usize,
 ) -> u32
-    ensures { Shows (when_read (read_utf8 bytes.now) (fault_outcome Lenient scratch.old))
+    ensures { Shows (when_read (read_utf8 bytes.now) (fault_outcome Lenient))
         place.old buffer.old result place.new buffer.new }
 {
-    write_fault(TextStyle::Lenient, bytes, scratch, buffer, place)
+    write_fault(TextStyle::Lenient, bytes, buffer, place)
 }
 
 /// Writes in words why `nard_device_path_push_libefivar_text` refuses a text as `NO_NODE`, as
@@ -110,12 +89,11 @@ pub extern "C" fn nard_lenient_text_fault(
 #[unsafe(no_mangle)]
 pub extern "C" fn nard_libefivar_text_fault(
     bytes: &[u8],
-    scratch: &mut [u8],
     buffer: &mut [u16],
     place: &mut usize,
 ) -> u32
-    ensures { Shows (when_read (read_utf8 bytes.now) (fault_outcome Libefivar scratch.old))
+    ensures { Shows (when_read (read_utf8 bytes.now) (fault_outcome Libefivar))
         place.old buffer.old result place.new buffer.new }
 {
-    write_fault(TextStyle::Libefivar, bytes, scratch, buffer, place)
+    write_fault(TextStyle::Libefivar, bytes, buffer, place)
 }

@@ -92,7 +92,6 @@ never_stops once starts fits told printed text (nodes, read) place stop =
 pub cause_is : ReadTold → ReadIsPrinted → PrintedStops → (buffer text : List ℕ) (error : PushLenientTextError) (of : PushTextError)
     → of ≡ text_error error → IsPushLenientError Printed buffer text error → IsPushTextError buffer text of
 cause_is told printed stops buffer text (push.Path error) of e is = subst (λ (x : PushTextError). IsPushTextError buffer text x) (sym e) is
-cause_is told printed stops buffer text (push.ScratchTooSmall needed) of e is = absurd (true≢false (sym is.0))
 cause_is told printed stops buffer text (push.NoNode fault) of e is =
     subst (λ (x : PushTextError). IsPushTextError buffer text x) (sym e) (stops text fault is)
 cause_is told printed stops buffer text (push.BufferTooSmall needed) of e is =
@@ -104,8 +103,6 @@ pub only_stop : NodeTextOnce → NodeStarts → NodeFits → NeverBoth → ReadT
     → IsPushLenientError Printed buffer text error → (place : ℕ) → StopsAt text place → text_error error ≡ push_text.NoNode place
 only_stop once starts fits both told printed stops buffer nodes begins text (push.Path error) is place stop =
     absurd (both buffer nodes error begins is)
-only_stop once starts fits both told printed stops buffer nodes begins text (push.ScratchTooSmall needed) is place stop =
-    absurd (true≢false (sym is.0))
 only_stop once starts fits both told printed stops buffer nodes begins text (push.NoNode fault) is place stop =
     ap (λ (n : ℕ). push_text.NoNode n) (stops_once once starts fits text fault.node place (stops text fault is) stop)
 only_stop once starts fits both told printed stops buffer nodes begins text (push.BufferTooSmall needed) is place stop =

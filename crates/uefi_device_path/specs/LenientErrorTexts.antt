@@ -23,7 +23,5 @@ lenient_text_error_text read.OutOfMemory = codes "out of memory"
 -- the text of an error if the nodes of a text are not added to the path that a buffer begins with
 abbrev pub push_lenient_text_error_text : PushLenientTextError → List ℕ
 push_lenient_text_error_text (push.Path error) = device_path_error_text error
-push_lenient_text_error_text (push.ScratchTooSmall needed) =
-    codes "scratch too small: the text needs " ++ decimal needed ++ codes " bytes"
 push_lenient_text_error_text (push.NoNode fault) = text_fault_text fault
 push_lenient_text_error_text (push.BufferTooSmall needed) = build_error_text (build.BufferTooSmall needed)

@@ -16,7 +16,7 @@ use Rattle.uefi_device_path.specs.declared.lenient_errors.TextFault.{TextFault}
 use Rattle.uefi_node_reader.specs.declared.faults.Expected.{Expected}
 use Rattle.uefi_node_reader.specs.declared.faults.Expected.TheVariants as expected
 use Rattle.uefi_node_reader.specs.declared.faults.NodeFault.{NodeFault}
-use Rattle.uefi_node_reader.specs.Styles.{is_copied, styled_read}
+use Rattle.uefi_node_reader.specs.Styles.{styled_read}
 use Rattle.uefi_node_reader.specs.declared.styles.TextStyle.{TextStyle}
 
 -- the test for a place after a comma: a file's name begins with a backslash there
@@ -151,26 +151,16 @@ extent_by style text (Err fault) =
 unfoldable pub text_extent : TextStyle → List ℕ → Result ℕ TextFault
 text_extent style text = extent_by style text (path_read style text)
 
--- the result is the length of the path at the start of a text, or its fault, unless memory ran out
-abbrev pub GivesExtent : Result ℕ LenientTextError → Result ℕ TextFault → Type 0
-GivesExtent (Ok end) read = read ≡ Ok end
-GivesExtent (Err (NoNode fault)) read = read ≡ Err fault
-GivesExtent (Err OutOfMemory) read = Unit {0}
-
 -- why the nodes of a text are not added to the path that a buffer begins with: there is no path,
--- the second buffer is not longer than the copied text, the text has this fault, or there is no
--- room for the nodes
+-- the text has this fault, or there is no room for the nodes
 abbrev pub IsPushLenientError : TextStyle → List ℕ → List ℕ → PushLenientTextError → Type 0
 IsPushLenientError style buffer text (push.Path error) = RefusedFor buffer error
-IsPushLenientError style buffer text (push.ScratchTooSmall needed) =
-    (is_copied style ≡ true) × (needed ≡ length text + 1)
 IsPushLenientError style buffer text (push.NoNode fault) = ReadingStopsAt style text fault
 IsPushLenientError style buffer text (push.BufferTooSmall needed) = IsStyledText style text
 
--- the same of a text that is not copied
+-- the same of a text in the style `Printed`
 abbrev pub text_error : PushLenientTextError → PushTextError
 text_error (push.Path error) = push_text.Path error
-text_error (push.ScratchTooSmall needed) = push_text.BufferTooSmall needed
 text_error (push.NoNode fault) = push_text.NoNode fault.node
 text_error (push.BufferTooSmall needed) = push_text.BufferTooSmall needed
 

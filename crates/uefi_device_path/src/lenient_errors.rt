@@ -86,8 +86,6 @@ impl Error for LenientTextError {}
 pub enum PushLenientTextError {
     /// The buffer does not begin with a device path.
     Path(DevicePathError),
-    /// The second buffer has fewer bytes than this number: one more than the text.
-    ScratchTooSmall(usize),
     /// A node must begin at a byte of the text, and none can be read there.
     NoNode(TextFault),
     /// The buffer has fewer bytes than the path with the nodes needs. The number is how many it
@@ -102,10 +100,6 @@ impl Printed for PushLenientTextError {
     fn put<S: TextSink>(&self, sink: &mut S) {
         match self {
             Self::Path(error) => error.put(sink),
-            Self::ScratchTooSmall(needed) => {
-                put_decimal(sink, "scratch too small: the text needs ", *needed as u64);
-                sink.put_str(" bytes");
-            }
             Self::NoNode(fault) => fault.put(sink),
             Self::BufferTooSmall(needed) => {
                 put_decimal(

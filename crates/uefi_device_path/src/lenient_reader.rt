@@ -19,11 +19,7 @@ fn read_from<A: Allocator + Copy>(
 ) -> Result<DevicePathBuf<A>, LenientTextError>
     ensures { GivesText result (path_read style text.now) }
 {
-    let mut scratch = Vec::new(alloc);
-    if scratch.resize(text.len() + 1, 0).is_err() {
-        return Err(LenientTextError::OutOfMemory);
-    }
-    read_styled_path(style, alloc, &mut scratch, text.as_bytes())
+    read_styled_path(style, alloc, text.as_bytes())
 }
 
 impl<A: Allocator + Copy> DevicePathBuf<A> {
@@ -42,12 +38,10 @@ impl<A: Allocator + Copy> DevicePathBuf<A> {
     /// A text that [`DevicePathBuf::from_text`] reads is read as the same path. The path that is
     /// read prints as a text that `from_text` reads as that path.
     ///
-    /// Allocates one byte more than the text has, for copies of its calls and names, and frees it
-    /// at the end. Then checks the text, and fails with `NoNode` if a node can't be read: the error
-    /// has the start of the first such node, the byte that is wrong, and what must be there, which
-    /// may be one of some words, or a name that differs in one letter. Then
-    /// allocates once, for the whole path. Fails with `OutOfMemory` if memory runs out at either
-    /// allocation; the first comes before the text is checked.
+    /// Checks the text first, and fails with `NoNode` if a node can't be read: the error has the
+    /// start of the first such node, the byte that is wrong, and what must be there, which may be
+    /// one of some words, or a name that differs in one letter. Then allocates once, for the whole
+    /// path, and fails with `OutOfMemory` only there.
     ///
     /// ```rust
     /// let path = DevicePathBuf::from_lenient_text(rt.alloc(), "pciroot(0)/pci(31, 2)")?;

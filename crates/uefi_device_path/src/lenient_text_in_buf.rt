@@ -22,8 +22,7 @@ use uefi_node_reader::styles::TextStyle;
 /// unchanged.
 ///
 /// The text is read as [`DevicePathBuf::from_lenient_text`](crate::DevicePathBuf) reads it; a comma
-/// in it ends an instance. Copies of its calls and names go into `scratch`, which must be longer
-/// than the text; afterwards its contents are unspecified.
+/// in it ends an instance.
 ///
 /// The call fails for the first of these reasons, and leaves the buffer unchanged. Does not
 /// allocate.
@@ -31,33 +30,27 @@ use uefi_node_reader::styles::TextStyle;
 /// | error | reason |
 /// |---|---|
 /// | `Path` | the buffer does not begin with a device path |
-/// | `ScratchTooSmall` | `scratch` has fewer bytes than this number |
 /// | `NoNode` | the first node that can't be read, its first wrong byte, and what must be there |
 /// | `BufferTooSmall` | the buffer has fewer bytes than this number, which the path then needs |
 ///
 /// ```rust
 /// let mut buffer = [0x7f, 0xff, 4, 0, 0, 0, 0, 0, 0, 0];
-/// assert_eq!(rt; push_lenient_text_in_buf(&mut buffer, "pci(31, 2)", &mut [0; 11]), Ok(10));
+/// assert_eq!(rt; push_lenient_text_in_buf(&mut buffer, "pci(31, 2)"), Ok(10));
 /// assert_eq!(rt; buffer, [1, 1, 6, 0, 2, 31, 0x7f, 0xff, 4, 0]);
-/// let refused = push_lenient_text_in_buf(&mut buffer, "pci(31, 2)", &mut [0; 10]);
-/// assert_eq!(rt; refused, Err(PushLenientTextError::ScratchTooSmall(11)));
+/// let refused = push_lenient_text_in_buf(&mut buffer, "pci(31, 2)");
+/// assert_eq!(rt; refused, Err(PushLenientTextError::BufferTooSmall(16)));
 /// ```
 pub fn push_lenient_text_in_buf(
     buffer: &mut [u8],
     text: &str,
-    scratch: &mut [u8],
 ) -> Result<usize, PushLenientTextError>
     ensures no_path { (error : DevicePathError) → RefusedFor buffer.old error
         → result ≡ Err (PushLenientTextError.Path error) }
-    ensures no_scratch { (nodes : List Node) → BeginWithPath buffer.old nodes
-        → length scratch.old ≤ length text.now
-        → result ≡ Err (PushLenientTextError.ScratchTooSmall (length text.now + 1)) }
     ensures no_node { (nodes : List Node) → BeginWithPath buffer.old nodes
-        → length text.now < length scratch.old
         → (fault : TextFault) → ReadingStopsAt Lenient text.now fault
         → result ≡ Err (PushLenientTextError.NoNode fault) }
     ensures refusal { (nodes read : List Node) → BeginWithPath buffer.old nodes
-        → length text.now < length scratch.old → IsReadAs Lenient text.now read
+        → IsReadAs Lenient text.now read
         → result_err result ≡ lenient_refusal nodes read (length buffer.old) }
     ensures len { (nodes read : List Node) → BeginWithPath buffer.old nodes → IsReadAs Lenient text.now read
         → IfOk result (λ len. len ≡ length (path_bytes (nodes ++ read))) }
@@ -68,7 +61,7 @@ pub fn push_lenient_text_in_buf(
     ensures cause { IfErr result (λ error. IsPushLenientError Lenient buffer.old text.now error) }
     ensures err { OnErr result (buffer.new ≡ buffer.old) }
 {
-    push_styled_text_in_buf(TextStyle::Lenient, buffer, text, scratch)
+    push_styled_text_in_buf(TextStyle::Lenient, buffer, text)
 }
 
 /// Adds the nodes of a text that libefivar and efibootmgr print before the end of the device path
@@ -84,25 +77,20 @@ pub fn push_lenient_text_in_buf(
 /// buffer[1] = 0xff;
 /// buffer[2] = 4;
 /// let text = "NVMe(0x1,01-02-03-04-05-06-07-08)";
-/// assert_eq!(rt; push_libefivar_text_in_buf(&mut buffer, text, &mut [0; 34]), Ok(20));
+/// assert_eq!(rt; push_libefivar_text_in_buf(&mut buffer, text), Ok(20));
 /// assert_eq!(rt; &buffer[8..16], [1, 2, 3, 4, 5, 6, 7, 8].as_slice());
 /// ```
 pub fn push_libefivar_text_in_buf(
     buffer: &mut [u8],
     text: &str,
-    scratch: &mut [u8],
 ) -> Result<usize, PushLenientTextError>
     ensures no_path { (error : DevicePathError) → RefusedFor buffer.old error
         → result ≡ Err (PushLenientTextError.Path error) }
-    ensures no_scratch { (nodes : List Node) → BeginWithPath buffer.old nodes
-        → length scratch.old ≤ length text.now
-        → result ≡ Err (PushLenientTextError.ScratchTooSmall (length text.now + 1)) }
     ensures no_node { (nodes : List Node) → BeginWithPath buffer.old nodes
-        → length text.now < length scratch.old
         → (fault : TextFault) → ReadingStopsAt Libefivar text.now fault
         → result ≡ Err (PushLenientTextError.NoNode fault) }
     ensures refusal { (nodes read : List Node) → BeginWithPath buffer.old nodes
-        → length text.now < length scratch.old → IsReadAs Libefivar text.now read
+        → IsReadAs Libefivar text.now read
         → result_err result ≡ lenient_refusal nodes read (length buffer.old) }
     ensures len { (nodes read : List Node) → BeginWithPath buffer.old nodes → IsReadAs Libefivar text.now read
         → IfOk result (λ len. len ≡ length (path_bytes (nodes ++ read))) }
@@ -113,5 +101,5 @@ pub fn push_libefivar_text_in_buf(
     ensures cause { IfErr result (λ error. IsPushLenientError Libefivar buffer.old text.now error) }
     ensures err { OnErr result (buffer.new ≡ buffer.old) }
 {
-    push_styled_text_in_buf(TextStyle::Libefivar, buffer, text, scratch)
+    push_styled_text_in_buf(TextStyle::Libefivar, buffer, text)
 }

@@ -61,7 +61,7 @@ fn read_path<A: Allocator + Copy>(alloc: A, text: &[u8]) -> Result<DevicePathBuf
     ensures refusal { IfErr result (IsReadError text.now) }
 {
     styled_texts();
-    match read_styled_path(TextStyle::Printed, alloc, &mut [], text) {
+    match read_styled_path(TextStyle::Printed, alloc, text) {
         Ok(path) => Ok(path),
         Err(LenientTextError::NoNode(fault)) => Err(PathTextError::NoNode(fault.node)),
         Err(LenientTextError::OutOfMemory) => Err(PathTextError::OutOfMemory),

@@ -9,20 +9,19 @@ ghost use Rattle.uefi_device_path.specs.PathReading.{end_instance, is_after_inst
 ghost use Rattle.uefi_device_path.specs.Paths.{IsPath, nodes_bytes};
 ghost use Rattle.uefi_device_nodes.specs.RawNodes.{raw_node};
 ghost use Rattle.uefi_node_reader.specs.NamedFiles.{IsTold};
-ghost use Rattle.uefi_node_reader.specs.Styles.{HasScratch};
 ghost use Rattle.uefi_device_path.specs.declared.lenient_errors.LenientTextError.TheVariants.{OutOfMemory};
-ghost use Rattle.uefi_node_reader.specs.ParsedNodeViews.{parsed_node};
+ghost use Rattle.uefi_node_reader.specs.ReadNodes.{node_from_text};
 
 use crate::around_nodes::around_nodes;
 use crate::device_path_buf::{DevicePathBuf, empty_path};
 use crate::lenient_errors::{LenientTextError, TextFault};
 use crate::path_in_buf::put_if_room;
 use std::alloc::Allocator;
-use uefi_device_nodes::build_node::{BuildNode, RawNode};
+use uefi_device_nodes::build_node::RawNode;
 use uefi_device_nodes::{DeviceSubType, DeviceType};
 use uefi_node_reader::faults::NodeFault;
 use uefi_node_reader::nodes::nodes_are_read;
-use uefi_node_reader::parsed_node::ParsedNode;
+use uefi_node_reader::read_node::ReadNode;
 use uefi_node_reader::styles::{
     TextStyle, faults_lie_within, read_styled_node, styled_nodes_are_read,
 };
@@ -35,30 +34,6 @@ fn instance_end() -> RawNode<'static>
         device_type: DeviceType(0x7f),
         sub_type: DeviceSubType(0x01),
         content: &[],
-    }
-}
-
-/// A node whose text was read, to be added to a path.
-#[derive(Clone, Copy)]
-pub(crate) struct ReadNode<'a> {
-    pub(crate) node: ParsedNode<'a>,
-}
-
-/// The node.
-impl BuildNode for ReadNode<'_> {
-    ghost node = { λ n. parsed_node n.node };
-
-    fn full_type(&self) -> (DeviceType, DeviceSubType) {
-        let (device_type, sub_type) = self.node.types();
-        (DeviceType(device_type), DeviceSubType(sub_type))
-    }
-
-    fn data_len(&self) -> usize {
-        self.node.data_len()
-    }
-
-    fn write_data(&self, bytes: &mut [u8]) {
-        self.node.write_data(bytes);
     }
 }
 
@@ -91,19 +66,16 @@ fn follows_comma(text: &[u8], rest: &[u8]) -> bool
 }
 
 /// Returns the node that is read in a style at the start of this text, and the text after it, or
-/// the fault. Afterwards the contents of the buffer are unspecified.
-pub(crate) fn first_styled_node<'s, 't: 's>(
+/// the fault.
+pub(crate) fn first_styled_node<'a>(
     style: TextStyle,
-    scratch: &'s mut [u8],
-    text: &'t [u8],
-    place: &'t [u8],
-) -> Result<(ReadNode<'s>, &'t [u8]), NodeFault>
-    requires { HasScratch style place.now scratch.old }
-    ensures { result_map_both (λ x. (parsed_node x.0.node, x.1.now)) (λ e. e) result
+    text: &'a [u8],
+    place: &'a [u8],
+) -> Result<(ReadNode<&'a [u8]>, &'a [u8]), NodeFault>
+    ensures { result_map_both (λ x. (node_from_text x.0, x.1.now)) (λ e. e) result
         ≡ place_read style text.now place.now }
 {
-    let (node, rest) = read_styled_node(style, follows_comma(text, place), scratch, place)?;
-    Ok((ReadNode { node }, rest))
+    read_styled_node(style, follows_comma(text, place), place)
 }
 
 /// Returns the fault of a text, given the fault of this rest, at which no node is read.
@@ -123,16 +95,13 @@ fn fault_at(text: &[u8], rest: &[u8], found: NodeFault) -> TextFault
 /// Adds the nodes of a text before the end of the path in the first `len` bytes of a buffer. Returns the
 /// number of bytes that the path then has, as far as a `usize` counts, or the fault of the text. The
 /// contents of the buffer are unspecified afterwards if it has no room for all nodes, or if the call fails.
-/// The contents of `scratch` are always unspecified.
 pub(crate) fn put_text(
     style: TextStyle,
     buffer: &mut [u8],
     len: usize,
     text: &[u8],
-    scratch: &mut [u8],
 ) -> Result<usize, TextFault>
-    requires scratch { HasScratch style text.now scratch.old }
-    requires is_path { len ≤ length buffer.now → IsPath (take len buffer.now) }
+    requires { len ≤ length buffer.now → IsPath (take len buffer.now) }
     ensures len { result
         ≡ result_map_both (grown_length len) (λ fault. fault) (path_read style text.now) }
     ensures put { (nodes : List Node) → IsReadAs style text.now nodes
@@ -155,7 +124,7 @@ pub(crate) fn put_text(
             }
             None => {
                 let place = node_start(at_start, rest);
-                let (node, after) = match first_styled_node(style, scratch, whole, place) {
+                let (node, after) = match first_styled_node(style, whole, place) {
                     Ok(read) => read,
                     Err(found) => return Err(fault_at(whole, place, found)),
                 };
@@ -172,21 +141,19 @@ pub(crate) fn put_text(
 pub(crate) fn read_styled_path<A: Allocator + Copy>(
     style: TextStyle,
     alloc: A,
-    scratch: &mut [u8],
     text: &[u8],
 ) -> Result<DevicePathBuf<A>, LenientTextError>
-    requires { HasScratch style text.now scratch.old }
     ensures gives { GivesText result (path_read style text.now) }
     ensures memory { result ≡ Err OutOfMemory → IsStyledText style text.now }
 {
-    let len = match put_text(style, &mut [], 4, text, scratch) {
+    let len = match put_text(style, &mut [], 4, text) {
         Ok(len) => len,
         Err(fault) => return Err(LenientTextError::NoNode(fault)),
     };
     let Ok(mut bytes) = empty_path(alloc, len) else {
         return Err(LenientTextError::OutOfMemory);
     };
-    match put_text(style, bytes.as_mut_slice(), 4, text, scratch) {
+    match put_text(style, bytes.as_mut_slice(), 4, text) {
         Ok(_) => Ok(DevicePathBuf::of_bytes(bytes)),
         Err(fault) => Err(LenientTextError::NoNode(fault)),
     }

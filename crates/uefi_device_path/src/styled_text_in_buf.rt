@@ -9,7 +9,6 @@ ghost use Rattle.uefi_device_path.specs.PathReading.{end_instance};
 ghost use Rattle.uefi_device_path.specs.Faults.{RefusedFor};
 ghost use Rattle.uefi_device_path.specs.StyledReading.{IsPushLenientError, IsReadAs, IsStyledText, ReadingStopsAt, lenient_refusal};
 ghost use Rattle.uefi_device_path.specs.Paths.{BeginWithPath, IsPath, nodes_in, path_bytes, without_end};
-ghost use Rattle.uefi_node_reader.specs.Styles.{HasScratch, is_copied};
 ghost use Rattle.uefi_text.specs.UnalignedCStr16.{with_prefix};
 ghost use Rattle.uefi_device_path.specs.declared.errors.DevicePathError.{DevicePathError};
 ghost use Rattle.uefi_device_path.specs.declared.lenient_errors.TextFault.{TextFault};
@@ -18,7 +17,7 @@ use crate::laws::styled_texts;
 use crate::lenient_errors::PushLenientTextError;
 use crate::path_in_buf::path_len;
 use crate::styled_reader::put_text;
-use uefi_node_reader::styles::{TextStyle, is_copied};
+use uefi_node_reader::styles::TextStyle;
 
 /// Adds the nodes of a text, read in a style, before the end of the device path at the start of a
 /// buffer, and returns the number of bytes that the path then has. The rest of the buffer is
@@ -32,19 +31,14 @@ pub fn push_styled_text_in_buf(
     style: TextStyle,
     buffer: &mut [u8],
     text: &str,
-    scratch: &mut [u8],
 ) -> Result<usize, PushLenientTextError>
     ensures no_path { (error : DevicePathError) → RefusedFor buffer.old error
         → result ≡ Err (PushLenientTextError.Path error) }
-    ensures no_scratch { (nodes : List Node) → BeginWithPath buffer.old nodes
-        → is_copied style ≡ true → length scratch.old ≤ length text.now
-        → result ≡ Err (PushLenientTextError.ScratchTooSmall (length text.now + 1)) }
     ensures no_node { (nodes : List Node) → BeginWithPath buffer.old nodes
-        → HasScratch style text.now scratch.old
         → (fault : TextFault) → ReadingStopsAt style text.now fault
         → result ≡ Err (PushLenientTextError.NoNode fault) }
     ensures refusal { (nodes read : List Node) → BeginWithPath buffer.old nodes
-        → HasScratch style text.now scratch.old → IsReadAs style text.now read
+        → IsReadAs style text.now read
         → result_err result ≡ lenient_refusal nodes read (length buffer.old) }
     ensures len { (nodes read : List Node) → BeginWithPath buffer.old nodes → IsReadAs style text.now read
         → IfOk result (λ len. len ≡ length (path_bytes (nodes ++ read))) }
@@ -60,17 +54,14 @@ pub fn push_styled_text_in_buf(
         Err(error) => return Err(PushLenientTextError::Path(error)),
     };
     let bytes = text.as_bytes();
-    if is_copied(style) && scratch.len() <= bytes.len() {
-        return Err(PushLenientTextError::ScratchTooSmall(bytes.len() + 1));
-    }
-    let needed = match put_text(style, &mut [], len, bytes, scratch) {
+    let needed = match put_text(style, &mut [], len, bytes) {
         Ok(needed) => needed,
         Err(fault) => return Err(PushLenientTextError::NoNode(fault)),
     };
     if buffer.len() < needed {
         return Err(PushLenientTextError::BufferTooSmall(needed));
     }
-    match put_text(style, buffer, len, bytes, scratch) {
+    match put_text(style, buffer, len, bytes) {
         Ok(len) => Ok(len),
         Err(fault) => Err(PushLenientTextError::NoNode(fault)),
     }

@@ -2,14 +2,12 @@
 #![tactic(auto)]
 
 ghost use Rattle.std.specs.Prelude.{◌≡◌};
-ghost use Rattle.uefi_device_path.specs.StyledReading.{GivesExtent, is_end, text_extent};
-ghost use Rattle.uefi_node_reader.specs.Styles.{HasScratch};
+ghost use Rattle.uefi_device_path.specs.StyledReading.{is_end, text_extent};
 ghost use Rattle.uefi_node_reader.specs.declared.styles.TextStyle.TheVariants.{Lenient, Libefivar};
 
 use crate::laws::styled_texts;
-use crate::lenient_errors::{Expected, LenientTextError, TextFault};
+use crate::lenient_errors::{Expected, TextFault};
 use crate::styled_reader::put_text;
-use std::alloc::Allocator;
 use uefi_node_reader::styles::TextStyle;
 
 /// Returns whether the end of a node is expected.
@@ -23,49 +21,26 @@ fn is_end(expected: Expected) -> bool
 }
 
 /// Returns the number of bytes at the start of a text that are a path in a style, or the fault of
-/// the text. Afterwards the contents of the buffer are unspecified.
+/// the text.
 ///
 /// Hidden: the C library calls it, and it may change. Other callers use [`lenient_text_extent`] and
 /// [`libefivar_text_extent`].
 #[doc(hidden)]
-pub fn styled_text_extent(
-    style: TextStyle,
-    text: &[u8],
-    scratch: &mut [u8],
-) -> Result<usize, TextFault>
-    requires { HasScratch style text.now scratch.old }
+pub fn styled_text_extent(style: TextStyle, text: &[u8]) -> Result<usize, TextFault>
     ensures { result ≡ text_extent style text.now }
 {
     // The law says that the wrong byte is in the text, or at its end.
     styled_texts();
-    let fault = match put_text(style, &mut [], 4, text, scratch) {
+    let fault = match put_text(style, &mut [], 4, text) {
         Ok(_) => return Ok(text.len()),
         Err(fault) => fault,
     };
     if !is_end(fault.expected) {
         return Err(fault);
     }
-    match put_text(style, &mut [], 4, &text[..fault.byte], scratch) {
+    match put_text(style, &mut [], 4, &text[..fault.byte]) {
         Ok(_) => Ok(fault.byte),
         Err(_) => Err(fault),
-    }
-}
-
-/// Does what [`styled_text_extent`] does, and allocates the buffer.
-fn extent_in<A: Allocator + Copy>(
-    style: TextStyle,
-    alloc: A,
-    text: &str,
-) -> Result<usize, LenientTextError>
-    ensures { GivesExtent result (text_extent style text.now) }
-{
-    let mut scratch = Vec::new(alloc);
-    if scratch.resize(text.len() + 1, 0).is_err() {
-        return Err(LenientTextError::OutOfMemory);
-    }
-    match styled_text_extent(style, text.as_bytes(), &mut scratch) {
-        Ok(end) => Ok(end),
-        Err(fault) => Err(LenientTextError::NoNode(fault)),
     }
 }
 
@@ -75,35 +50,28 @@ fn extent_in<A: Allocator + Copy>(
 ///
 /// The path is the whole text if [`DevicePathBuf::from_lenient_text`](crate::DevicePathBuf) reads
 /// it. If that call refuses the text at a byte where a node should end, the path is the text before
-/// this byte. For any other text, fails as that call does. Allocates one byte more than the text
-/// has, for copies, before the text is checked.
+/// this byte. For any other text, fails with the fault that the call reports. Does not allocate.
 ///
 /// ```rust
 /// let text = r"HD(1,MBR,0x12345678)/File(\a.efi)RC";
-/// let end = lenient_text_extent(rt.alloc(), text)?;
-/// assert_eq!(rt; text.get(..end), Some(r"HD(1,MBR,0x12345678)/File(\a.efi)"));
+/// let end = lenient_text_extent(text);
+/// assert_eq!(rt; end, Ok(33));
 /// ```
-pub fn lenient_text_extent<A: Allocator + Copy>(
-    alloc: A,
-    text: &str,
-) -> Result<usize, LenientTextError>
-    ensures { GivesExtent result (text_extent Lenient text.now) }
+pub fn lenient_text_extent(text: &str) -> Result<usize, TextFault>
+    ensures { result ≡ text_extent Lenient text.now }
 {
-    extent_in(TextStyle::Lenient, alloc, text)
+    styled_text_extent(TextStyle::Lenient, text.as_bytes())
 }
 
 /// Does what [`lenient_text_extent`] does for a text that libefivar and efibootmgr print, which
 /// [`DevicePathBuf::from_libefivar_text`](crate::DevicePathBuf) reads.
 ///
 /// ```rust
-/// let end = libefivar_text_extent(rt.alloc(), "NVMe(0x1,00-25-38-5B-71-B0-03-1C)..BO")?;
-/// assert_eq!(rt; end, 33);
+/// let end = libefivar_text_extent("NVMe(0x1,00-25-38-5B-71-B0-03-1C)..BO");
+/// assert_eq!(rt; end, Ok(33));
 /// ```
-pub fn libefivar_text_extent<A: Allocator + Copy>(
-    alloc: A,
-    text: &str,
-) -> Result<usize, LenientTextError>
-    ensures { GivesExtent result (text_extent Libefivar text.now) }
+pub fn libefivar_text_extent(text: &str) -> Result<usize, TextFault>
+    ensures { result ≡ text_extent Libefivar text.now }
 {
-    extent_in(TextStyle::Libefivar, alloc, text)
+    styled_text_extent(TextStyle::Libefivar, text.as_bytes())
 }

@@ -20,16 +20,14 @@ use crate::styled_text_in_buf::push_styled_text_in_buf;
 use uefi_node_reader::nodes::{node_text_once, nodes_are_read};
 use uefi_node_reader::styles::TextStyle;
 
-/// Returns why the nodes of a text that is not copied are not added; the second buffer is then
-/// never too small.
+/// Returns why the nodes of a text that is printed exactly are not added.
 fn text_error(error: PushLenientTextError) -> PushTextError
     ensures { result ≡ text_error error }
 {
     match error {
         PushLenientTextError::Path(error) => PushTextError::Path(error),
         PushLenientTextError::NoNode(fault) => PushTextError::NoNode(fault.node),
-        PushLenientTextError::ScratchTooSmall(needed)
-        | PushLenientTextError::BufferTooSmall(needed) => PushTextError::BufferTooSmall(needed),
+        PushLenientTextError::BufferTooSmall(needed) => PushTextError::BufferTooSmall(needed),
     }
 }
 
@@ -71,7 +69,7 @@ pub fn push_text_in_buf(buffer: &mut [u8], text: &str) -> Result<usize, PushText
     node_text_once();
     styled_texts();
     accepted_paths();
-    match push_styled_text_in_buf(TextStyle::Printed, buffer, text, &mut []) {
+    match push_styled_text_in_buf(TextStyle::Printed, buffer, text) {
         Ok(len) => Ok(len),
         Err(error) => Err(text_error(error)),
     }

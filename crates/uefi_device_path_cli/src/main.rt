@@ -19,7 +19,8 @@ use std::fmt::{self, Write};
 use std::io::{self, BufRead, BufReader, Write as _};
 use std::process::ExitCode;
 use uefi_device_path::{
-    DevicePathBuf, LenientTextError, is_escaped, lenient_text_extent, libefivar_text_extent,
+    DevicePathBuf, LenientTextError, TextFault, is_escaped, lenient_text_extent,
+    libefivar_text_extent,
 };
 
 const USAGE: &str = "usage: uefi_device_path_cli [--libefivar] [--prefix] < LINES\n";
@@ -41,17 +42,13 @@ struct Options {
 }
 
 /// Returns how many bytes of a line form the path.
-fn extent<A: Allocator + Copy>(
-    options: Options,
-    alloc: A,
-    line: &str,
-) -> Result<usize, LenientTextError> {
+fn extent(options: Options, line: &str) -> Result<usize, TextFault> {
     if !options.is_prefix {
         return Ok(line.len());
     }
     match options.writer {
-        Writer::People => lenient_text_extent(alloc, line),
-        Writer::Libefivar => libefivar_text_extent(alloc, line),
+        Writer::People => lenient_text_extent(line),
+        Writer::Libefivar => libefivar_text_extent(line),
     }
 }
 
@@ -73,7 +70,10 @@ fn read_line<A: Allocator + Copy>(
     alloc: A,
     line: &str,
 ) -> Result<(DevicePathBuf<A>, &str), LenientTextError> {
-    let end = extent(options, alloc, line)?;
+    let end = match extent(options, line) {
+        Ok(end) => end,
+        Err(fault) => return Err(LenientTextError::NoNode(fault)),
+    };
     // A path ends between two characters.
     let (text, rest) = line.split_at_checked(end).unwrap_or((line, ""));
     Ok((read(options.writer, alloc, text)?, rest))

@@ -221,10 +221,6 @@ const PUSHED_LENIENT_TEXTS: &[(PushLenientTextError, &str)] = &[
         PushLenientTextError::Path(BEYOND),
         "a node is longer than the bytes that are left at offset 12",
     ),
-    (
-        PushLenientTextError::ScratchTooSmall(8),
-        "scratch too small: the text needs 8 bytes",
-    ),
     (PushLenientTextError::NoNode(FAULT), FAULT_TEXT),
     (
         PushLenientTextError::BufferTooSmall(20),

@@ -177,15 +177,14 @@ const ROWS: &[(Call<'static>, u64)] = &[
     (Call::FromText("USB(0x1,0x0),,\\a"), 1),
     (Call::NoText("PciRoot(0x0)/Pci(0x1F,0x2)/", 27), 0),
     (Call::NoText("\\a/Path(3,99,0F", 3), 0),
-    (Call::FromLenientText(""), 2),
-    (Call::FromLenientText("pciroot(0)/pci(31,2)/File(a)"), 2),
+    (Call::FromLenientText(""), 1),
+    (Call::FromLenientText("pciroot(0)/pci(31,2)/File(a)"), 1),
     (
         Call::FromLibefivarText("NVMe(0x1,00-25-38-5B-71-B0-03-1C)/File(a)"),
-        2,
+        1,
     ),
-    // One request, for the copy of the text. None is made for the path.
-    (Call::NoLenientText("pciroot(0)/pci(31,2)/", 21), 1),
-    (Call::NoLenientText("file(a)/Uri(\u{e9})", 8), 1),
+    (Call::NoLenientText("pciroot(0)/pci(31,2)/", 21), 0),
+    (Call::NoLenientText("file(a)/Uri(\u{e9})", 8), 0),
     (Call::Description(OPTION), 1),
     // One request for the units, and one for a text of as many bytes.
     (Call::DescriptionLossy(OPTION), 2),
@@ -273,8 +272,7 @@ const TEXTS: &[(bool, &str, &str, u64, &str)] = &[
     (false, "file(", "中", 32_763, ")"),
 ];
 
-/// Reading a printed text makes one request. Reading a text that people write makes two: for a copy of the
-/// text and for the path.
+/// Reading a text makes one request, for the path.
 #[test]
 fn texts_of_each_size(rt: HostRuntime) -> Result<(), Fail> {
     for (is_printed, front, piece, count, back) in TEXTS {
@@ -286,7 +284,7 @@ fn texts_of_each_size(rt: HostRuntime) -> Result<(), Fail> {
             Call::FromLenientText(&text)
         };
         let made = requests(rt.alloc(), 0, |heap| answers(call, heap))?;
-        assert_eq!(rt; made, if *is_printed { 1 } else { 2 }, "{piece}");
+        assert_eq!(rt; made, 1, "{piece}");
     }
     Ok(())
 }

@@ -1,5 +1,5 @@
 //! Texts whose nodes are appended to the path at the start of a buffer, in the printed form and as people
-//! write them: what the buffer contains afterwards, for each size of the buffer and of the second buffer.
+//! write them: what the buffer contains afterwards, for each size of the buffer.
 
 use crate::node_text::REGULAR;
 use crate::option_builder::END;
@@ -8,9 +8,7 @@ use for_tests::{bytes, holds, split_row};
 use std::alloc::Global;
 use std::fmt::Display;
 use std::test::Fail;
-use uefi_device_path::{
-    DevicePathBuf, PushLenientTextError, push_lenient_text_in_buf, push_text_in_buf,
-};
+use uefi_device_path::{DevicePathBuf, push_lenient_text_in_buf, push_text_in_buf};
 
 /// Returns the path of a PCI device and the nodes with these bytes.
 fn path_of(alloc: Global, nodes: &[u8]) -> Result<Vec<u8>, Fail> {
@@ -31,13 +29,12 @@ fn shown<T, E: Display + Drop>(alloc: Global, it: Result<T, E>) -> Shown<T> {
     }
 }
 
-/// Appends the nodes of a text. A text that people write gets the smallest sufficient second buffer.
+/// Appends the nodes of a text.
 fn push(alloc: Global, exact: bool, old: &mut [u8], text: &str) -> Shown<usize> {
     if exact {
         return shown(alloc, push_text_in_buf(old, text));
     }
-    let mut scratch = vec![in alloc; 0xeeu8; text.len().saturating_add(1)]?;
-    shown(alloc, push_lenient_text_in_buf(old, text, &mut scratch))
+    shown(alloc, push_lenient_text_in_buf(old, text))
 }
 
 /// Returns whether a text extends the path of a PCI device to `path` in a buffer of `len` bytes, or is
@@ -58,20 +55,6 @@ fn is_added(alloc: Global, exact: bool, len: usize, text: &str, path: &[u8]) -> 
     })
 }
 
-/// Returns whether a text that people write is refused with each second buffer that is too short.
-fn needs_scratch(alloc: Global, text: &str) -> Result<bool, Fail> {
-    let needed = Err(PushLenientTextError::ScratchTooSmall(text.len().saturating_add(1)));
-    let mut scratch = vec![in alloc; 0xeeu8; text.len()]?;
-    let mut buffer = [0x7f, 0xff, 4, 0, 9, 9];
-    for room in 0..=scratch.len() {
-        let added = push_lenient_text_in_buf(&mut buffer, text, &mut scratch[..room]);
-        if added != needed || buffer != [0x7f, 0xff, 4, 0, 9, 9] {
-            return Ok(false);
-        }
-    }
-    Ok(true)
-}
-
 /// Returns the first line of a table whose text is not appended correctly, in buffers of any size that has
 /// room for the device.
 fn find_wrong(alloc: Global, exact: bool, table: &str) -> Result<Option<&str>, Fail> {
@@ -82,9 +65,6 @@ fn find_wrong(alloc: Global, exact: bool, table: &str) -> Result<Option<&str>, F
             if !is_added(alloc, exact, room, text, &path)? {
                 return Ok(Some(line));
             }
-        }
-        if !exact && !needs_scratch(alloc, text)? {
-            return Ok(Some(line));
         }
     }
     Ok(None)

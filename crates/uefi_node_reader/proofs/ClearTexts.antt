@@ -1,5 +1,5 @@
 -- Texts of printable ASCII are printed as they lie, and are read up to the byte that stops them.
-use Rattle.std.proofs.Common.{◌≡◌, ℕ, suc, ◌+◌, ◌/◌, ◌%◌, ◌<◌, ◌≤◌, Bool, true, false, cond, leb, ltb, not, ◌&&◌, List, [], ◌∷◌, ◌++◌, length, take, drop, refl, ap, sym, subst, ◌∙◌, arith}
+use Rattle.std.proofs.Common.{◌≡◌, ℕ, suc, ◌+◌, ◌-◌, ◌/◌, ◌%◌, ◌<◌, ◌≤◌, Bool, true, false, cond, leb, ltb, not, ◌&&◌, List, [], ◌∷◌, ◌++◌, length, take, drop, refl, ap, sym, subst, ◌∙◌, arith}
 use Rattle.std.proofs.lemmas.Bool.{and_from, and_parts}
 use Rattle.std.specs.Prelude.{All}
 use Rattle.std.specs.Char.Escape.{encode_utf16}
@@ -7,7 +7,7 @@ use Rattle.std.specs.Char.Utf16.{utf16_lossy_chars}
 use Rattle.std.specs.List.{flat_map, list_all, position_or_len}
 use Rattle.std.specs.Str.{all_scalars}
 use Rattle.std.proofs.lemmas.Bool.Decides.{nat_tests}
-use Rattle.std.proofs.lemmas.List.{append-nil, take_all}
+use Rattle.std.proofs.lemmas.List.{append-nil, drop_at, length-append, take_all, take_at}
 use Rattle.std.proofs.lemmas.List.Elements.{All-nil, All-cons}
 use Rattle.std.proofs.lemmas.Str.{encode_ascii}
 use borrow.Author.Tests.{eq-eqb, leb-true, lt-ltb, ltb-true}
@@ -74,26 +74,18 @@ clear_takes stop (c ∷ cs) = by (is_clear stop c) refl (clear_takes stop cs)
         → Is (cond (is_clear stop c) (c ∷ run.0, run.1) ([], c ∷ cs))
     by t p h = subst (λ (x : Bool). Is (cond x (c ∷ run.0, run.1) ([], c ∷ cs))) (sym p) (at t p h)
 
--- where such a text ends
-pub run_at : (stop : ℕ) (text : List ℕ) → let end : ℕ = position_or_len (λ c. not (is_clear stop c)) text in
-    clear_run stop text ≡ (take end text, drop end text)
-run_at stop [] = refl
-run_at stop (c ∷ cs) = by (is_clear stop c) refl (run_at stop cs)
-  where
-    run : List ℕ × List ℕ
-    run = clear_run stop cs
-
-    end : ℕ
-    end = position_or_len (λ d. not (is_clear stop d)) cs
-
-    both : ℕ → List ℕ × List ℕ
-    both n = (take n (c ∷ cs), drop n (c ∷ cs))
-
-    by : (t : Bool) → is_clear stop c ≡ t → run ≡ (take end cs, drop end cs)
-        → cond (is_clear stop c) (c ∷ run.0, run.1) ([], c ∷ cs) ≡ both (cond (not (not (is_clear stop c))) (1 + end) 0)
-    by true p h = ap (λ (t : Bool). cond t (c ∷ run.0, run.1) ([], c ∷ cs)) p ∙ (λ i. (c ∷ (h i).0, (h i).1))
-        ∙ ap both {x = suc end} {y = 1 + end} (omega arith) ∙ ap (λ (t : Bool). both (cond (not (not t)) (1 + end) 0)) (sym p)
-    by false p h = ap (λ (t : Bool). cond t (c ∷ run.0, run.1) ([], c ∷ cs)) p ∙ ap (λ (t : Bool). both (cond (not (not t)) (1 + end) 0)) (sym p)
+-- the part before what is left
+pub run_front : (stop : ℕ) (text : List ℕ) → let run : List ℕ × List ℕ = clear_run stop text in
+    (length run.1 ≤ length text) × (take (length text - length run.1) text ≡ run.0) × (drop (length text - length run.1) text ≡ run.1)
+run_front stop text =
+    let run : List ℕ × List ℕ = clear_run stop text in
+    let is : text ≡ run.0 ++ run.1 = (clear_takes stop text).0 in
+    let size : length text ≡ length run.0 + length run.1 = ap length is ∙ length-append run.0 run.1 in
+    let before : length text - length run.1 ≡ length run.0 = omega (arith, size) in (
+      omega (arith, size),
+      (λ i. take (before i) (is i)) ∙ take_at run.0 run.1 (length run.0) refl,
+      (λ i. drop (before i) (is i)) ∙ drop_at run.0 run.1 (length run.0) refl,
+    )
 
 -- such a text prints as it lies, one byte each
 byte_clear : (stop c : ℕ) → is_clear stop c ≡ true → shown_byte c ≡ c ∷ []

@@ -19,19 +19,15 @@ use Rattle.uefi_node_reader.specs.Stops.{further, stop_at}
 use Rattle.uefi_node_reader.specs.TableReading.{put_at}
 use Rattle.uefi_node_reader.specs.declared.faults.Stop.{Stop}
 
--- what is left of a text
-abbrev pub Left : Type 0
-Left = Bor (List ℕ)
-
-abbrev pub found_before : List ℕ → Option Left → Option (List ℕ × List ℕ)
-found_before found left = option_map (λ (x : Left). (found, x.now)) left
+abbrev pub found_before : {A : Type 0} → (A → List ℕ) → List ℕ → Option A → Option (List ℕ × List ℕ)
+found_before bytes found left = option_map (λ x. (found, bytes x)) left
 
 -- a field in its place among data
-module _ (kind sub_kind : ℕ) (p : Piece) (content text found : List ℕ) (spare : ℕ) (left : Option Left)
+module _ {A : Type 0} (bytes : A → List ℕ) (kind sub_kind : ℕ) (p : Piece) (content text found : List ℕ) (spare : ℕ) (left : Option A)
     (within : p.place + p.width ≤ length content) (is_spare : spare ≡ left_out kind sub_kind p.place)
-    (read : found_before found left
+    (read : found_before bytes found left
     ≡ value_or_spare p.shape spare (length (slice_range content p.place (p.place + p.width))) text) where
-  value : value_or_spare p.shape (left_out kind sub_kind p.place) p.width text ≡ found_before found left
+  value : value_or_spare p.shape (left_out kind sub_kind p.place) p.width text ≡ found_before bytes found left
   value =
       let wide : length (slice_range content p.place (p.place + p.width)) ≡ p.width =
       length-between content p.place (p.place + p.width) within ∙ omega arith in
@@ -46,45 +42,17 @@ module _ (kind sub_kind : ℕ) (p : Piece) (content text found : List ℕ) (spar
       → Err stop ≡ value_set kind sub_kind p content text
   unfolding placed
   not_set none stop is =
-      ap (λ (s : Stop). Err s) is ∙ sym (ap placed (value ∙ ap (found_before found) none))
+      ap (λ (s : Stop). Err s) is ∙ sym (ap placed (value ∙ ap (found_before bytes found) none))
 
   -- one that was read
-  pub set_in_place : (rest : Left) → left ≡ Some rest
-      → Ok (put_mid p.place (p.place + p.width - p.place) content found, rest.now)
+  pub set_in_place : (rest : A) → left ≡ Some rest
+      → Ok (put_mid p.place (p.place + p.width - p.place) content found, bytes rest)
       ≡ value_set kind sub_kind p content text
   unfolding placed
   set_in_place rest some =
       let size : p.place + p.width - p.place ≡ p.width = omega arith in
-      ap (λ (k : ℕ). Ok (put_mid p.place k content found, rest.now)) size
-      ∙ sym (ap placed (value ∙ ap (found_before found) some))
-
--- a name without a backslash at its start, and one with it
-pub rooted_bare : (name : List ℕ) → 1 ≤ length name → (get_or name 0 0 ≡ 92 → ⊥) → rooted name ≡ 92 ∷ name
-rooted_bare [] some other = absurd (omega (arith, some))
-rooted_bare (c ∷ cs) some other = ap (λ (t : Bool). cond t (c ∷ cs) (92 ∷ c ∷ cs)) (ne_eqb c 92 other)
-
-pub rooted_same : (name : List ℕ) → get_or name 0 0 ≡ 92 → rooted name ≡ name
-rooted_same [] e = refl
-rooted_same (c ∷ cs) e = ap (λ (t : Bool). cond t (c ∷ cs) (92 ∷ c ∷ cs)) (eq-eqb c 92 e)
-
--- a name is no more than one byte longer with its backslash
-pub rooted_long : (name : List ℕ) → length (rooted name) ≤ length name + 1
-rooted_long [] = omega arith
-rooted_long (c ∷ cs) = by (eqb c 92)
-  where
-    by : (b : Bool) → length (cond b (c ∷ cs) (92 ∷ c ∷ cs)) ≤ length (c ∷ cs) + 1
-    by true = omega arith
-    by false = omega arith
-
--- a call is no more than one byte longer, its end, when it is tidied
-pub tidied_long : (text : List ℕ) → length (tidied text) ≤ length text + 1
-tidied_long text = omega (
-  arith,
-  length-append (map tidied_byte (filter (λ c. not (is_blank c)) text)) (codes ")"),
-  length-map (filter (λ c. not (is_blank c)) text) tidied_byte,
-  length-filter (λ c. not (is_blank c)) text,
-  count_by-le-length (λ c. not (is_blank c)) text,
-)
+      ap (λ (k : ℕ). Ok (put_mid p.place k content found, bytes rest)) size
+      ∙ sym (ap placed (value ∙ ap (found_before bytes found) some))
 
 -- trying one group more
 next_assoc : (r : Result Node (Option Stop)) (f g : Option Stop → Result Node (Option Stop))

@@ -1,5 +1,4 @@
 pub mod Digits
-mod Marks
 pub mod ByteRuns
 pub mod Literals
 pub mod WordLaws
@@ -21,10 +20,14 @@ pub mod TableLaws
 pub mod PieceReads
 pub mod RestReads
 mod Spaces
+pub mod NextBytes
+pub mod FirstMarks
+pub mod KeptBytes
 pub mod Groups
 pub mod FirstLetters
 pub mod PlainNodes
 pub mod NamedFiles
+mod FileNodes
 pub mod NodeLaws
 pub mod Spares
 pub mod LenientFields

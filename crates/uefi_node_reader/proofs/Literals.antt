@@ -67,14 +67,3 @@ same_is [] (d ∷ ds) e = cc
 same_is (c ∷ cs) [] e = cc
 same_is (c ∷ cs) (d ∷ ds) e =
     let parts = and_parts (eqb c d) (same_text cs ds) e in λ i. eqb-true c d parts.0 i ∷ same_is cs ds parts.1 i
-
--- what is left of a text after a literal, as `strip_prefix` says it
-pub stripped : (literal text : List ℕ) (r : Option (Bor (List ℕ)))
-    → MatchOption r ((rest : List ℕ) → text ≢ literal ++ rest) (λ x. text ≡ literal ++ x.now)
-    → option_map (λ (x : Bor (List ℕ)). x.now) r ≡ after literal text
-stripped literal text None h = by (after literal text) refl
-  where
-    by : (o : Option (List ℕ)) → after literal text ≡ o → None ≡ o
-    by None e = refl
-    by (Some rest) e = absurd (h rest (after_takes literal text rest e))
-stripped literal text (Some x) h = sym (ap (λ (t : List ℕ). after literal t) h ∙ after_again literal x.now)

@@ -1,15 +1,17 @@
 -- Nodes whose first bytes were decoded, and whose others are counted.
-use Rattle.std.proofs.Common.{◌≡◌, Bor, ℕ, ◌+◌, ◌-◌, ◌<◌, ◌≤◌, ◌^◌, min, take, drop, Bool, true, false, true≢false, cond, leb, List, ◌++◌, length, length-append, refl, sym, ap, ◌∙◌, arith}
+use Rattle.std.proofs.Common.{◌≡◌, ℕ, ◌+◌, ◌-◌, ◌<◌, ◌≤◌, ◌^◌, min, take, drop, Bool, true, false, true≢false, cond, leb, List, [], ◌∷◌, ◌++◌, length, length-append, refl, sym, ap, ◌∙◌, arith}
 use Rattle.std.specs.Prelude.{Option, Some, None, is_some, option_and_then, ◌==◌, ◌&&◌}
 use Rattle.std.specs.Option.{option_map}
 use Rattle.std.proofs.lemmas.Bool.{le-leb, lt-leb}
 use Rattle.std.proofs.Math.Seq.{take-append-add}
 use Rattle.std.proofs.lemmas.List.{drop-take, drop_at, length-take-le, take_at}
 use Rattle.uefi_node_table.specs.Rows.{Form}
+use Rattle.uefi_node_table.specs.declared.rows.Tail.{Tail}
+use Rattle.uefi_node_table.specs.declared.rows.Tail.TheVariants.{Nothing, Bytes, Text, Utf16, Name, Padded, Ids, Repeated}
 use Rattle.uefi_device_nodes.specs.Nodes.{Node, node_with}
 use Rattle.uefi_node_reader.specs.Counted.{pushed_bytes, put_on}
 use Rattle.uefi_node_reader.specs.FieldReading.{read_if}
-use Rattle.uefi_node_reader.specs.TableReading.{added, form_place, kept, prints}
+use Rattle.uefi_node_reader.specs.TableReading.{added, first_of, form_place, kept, prints, tail_read}
 use Rattle.uefi_node_reader.specs.ParsedNodes.{read_data, fitting}
 use Rattle.uefi_node_reader.proofs.CountedBytes.{counted, first_shown, front_kept, whole_written}
 use Rattle.uefi_node_reader.proofs.Digits.{some_pair}
@@ -68,31 +70,47 @@ module _ (start : List ℕ) (fixed : ℕ) (small : fixed ≤ 64) (room : length 
         data_ = (λ i. Some (front i ++ read.0, same.1 i)) ∙ sym (fits (take fixed start ++ read.0, read.1) (omega (arith, l, exact, size)));
       }
 
+-- only the first byte of what closes a tail counts
+pub stop_alone : (tail : Tail) (close text : List ℕ) → tail_read tail (first_of close ∷ []) text ≡ tail_read tail close text
+stop_alone Nothing close text = refl
+stop_alone Bytes close text = refl
+stop_alone Text close text = refl
+stop_alone Utf16 close text = refl
+stop_alone Name close text = refl
+stop_alone Padded close text = refl
+stop_alone Ids close text = refl
+stop_alone (Repeated items) close text = refl
+
 -- all data, written to as many places
-pub tail_written : (front places written head : List ℕ) (o : Option (List ℕ × List ℕ)) (len : ℕ) (r : Option (ℕ × Bor (List ℕ)))
+pub tail_written : {A : Type 0} (bytes_of : A → List ℕ) (front places written head : List ℕ) (o : Option (List ℕ × List ℕ)) (len : ℕ) (r : Option (ℕ × A))
     → is_some o ≡ true → length places ≡ length (front ++ read_data o) → length places ≤ 2 ^ 64 - 1 → (written, len) ≡ pushed_bytes (places, 0) front
-    → option_map (λ (x : ℕ × Bor (List ℕ)). ((head, x.0), x.1.now)) r ≡ option_and_then (put_on (written, len)) o → head ≡ front ++ read_data o
-tail_written front places written head None len r some size few first e = absurd (true≢false (sym some))
-tail_written front places written head (Some read) len None some size few first e = cc
-tail_written front places written head (Some read) len (Some x) some size few first e =
-    let same = some_pair ((head, x.0), x.1.now) (pushed_bytes (written, len) read.0, read.1) e in
+    → option_map (λ (x : ℕ × A). ((head, x.0), bytes_of x.1)) r ≡ option_and_then (put_on (written, len)) o → head ≡ front ++ read_data o
+tail_written bytes_of front places written head None len r some size few first e = absurd (true≢false (sym some))
+tail_written bytes_of front places written head (Some read) len None some size few first e = cc
+tail_written bytes_of front places written head (Some read) len (Some x) some size few first e =
+    let same = some_pair ((head, x.0), bytes_of x.1) (pushed_bytes (written, len) read.0, read.1) e in
     ap (λ (s : List ℕ × ℕ). s.0) (same.0 ∙ ap (λ (s : List ℕ × ℕ). pushed_bytes s read.0) first)
     ∙ whole_written front read.0 places size few
 
--- the first bytes of a whole, and how many it has
-pub whole_shown : (start head bytes : List ℕ) (len : ℕ) → length start ≡ 64 → (head, len) ≡ pushed_bytes (start, 0) bytes → len ≤ 0xfffb
-    → (len ≡ length bytes) × (take len head ≡ take 64 bytes)
-whole_shown start head bytes len room e l =
+-- how many bytes a whole has
+pub whole_count : (start head bytes : List ℕ) (len : ℕ) → (head, len) ≡ pushed_bytes (start, 0) bytes → len ≤ 0xfffb → len ≡ length bytes
+whole_count start head bytes len e l =
     let count : len ≡ min (0 + length bytes) (2 ^ 64 - 1) = ap (λ (s : List ℕ × ℕ). s.1) e ∙ counted bytes start 0 (omega arith) in
-    let exact : len ≡ 0 + length bytes = omega (arith, l, count) in (
-      omega (arith, exact),
-      (λ i. take (exact i) (e i).0) ∙ first_shown bytes start 0 (omega arith) (omega (arith, exact, l)) ∙ ap (λ (n : ℕ). take n bytes) room,
-    )
+    omega (arith, l, count)
 
 pub whole_long : (start head bytes : List ℕ) (len : ℕ) → (head, len) ≡ pushed_bytes (start, 0) bytes → 0xfffb < len → leb (length bytes) 0xfffb ≡ false
 whole_long start head bytes len e l =
     let count : len ≡ min (0 + length bytes) (2 ^ 64 - 1) = ap (λ (s : List ℕ × ℕ). s.1) e ∙ counted bytes start 0 (omega arith) in
     lt-leb (length bytes) 0xfffb (omega (arith, l, count))
+
+-- what fits into a node
+pub fitting_fits : (o : Option (List ℕ × List ℕ)) (x : List ℕ × List ℕ) → Some x ≡ fitting o → leb (length x.0) 0xfffb ≡ true
+fitting_fits None x e = cc
+fitting_fits (Some read) x e = by (leb (length read.0) 0xfffb) refl e
+  where
+    by : (t : Bool) → leb (length read.0) 0xfffb ≡ t → Some x ≡ cond t (Some read) None → leb (length x.0) 0xfffb ≡ true
+    by true f h = ap (λ (y : List ℕ). leb (length y) 0xfffb) (some_pair x read h).0 ∙ f
+    by false f h = cc
 
 -- a node of a form that is read, if no more bytes are read than a node may have
 pub kept-fitting : (all : List Form) (place : ℕ) (form : Form) (o : Option (List ℕ × List ℕ)) → kept all place form (fitting o) ≡ kept all place form o

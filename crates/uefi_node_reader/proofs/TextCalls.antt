@@ -37,12 +37,12 @@ use Rattle.uefi_node_reader.proofs.ToldForms.{all_told, next_way, of_form, told_
 use Rattle.uefi_node_reader.proofs.ToldNodes.{tells_told}
 
 -- data that fit a node, and others
-pub fit : (found left content rest : List ℕ) → ◌≡◌ {A = Option (List ℕ × List ℕ)} (Some (found, left)) (fitting (Some (content, rest)))
+pub fit : (found content rest : List ℕ) → ◌≡◌ {A = Option (List ℕ)} (Some found) (option_map (λ (x : List ℕ × List ℕ). x.0) (fitting (Some (content, rest))))
     → found ≡ content
-fit found left content rest e = by (leb (length content) 0xfffb) e
+fit found content rest e = by (leb (length content) 0xfffb) e
   where
-    by : (b : Bool) → ◌≡◌ {A = Option (List ℕ × List ℕ)} (Some (found, left)) (cond b (Some (content, rest)) None) → found ≡ content
-    by true p = (some_pair (found, left) (content, rest) p).0
+    by : (b : Bool) → ◌≡◌ {A = Option (List ℕ)} (Some found) (option_map (λ (x : List ℕ × List ℕ). x.0) (cond b (Some (content, rest)) None)) → found ≡ content
+    by true p = cc
     by false p = cc
 
 pub unfit : (form : Form) (content rest other : List ℕ) → None ≡ option_map (λ (x : List ℕ × List ℕ). x.0) (fitting (Some (content, rest)))
@@ -58,6 +58,40 @@ unfit form content rest other e = by (leb (length content) 0xfffb) refl e
 pub past_some : (o : Option (List ℕ × List ℕ)) (rest : List ℕ) → Some rest ≡ past o → (x : List ℕ × List ℕ) × (o ≡ Some x) × (rest ≡ x.1)
 past_some None rest e = cc
 past_some (Some x) rest e = let same : rest ≡ x.1 = cc in (x, refl, same)
+
+-- where a call with a text stops
+module _ (form : Form) (fixed text call : List ℕ) where
+  abbrev after_pieces : List ℕ → List ℕ × List ℕ → Result Node Stop
+  after_pieces content all = ok_or (told_in form (Some (all.0 ++ content, all.1))) (stop_at all.1 expected.Untold)
+
+  abbrev after_tail : List ℕ × List ℕ → Result Node Stop
+  after_tail tail = after_ending form.close (call_left call tail.1) >? pieces_set form.kind form.sub_kind form.rest fixed >? after_pieces tail.0
+
+  -- in the text
+  pub text_unread : (stop : Stop) → Err stop ≡ ok_or (past (tail_read form.tail form.close text)) (text_stop form.tail text)
+      → Err stop ≡ text_told form fixed text call
+  text_unread stop e = by (tail_read form.tail form.close text) refl e
+    where
+      by : (o : Option (List ℕ × List ℕ)) → tail_read form.tail form.close text ≡ o → Err stop ≡ ok_or (past o) (text_stop form.tail text)
+          → Err stop ≡ text_told form fixed text call
+      by None f h = ap (λ (s : Stop). Err s) (let same : stop ≡ text_stop form.tail text = cc in same)
+          ∙ ap (λ (o : Option (List ℕ × List ℕ)). ok_or o (text_stop form.tail text) >? after_tail) (sym f)
+      by (Some x) f h = cc
+
+  module _ (tail : List ℕ × List ℕ) (read : tail_read form.tail form.close text ≡ Some tail) where
+    -- at its end
+    pub end_unread : (stop : Stop) → Err stop ≡ after_ending form.close (call_left call tail.1) → Err stop ≡ text_told form fixed text call
+    end_unread stop e =
+        ap (λ (r : Result (List ℕ) Stop). r >? pieces_set form.kind form.sub_kind form.rest fixed >? after_pieces tail.0) e
+        ∙ ap (λ (o : Option (List ℕ × List ℕ)). ok_or o (text_stop form.tail text) >? after_tail) (sym read)
+
+    -- in the fields after it
+    pub fields_unread : (rest : List ℕ) (stop : Stop) → Ok rest ≡ after_ending form.close (call_left call tail.1)
+        → Err stop ≡ pieces_set form.kind form.sub_kind form.rest fixed rest → Err stop ≡ text_told form fixed text call
+    fields_unread rest stop start e =
+        ap (λ (r : Result (List ℕ × List ℕ) Stop). r >? after_pieces tail.0) e
+        ∙ ap (λ (r : Result (List ℕ) Stop). r >? pieces_set form.kind form.sub_kind form.rest fixed >? after_pieces tail.0) start
+        ∙ ap (λ (o : Option (List ℕ × List ℕ)). ok_or o (text_stop form.tail text) >? after_tail) (sym read)
 
 -- a node of a form, by its text and what follows
 module _ (form : Form) (fixed text call : List ℕ) (tail : List ℕ × List ℕ) (read : tail_read form.tail form.close text ≡ Some tail)

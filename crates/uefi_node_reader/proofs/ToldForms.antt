@@ -15,9 +15,9 @@ use Rattle.uefi_node_reader.specs.TableReading.{is_empty, is_sound, prints}
 use Rattle.uefi_node_reader.specs.declared.faults.Stop.{Stop}
 
 -- the test for an empty text
-pub empty_is : (rest : List ℕ) (found : Bool) → found ≡ eqb (length rest) 0 → found ≡ is_empty rest
-empty_is [] found e = e
-empty_is (c ∷ cs) found e = e ∙ ne_eqb (length (c ∷ cs)) 0 (λ h. absurd (omega arith))
+pub empty_is : (rest : List ℕ) → true ≡ is_empty rest → rest ≡ []
+empty_is [] e = refl
+empty_is (c ∷ cs) e = cc
 
 -- the node of a form with these data
 abbrev pub of_form : Form → List ℕ → Node

@@ -34,11 +34,21 @@ tidied_byte byte = if to_ascii_uppercase byte == 88 then 120 else to_ascii_upper
 abbrev pub tidied : List ℕ → List ℕ
 tidied text = map tidied_byte (filter (λ c. not (is_blank c)) text) ++ codes ")"
 
+-- what is left of a tidied call before this part of the call, which ends with the `)` if `is_open`
+abbrev pub tidied_rest : Bool → List ℕ → List ℕ
+tidied_rest is_open text =
+    map tidied_byte (filter (λ c. not (is_blank c)) text) ++ (if is_open then codes ")" else [])
+
 -- the index of the byte that `count` other bytes precede, not counting blanks
 abbrev pub place_at : ℕ → List ℕ → ℕ
 place_at count [] = 0
 place_at count (c ∷ cs) = if is_blank c then place_at count cs + 1
     else (if count == 0 then 0 else place_at (count - 1) cs + 1)
+
+-- a text from the first byte that is `mark` on
+abbrev pub from_mark : ℕ → List ℕ → Option (List ℕ)
+from_mark mark [] = None
+from_mark mark (c ∷ cs) = if c == mark then Some (c ∷ cs) else from_mark mark cs
 
 -- the parts of a text before and after its first `)`
 abbrev pub cut_call : List ℕ → Option (List ℕ × List ℕ)

@@ -16,6 +16,7 @@ pub mod LenientCalls
 pub mod TextCalls
 pub mod NearNames
 pub mod FaultTexts
+pub mod FileNodes
 pub mod Mistakes
 pub mod LenientNodes
 pub mod Alike
@@ -25,3 +26,4 @@ pub mod Styles
 pub mod Counted
 pub mod ParsedNodes
 pub mod ParsedNodeViews
+pub mod ReadNodes

@@ -1,13 +1,18 @@
--- What contracts see of a node that was read. Other crates use only these words, and no field.
+-- What contracts see of a node that was read.
 use Rattle.std.specs.Prelude.{ℕ, List}
 use Rattle.uefi_device_nodes.specs.Nodes.{Node, node_with}
-use Rattle.uefi_node_reader.specs.ParsedNodes.{all_data}
-use Rattle.uefi_node_reader.specs.declared.parsed_node.ParsedNode.{ParsedNode}
+
+-- a node that was read, and how many of its bytes are fixed
+pub record TextNode : Type 0 where
+  pub device_type : ℕ
+  pub sub_type : ℕ
+  pub fixed : ℕ
+  pub content : List ℕ
 
 -- the data of a node that was read
-abbrev pub text_node_data : ParsedNode → List ℕ
-text_node_data node = all_data node.head node.fixed node.data_form node.close.now node.text.now
+abbrev pub text_node_data : TextNode → List ℕ
+text_node_data node = node.content
 
 -- the node that was read
-unfoldable pub parsed_node : ParsedNode → Node
-parsed_node node = node_with node.device_type node.sub_type (text_node_data node)
+unfoldable pub parsed_node : TextNode → Node
+parsed_node node = node_with node.device_type node.sub_type node.content

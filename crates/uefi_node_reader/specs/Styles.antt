@@ -17,21 +17,11 @@ styled_read Printed is_rooted text = ok_or (ended (node_read text)) (fault_at_by
 styled_read Lenient is_rooted text = lenient_read is_rooted text
 styled_read Libefivar is_rooted text = libefivar_read is_rooted text
 
--- whether calls and names of a style are copied before they are read
-abbrev pub is_copied : TextStyle → Bool
-is_copied Printed = false
-is_copied Lenient = true
-is_copied Libefivar = true
-
 -- whether a style reads printed texts as the nodes that they are printed for
 abbrev pub takes_printed : TextStyle → Bool
 takes_printed Printed = true
 takes_printed Lenient = true
 takes_printed Libefivar = false
-
--- a buffer is long enough for a copy of a text, if the style copies
-abbrev pub HasScratch : TextStyle → List ℕ → List ℕ → Type 0
-HasScratch style text scratch = is_copied style ≡ true → length text < length scratch
 
 -- a node that is read is told
 abbrev pub StyledTakes : Type 0

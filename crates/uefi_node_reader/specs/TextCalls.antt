@@ -37,6 +37,11 @@ left_of front call left = drop (place_at (length call - length left) front) fron
 abbrev pub call_left : List ℕ → List ℕ → List ℕ
 call_left call left = drop (length call - length (tidied left)) call
 
+-- whether the IDs of a device are omitted
+abbrev pub are_left_out : Tail → List ℕ → Bool
+are_left_out Ids [] = true
+are_left_out tail text = false
+
 -- a text, or the commas between empty strings if the IDs of a device are omitted
 abbrev pub or_commas : Tail → List ℕ → List ℕ
 or_commas Ids [] = codes ",,"

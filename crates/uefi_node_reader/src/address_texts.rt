@@ -4,7 +4,7 @@
 //! known only at run time. The compiler makes that a call of `memcpy`, which firmware lacks.
 #![tactic(auto)]
 
-ghost use Rattle.std.specs.Prelude.{◌≡◌, ◌<◌, ◌≤◌, ◌+◌, ◌-◌, ◌++◌, ◌∷◌, [], true, IfSome, drop, length, option_copied, take};
+ghost use Rattle.std.specs.Prelude.{◌≡◌, ◌<◌, ◌≤◌, ◌+◌, ◌-◌, ◌++◌, ◌∷◌, [], true, ℕ, List, IfSome, drop, length, take};
 ghost use Rattle.std.specs.Net.Addr.{octets_of, segments_of};
 ghost use Rattle.std.specs.Net.Reader as Reader;
 ghost use Rattle.std.specs.Option.{option_map};
@@ -12,7 +12,9 @@ ghost use Rattle.std.proofs.Math.ListN.{replicate};
 ghost use Rattle.uefi_node_reader.specs.Counted.{pushed_bytes};
 ghost use Rattle.uefi_node_reader.specs.ShortAddresses.{address_octets};
 
+use crate::clear_texts::first_of;
 use crate::counted_bytes::push;
+use crate::texts::{Text, is_empty};
 
 /// An IPv6 address.
 #[derive(Clone, Copy)]
@@ -22,26 +24,31 @@ pub(crate) struct Address {
 }
 
 /// Reads a byte at the start of a text, and returns the rest.
-fn read_byte(text: &[u8], byte: u8) -> Option<&[u8]>
-    ensures { option_copied result ≡ Reader.read_byte byte text.now }
+fn read_byte<T: Text>(text: T, byte: u8) -> Option<T>
+    ensures { option_map (λ x. T.bytes x) result ≡ Reader.read_byte byte (T.bytes text) }
 {
-    match text {
-        [first, rest @ ..] if *first == byte => Some(rest),
-        _ => None,
+    let (first, rest) = text.split_first()?;
+    if first != byte {
+        return None;
     }
+    Some(rest)
 }
 
 /// Reads a number up to `last` at the start of a text, and returns it and the number of its digits.
-fn read_number(text: &[u8], base: u32, last: u32) -> Option<(u32, usize)>
+fn read_number<T: Text>(text: T, base: u32, last: u32) -> Option<(u32, usize)>
     requires low { 2 ≤ base }
     requires high { base ≤ 16 }
-    ensures value { result ≡ Reader.read_number base last text.now }
-    ensures fits { IfSome result (λ n. (n.0 ≤ last) × (0 < n.1) × (n.1 ≤ length text.now)) }
+    ensures value { result ≡ Reader.read_number base last (T.bytes text) }
+    ensures fits { IfSome result (λ n. (n.0 ≤ last) × (0 < n.1) × (n.1 ≤ length (T.bytes text))) }
 {
     let mut value = 0u32;
     let mut len = 0;
-    for byte in text {
-        let Some(digit) = char::from(*byte).to_digit(base) else {
+    let mut rest = text;
+    for _ in 0..text.len() {
+        let Some((byte, after)) = rest.split_first() else {
+            break;
+        };
+        let Some(digit) = char::from(byte).to_digit(base) else {
             break;
         };
         let next = value as u64 * base as u64 + digit as u64;
@@ -50,27 +57,28 @@ fn read_number(text: &[u8], base: u32, last: u32) -> Option<(u32, usize)>
         }
         value = next as u32;
         len += 1;
+        rest = after;
     }
     if len == 0 { None } else { Some((value, len)) }
 }
 
 /// Reads a part of an IPv4 address, without leading zeros, and returns the rest too.
 #[tactic(auto, unfolding(std::specs::Net::Reader::read_octet))]
-fn read_octet(text: &[u8]) -> Option<(u8, &[u8])>
-    ensures { Reader.read_view (λ n. n) result ≡ Reader.read_octet text.now }
+fn read_octet<T: Text>(text: T) -> Option<(u8, T)>
+    ensures { option_map (λ x. (x.0, T.bytes x.1)) result ≡ Reader.read_octet (T.bytes text) }
 {
     let (value, len) = read_number(text, 10, 255)?;
-    if len > 1 && text[0] == b'0' {
+    if len > 1 && first_of(text) == b'0' {
         return None;
     }
-    Some((value as u8, &text[len..]))
+    Some((value as u8, text.split_at(len).1))
 }
 
 /// Reads the segments of an IPv4 address, and returns the rest too.
 #[tactic(auto, unfolding(std::specs::Net::Reader::read_ipv4))]
-fn read_ipv4(text: &[u8]) -> Option<((u16, u16), &[u8])>
-    ensures { Reader.read_view (λ x. x.0 ∷ x.1 ∷ []) result
-        ≡ option_map (λ x. (segments_of x.0, x.1)) (Reader.read_ipv4 text.now) }
+fn read_ipv4<T: Text>(text: T) -> Option<((u16, u16), T)>
+    ensures { option_map {U = List ℕ × List ℕ} (λ x. (x.0.0 ∷ x.0.1 ∷ [], T.bytes x.1)) result
+        ≡ option_map (λ x. (segments_of x.0, x.1)) (Reader.read_ipv4 (T.bytes text)) }
 {
     let (a, rest) = read_octet(text)?;
     let (b, rest) = read_octet(read_byte(rest, b'.')?)?;
@@ -82,28 +90,28 @@ fn read_ipv4(text: &[u8]) -> Option<((u16, u16), &[u8])>
 }
 
 /// Reads the segments of an IPv4 address, if two segments fit, and returns the rest too.
-fn read_ipv4_if(text: &[u8], fits: bool) -> Option<((u16, u16), &[u8])>
-    ensures { Reader.read_view (λ x. x.0 ∷ x.1 ∷ []) result
-        ≡ option_map (λ x. (segments_of x.0, x.1)) (Reader.read_ipv4_if fits text.now) }
+fn read_ipv4_if<T: Text>(text: T, fits: bool) -> Option<((u16, u16), T)>
+    ensures { option_map {U = List ℕ × List ℕ} (λ x. (x.0.0 ∷ x.0.1 ∷ [], T.bytes x.1)) result
+        ≡ option_map (λ x. (segments_of x.0, x.1)) (Reader.read_ipv4_if fits (T.bytes text)) }
 {
     if fits { read_ipv4(text) } else { None }
 }
 
 /// Reads a segment of up to four digits, and returns the rest too.
 #[tactic(auto, unfolding(std::specs::Net::Reader::read_segment))]
-fn read_segment(text: &[u8]) -> Option<(u16, &[u8])>
-    ensures { Reader.read_view (λ n. n) result ≡ Reader.read_segment text.now }
+fn read_segment<T: Text>(text: T) -> Option<(u16, T)>
+    ensures { option_map (λ x. (x.0, T.bytes x.1)) result ≡ Reader.read_segment (T.bytes text) }
 {
     let (value, len) = read_number(text, 16, 0xffff)?;
     if len > 4 {
         return None;
     }
-    Some((value as u16, &text[len..]))
+    Some((value as u16, text.split_at(len).1))
 }
 
 /// Reads the colon before a segment, except before the first, and returns the rest.
-fn read_separator(text: &[u8], first: bool) -> Option<&[u8]>
-    ensures { option_copied result ≡ Reader.read_separator first text.now }
+fn read_separator<T: Text>(text: T, first: bool) -> Option<T>
+    ensures { option_map (λ x. T.bytes x) result ≡ Reader.read_separator first (T.bytes text) }
 {
     if first {
         Some(text)
@@ -114,9 +122,9 @@ fn read_separator(text: &[u8], first: bool) -> Option<&[u8]>
 
 /// Reads segments with colons between them into the first of these places. Returns the number of segments,
 /// whether the last two are an IPv4 address, and the rest of the text.
-fn read_segments<'a>(text: &'a [u8], segments: &mut [u16]) -> (usize, bool, &'a [u8])
-    ensures value { Reader.read_segments (length segments.old) true text.now
-        ≡ (take result.0 segments.new, result.1, result.2.now) }
+fn read_segments<T: Text>(text: T, segments: &mut [u16]) -> (usize, bool, T)
+    ensures value { Reader.read_segments (length segments.old) true (T.bytes text)
+        ≡ (take result.0 segments.new, result.1, T.bytes result.2) }
     ensures within { result.0 ≤ length segments.old }
 {
     let room = segments.len();
@@ -164,13 +172,13 @@ fn join(head: &[u16], tail: &[u16]) -> Address
 
 /// Reads a whole text as an address.
 #[tactic(auto, unfolding(crate::specs::ShortAddresses::address_octets, std::specs::Net::Reader::read_ipv6))]
-pub(crate) fn whole_address(text: &[u8]) -> Option<Address>
-    ensures { option_map (λ x. x.octets) result ≡ address_octets text.now }
+pub(crate) fn whole_address<T: Text>(text: T) -> Option<Address>
+    ensures { option_map (λ x. x.octets) result ≡ address_octets (T.bytes text) }
 {
     let mut head = [0; 8];
     let (head_len, ends_in_ipv4, rest) = read_segments(text, &mut head);
     if head_len == 8 {
-        return if rest.is_empty() {
+        return if is_empty(rest) {
             Some(join(&head, &[]))
         } else {
             None
@@ -183,7 +191,7 @@ pub(crate) fn whole_address(text: &[u8]) -> Option<Address>
     // The `::` replaces at least one segment.
     let mut tail = [0; 7];
     let (tail_len, _, rest) = read_segments(rest, &mut tail[..7 - head_len]);
-    if !rest.is_empty() {
+    if !is_empty(rest) {
         return None;
     }
     Some(join(&head[..head_len], &tail[..tail_len]))

@@ -13,20 +13,21 @@ use crate::clear_texts::first_of;
 use crate::faults::{Expected, Stop};
 use crate::fields::after;
 use crate::numerals::digit_of;
+use crate::texts::Text;
 
 /// Returns whether a text begins with two decimal digits.
-fn two_digits(text: &[u8]) -> bool
-    ensures { result ≡ two_digits text.now }
+fn two_digits<T: Text>(text: T) -> bool
+    ensures { result ≡ two_digits (T.bytes text) }
 {
-    match text {
-        [byte, rest @ ..] => digit_of(*byte) < 10 && digit_of(first_of(rest)) < 10,
-        [] => false,
+    match text.split_first() {
+        Some((byte, rest)) => digit_of(byte) < 10 && digit_of(first_of(rest)) < 10,
+        None => false,
     }
 }
 
 /// Returns how much of a text is left after a mark at its start, if two digits follow the mark.
-fn digits_after(mark: &[u8], text: &[u8]) -> Option<usize>
-    ensures { result ≡ digits_left (after mark.now text.now) }
+fn digits_after<T: Text>(mark: &[u8], text: T) -> Option<usize>
+    ensures { result ≡ digits_left (after mark.now (T.bytes text)) }
 {
     let rest = after(mark, text)?;
     if two_digits(rest) {
@@ -37,28 +38,30 @@ fn digits_after(mark: &[u8], text: &[u8]) -> Option<usize>
 }
 
 /// Returns how much of a text is left after the first mark that two digits follow.
-fn left_after(mark: &[u8], text: &[u8]) -> Option<usize>
-    ensures { result ≡ left_after mark.now text.now }
+fn left_after<T: Text>(mark: &[u8], text: T) -> Option<usize>
+    ensures { result ≡ left_after mark.now (T.bytes text) }
 {
-    for place in 0..text.len() {
-        if let Some(left) = digits_after(mark, &text[place..]) {
+    let mut rest = text;
+    'bytes: while let Some((_, after)) = rest.split_first() {
+        if let Some(left) = digits_after(mark, rest) {
             return Some(left);
         }
+        rest = after;
     }
     None
 }
 
 /// Returns whether a text begins with another.
-pub(crate) fn begins_with(start: &[u8], text: &[u8]) -> bool
-    ensures { result ≡ begins_with start.now text.now }
+pub(crate) fn begins_with<T: Text>(start: &[u8], text: T) -> bool
+    ensures { result ≡ begins_with start.now (T.bytes text) }
 {
     after(start, text).is_some()
 }
 
 /// Returns how much of a tidied call is left from the first number that some programs print in hexadecimal
 /// without `0x`, and others in decimal.
-fn bare_number_left(text: &[u8]) -> Option<usize>
-    ensures { result ≡ bare_number_left text.now }
+fn bare_number_left<T: Text>(text: T) -> Option<usize>
+    ensures { result ≡ bare_number_left (T.bytes text) }
 {
     if begins_with(b"HD(", text) {
         left_after(b"MBR,", text)
@@ -80,15 +83,16 @@ fn bare_number_left(text: &[u8]) -> Option<usize>
 }
 
 /// Returns whether nothing is between the parentheses of a tidied call.
-fn is_empty_call(text: &[u8]) -> bool
-    ensures { result ≡ is_empty_call text.now }
+fn is_empty_call<T: Text>(text: T) -> bool
+    ensures { result ≡ is_empty_call (T.bytes text) }
 {
-    first_of(&text[text.len().saturating_sub(2)..]) == b'('
+    let (_, end) = text.split_at(text.len().saturating_sub(2));
+    first_of(end) == b'('
 }
 
 /// Returns whether a tidied call is a short name, which never has numbers.
-fn is_named_alone(text: &[u8]) -> bool
-    ensures { result ≡ is_named_alone text.now }
+fn is_named_alone<T: Text>(text: T) -> bool
+    ensures { result ≡ is_named_alone (T.bytes text) }
 {
     begins_with(b"VENPCANSI()", text)
         || begins_with(b"VENVT100()", text)
@@ -98,8 +102,8 @@ fn is_named_alone(text: &[u8]) -> bool
 }
 
 /// Returns where a tidied call becomes ambiguous, if it does.
-pub(crate) fn ambiguous_stop(text: &[u8]) -> Option<Stop>
-    ensures { result ≡ ambiguous_stop text.now }
+pub(crate) fn ambiguous_stop<T: Text>(text: T) -> Option<Stop>
+    ensures { result ≡ ambiguous_stop (T.bytes text) }
 {
     if is_named_alone(text) {
         return None;

@@ -9,14 +9,17 @@ ghost use Rattle.uefi_node_table.specs.Rows.{Form, as_form};
 ghost use Rattle.uefi_node_table.specs.Table.{forms};
 ghost use Rattle.uefi_node_reader.specs.LenientCalls.{first_tried};
 ghost use Rattle.uefi_node_reader.specs.OtherForms.{pasted_forms};
-ghost use Rattle.uefi_node_reader.specs.ParsedNodeViews.{parsed_node};
+ghost use Rattle.uefi_node_reader.specs.ReadNodes.{node_from_text};
 ghost use Rattle.uefi_node_reader.specs.TableReading.{is_filled, is_sound};
 ghost use Rattle.uefi_node_reader.specs.declared.faults.Stop.{Stop};
 
 use crate::faults::Stop;
+use crate::named_files::NameText;
 use crate::other_forms::pasted_forms;
-use crate::parsed_node::ParsedNode;
+use crate::read_node::ReadNode;
 use crate::stops::further;
+use crate::texts::Text;
+use crate::tidied::Tidied;
 use uefi_node_table::rows::Row;
 use uefi_node_table::table::{GROUPS, group};
 
@@ -26,28 +29,30 @@ pub(crate) trait Attempt {
 
     /// Reads a node of a form from the part of a call before its `)` and the tidied call. Fails with where
     /// the call stops, or with `None` if it is no call of this form.
-    fn attempt<'a>(
-        front: &'a [u8],
-        call: &'a [u8],
+    fn attempt<T: NameText>(
+        front: T,
+        call: Tidied<T>,
         row: &Row,
-    ) -> Result<ParsedNode<'a>, Option<Stop>>
+    ) -> Result<ReadNode<T>, Option<Stop>>
         requires sound { IsTrue (is_sound (as_form row.now)) }
         requires filled { IsTrue (is_filled (as_form row.now)) }
-        ensures { result_map_both parsed_node (λ e. e) result ≡ tried front.now call.now (as_form row.now) };
+        ensures { result_map_both node_from_text (λ e. e) result
+            ≡ tried (T.bytes front) (⟦<Tidied<T> as Text>⟧.bytes call) (as_form row.now) };
 }
 
 /// Reads a call in the first of these forms that fits. If none fits, fails with `furthest`, or with where
 /// the call stops in a form that was read further.
-fn try_group<'a, A: Attempt>(
+fn try_group<T: NameText, A: Attempt>(
     rows: &[Row],
     furthest: Option<Stop>,
-    front: &'a [u8],
-    call: &'a [u8],
-) -> Result<ParsedNode<'a>, Option<Stop>>
+    front: T,
+    call: Tidied<T>,
+) -> Result<ReadNode<T>, Option<Stop>>
     requires sound { IsTrue (list_all is_sound (map as_form rows.now)) }
     requires filled { IsTrue (list_all is_filled (map as_form rows.now)) }
-    ensures { result_map_both parsed_node (λ e. e) result
-        ≡ first_tried (A.tried front.now call.now) (map as_form rows.now) furthest }
+    ensures { result_map_both node_from_text (λ e. e) result
+        ≡ first_tried (A.tried (T.bytes front) (⟦<Tidied<T> as Text>⟧.bytes call))
+        (map as_form rows.now) furthest }
 {
     let mut so_far = furthest;
     for row in rows {
@@ -60,16 +65,16 @@ fn try_group<'a, A: Attempt>(
 }
 
 /// Reads a call in the first form of the table that fits. Fails as [`try_group`] does.
-pub(crate) fn try_table<'a, A: Attempt>(
-    front: &'a [u8],
-    call: &'a [u8],
-) -> Result<ParsedNode<'a>, Option<Stop>>
-    ensures { result_map_both parsed_node (λ e. e) result
-        ≡ first_tried (A.tried front.now call.now) forms None }
+pub(crate) fn try_table<T: NameText, A: Attempt>(
+    front: T,
+    call: Tidied<T>,
+) -> Result<ReadNode<T>, Option<Stop>>
+    ensures { result_map_both node_from_text (λ e. e) result
+        ≡ first_tried (A.tried (T.bytes front) (⟦<Tidied<T> as Text>⟧.bytes call)) forms None }
 {
     let mut furthest = None;
     for index in 0..GROUPS {
-        match try_group::<A>(group(index), furthest, front, call) {
+        match try_group::<T, A>(group(index), furthest, front, call) {
             Ok(node) => return Ok(node),
             Err(stop) => furthest = stop,
         }
@@ -78,13 +83,13 @@ pub(crate) fn try_table<'a, A: Attempt>(
 }
 
 /// Reads a call in the first form that fits, of the forms that people paste. Fails as [`try_group`] does.
-pub(crate) fn try_pasted<'a, A: Attempt>(
+pub(crate) fn try_pasted<T: NameText, A: Attempt>(
     furthest: Option<Stop>,
-    front: &'a [u8],
-    call: &'a [u8],
-) -> Result<ParsedNode<'a>, Option<Stop>>
-    ensures { result_map_both parsed_node (λ e. e) result
-        ≡ first_tried (A.tried front.now call.now) pasted_forms furthest }
+    front: T,
+    call: Tidied<T>,
+) -> Result<ReadNode<T>, Option<Stop>>
+    ensures { result_map_both node_from_text (λ e. e) result
+        ≡ first_tried (A.tried (T.bytes front) (⟦<Tidied<T> as Text>⟧.bytes call)) pasted_forms furthest }
 {
-    try_group::<A>(pasted_forms(), furthest, front, call)
+    try_group::<T, A>(pasted_forms(), furthest, front, call)
 }

@@ -16,6 +16,7 @@ use crate::counted_bytes::push_all;
 use crate::fields::put_low;
 use crate::parsed_node::ParsedNode;
 use crate::table_reader::fixed_part;
+use crate::texts::Text;
 use uefi_field_texts::ids::eisa_bits;
 use uefi_node_table::printing::{form_of, number_of};
 use uefi_node_table::rows::{Items, Mode, Piece, Row, Shape, Tail};
@@ -134,7 +135,7 @@ fn tells_tail(read: &Row, row: &Row, len: usize) -> bool
 
 /// Returns whether a node that was read in a form is completely described by its text.
 #[tactic(auto, unfolding(crate::specs::CompleteTexts::tells))]
-pub(crate) fn tells(read: &Row, node: &ParsedNode<'_>) -> bool
+pub(crate) fn tells<T: Text>(read: &Row, node: &ParsedNode<T>) -> bool
     ensures { result ≡ tells (as_form read.now) (parsed_node node.now) }
 {
     let (kind, sub_kind) = node.types();

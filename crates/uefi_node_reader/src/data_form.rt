@@ -7,8 +7,6 @@ use uefi_node_table::rows::Tail;
 pub(crate) enum DataForm {
     /// As in a form of the table.
     InTail(Tail),
-    /// As the name of a file.
-    InName,
     /// As the string of `_UID`; the strings of `_HID` and `_CID` are empty.
     InUid,
 }

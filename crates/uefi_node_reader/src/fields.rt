@@ -10,25 +10,39 @@ ghost use Rattle.uefi_node_table.specs.Fields.{fits_shape};
 ghost use Rattle.uefi_node_reader.specs.Numerals.{number_read};
 
 use crate::numerals::{digit_of, number};
+use crate::texts::Text;
 use uefi_node_table::rows::Shape;
 use uefi_node_table::word_lists::words_of;
 use uefi_node_table::words::{Word, Words};
 
 /// Reads a literal at the start of a text, and returns the rest.
-pub(crate) fn after<'a>(literal: &[u8], text: &'a [u8]) -> Option<&'a [u8]>
-    ensures { option_map (λ x. x.now) result ≡ after literal.now text.now }
+pub(crate) fn after<T: Text>(literal: &[u8], text: T) -> Option<T>
+    ensures { option_map (λ x. T.bytes x) result ≡ after literal.now (T.bytes text) }
 {
-    text.strip_prefix(literal)
+    let mut left = literal;
+    let mut rest = text;
+    'bytes: while let [byte, others @ ..] = left {
+        match rest.split_first() {
+            Some((first, after)) => {
+                if first != *byte {
+                    return None;
+                }
+                rest = after;
+            }
+            None => return None,
+        }
+        left = others;
+    }
+    Some(rest)
 }
 
 /// Reads a byte of two digits, and returns the rest of the text too.
-pub(crate) fn byte(text: &[u8]) -> Option<(u8, &[u8])>
-    ensures { option_map (λ x. (x.0, x.1.now)) result ≡ byte_read text.now }
+pub(crate) fn byte<T: Text>(text: T) -> Option<(u8, T)>
+    ensures { option_map (λ x. (x.0, T.bytes x.1)) result ≡ byte_read (T.bytes text) }
 {
-    let [first, second, rest @ ..] = text else {
-        return None;
-    };
-    let (high, low) = (digit_of(*first), digit_of(*second));
+    let (first, after) = text.split_first()?;
+    let (second, rest) = after.split_first()?;
+    let (high, low) = (digit_of(first), digit_of(second));
     if high >= 16 || low >= 16 {
         return None;
     }
@@ -37,9 +51,10 @@ pub(crate) fn byte(text: &[u8]) -> Option<(u8, &[u8])>
 
 /// Reads the next byte of two digits, after `between` unless it is the first, and returns the rest of the
 /// text too.
-fn next_byte<'a>(between: &[u8], is_first: bool, text: &'a [u8]) -> Option<(u8, &'a [u8])>
-    ensures { option_map (λ x. (x.0, x.1.now)) result
-        ≡ (if is_first then byte_read text.now else option_and_then byte_read (after between.now text.now)) }
+fn next_byte<T: Text>(between: &[u8], is_first: bool, text: T) -> Option<(u8, T)>
+    ensures { option_map (λ x. (x.0, T.bytes x.1)) result
+        ≡ (if is_first then byte_read (T.bytes text)
+        else option_and_then byte_read (after between.now (T.bytes text))) }
 {
     if is_first {
         return byte(text);
@@ -49,9 +64,9 @@ fn next_byte<'a>(between: &[u8], is_first: bool, text: &'a [u8]) -> Option<(u8, 
 
 /// Fills a buffer with bytes of two digits each, with `between` between each two. Returns the rest of the
 /// text.
-fn fill<'a>(between: &[u8], found: &mut [u8], text: &'a [u8]) -> Option<&'a [u8]>
-    ensures { option_map (λ x. (found.new, x.now)) result
-        ≡ bytes_read between.now (length found.old) text.now }
+fn fill<T: Text>(between: &[u8], found: &mut [u8], text: T) -> Option<T>
+    ensures { option_map (λ x. (found.new, T.bytes x)) result
+        ≡ bytes_read between.now (length found.old) (T.bytes text) }
 {
     let mut rest = text;
     for place in 0..found.len() {
@@ -101,11 +116,12 @@ fn put_byte(found: &mut [u8], number: u64)
 }
 
 /// Fills a buffer with the bytes of a number in a base. Returns the rest of the text.
-fn number_into<'a>(base: u64, found: &mut [u8], text: &'a [u8]) -> Option<&'a [u8]>
+fn number_into<T: Text>(base: u64, found: &mut [u8], text: T) -> Option<T>
     requires some { 1 ≤ length found.old }
     requires few { length found.old ≤ 8 }
-    ensures { option_map (λ x. (found.new, x.now)) result
-        ≡ option_and_then (as_bytes (length found.old)) (number_read base (256 ^ length found.old) text.now) }
+    ensures { option_map (λ x. (found.new, T.bytes x)) result
+        ≡ option_and_then (as_bytes (length found.old))
+        (number_read base (256 ^ length found.old) (T.bytes text)) }
 {
     let (value, rest) = number(base, last(found.len()), text)?;
     put_low(found, value);
@@ -113,8 +129,8 @@ fn number_into<'a>(base: u64, found: &mut [u8], text: &'a [u8]) -> Option<&'a [u
 }
 
 /// Reads a decimal number from 1 to `last`, or the word `DEFAULT` for 0. Returns the rest of the text too.
-fn number_or_default(last: u64, text: &[u8]) -> Option<(u64, &[u8])>
-    ensures { option_map (λ x. (x.0, x.1.now)) result ≡ default_read (last + 1) text.now }
+fn number_or_default<T: Text>(last: u64, text: T) -> Option<(u64, T)>
+    ensures { option_map (λ x. (x.0, T.bytes x.1)) result ≡ default_read (last + 1) (T.bytes text) }
 {
     match number(10, last, text) {
         Some((0, _)) => None,
@@ -125,11 +141,12 @@ fn number_or_default(last: u64, text: &[u8]) -> Option<(u64, &[u8])>
 
 /// Fills a buffer with the bytes of a decimal number, or of 0 for the word `DEFAULT`. Returns the rest of
 /// the text.
-fn default_into<'a>(found: &mut [u8], text: &'a [u8]) -> Option<&'a [u8]>
+fn default_into<T: Text>(found: &mut [u8], text: T) -> Option<T>
     requires some { 1 ≤ length found.old }
     requires few { length found.old ≤ 8 }
-    ensures { option_map (λ x. (found.new, x.now)) result
-        ≡ option_and_then (as_bytes (length found.old)) (default_read (256 ^ length found.old) text.now) }
+    ensures { option_map (λ x. (found.new, T.bytes x)) result
+        ≡ option_and_then (as_bytes (length found.old))
+        (default_read (256 ^ length found.old) (T.bytes text)) }
 {
     let (value, rest) = number_or_default(last(found.len()), text)?;
     put_low(found, value);
@@ -137,10 +154,10 @@ fn default_into<'a>(found: &mut [u8], text: &'a [u8]) -> Option<&'a [u8]>
 }
 
 /// Fills a buffer of one byte with one less than a hexadecimal number. Returns the rest of the text.
-fn next_into<'a>(found: &mut [u8], text: &'a [u8]) -> Option<&'a [u8]>
+fn next_into<T: Text>(found: &mut [u8], text: T) -> Option<T>
     requires { length found.old ≡ 1 }
-    ensures { option_map (λ x. (found.new, x.now)) result
-        ≡ option_and_then (as_bytes (length found.old)) (next_read text.now) }
+    ensures { option_map (λ x. (found.new, T.bytes x)) result
+        ≡ option_and_then (as_bytes (length found.old)) (next_read (T.bytes text)) }
 {
     let (value, rest) = number(16, 256, text)?;
     if value == 0 {
@@ -161,14 +178,14 @@ fn letter_of(byte: u8) -> u64
 }
 
 /// Reads the 15 bits of three letters, and returns the rest of the text too.
-fn letters(text: &[u8]) -> Option<(u64, &[u8])>
-    ensures letters { option_map (λ x. (x.0, x.1.now)) result ≡ letters_read text.now }
+fn letters<T: Text>(text: T) -> Option<(u64, T)>
+    ensures letters { option_map (λ x. (x.0, T.bytes x.1)) result ≡ letters_read (T.bytes text) }
     ensures small { IfSome result (λ x. x.0 < 32768) }
 {
-    let [first, second, third, rest @ ..] = text else {
-        return None;
-    };
-    let (first, second, third) = (letter_of(*first), letter_of(*second), letter_of(*third));
+    let (first, rest) = text.split_first()?;
+    let (second, rest) = rest.split_first()?;
+    let (third, rest) = rest.split_first()?;
+    let (first, second, third) = (letter_of(first), letter_of(second), letter_of(third));
     if first >= 32 || second >= 32 || third >= 32 {
         return None;
     }
@@ -176,8 +193,8 @@ fn letters(text: &[u8]) -> Option<(u64, &[u8])>
 }
 
 /// Reads an EISA ID, or 0, and returns the rest of the text too.
-fn eisa(text: &[u8]) -> Option<(u64, &[u8])>
-    ensures { option_map (λ x. (x.0, x.1.now)) result ≡ eisa_read text.now }
+fn eisa<T: Text>(text: T) -> Option<(u64, T)>
+    ensures { option_map (λ x. (x.0, T.bytes x.1)) result ≡ eisa_read (T.bytes text) }
 {
     if let Some(rest) = after(b"0", text) {
         return Some((0, rest));
@@ -193,9 +210,9 @@ fn eisa(text: &[u8]) -> Option<(u64, &[u8])>
 }
 
 /// Fills a buffer with the bytes of an EISA ID, or of 0. Returns the rest of the text.
-fn eisa_into<'a>(found: &mut [u8], text: &'a [u8]) -> Option<&'a [u8]>
-    ensures { option_map (λ x. (found.new, x.now)) result
-        ≡ option_and_then (as_bytes (length found.old)) (eisa_read text.now) }
+fn eisa_into<T: Text>(found: &mut [u8], text: T) -> Option<T>
+    ensures { option_map (λ x. (found.new, T.bytes x)) result
+        ≡ option_and_then (as_bytes (length found.old)) (eisa_read (T.bytes text)) }
 {
     let (value, rest) = eisa(text)?;
     put_low(found, value);
@@ -203,8 +220,8 @@ fn eisa_into<'a>(found: &mut [u8], text: &'a [u8]) -> Option<&'a [u8]>
 }
 
 /// Reads a word, and returns its number and the rest of the text.
-fn word<'a>(words: &[Word], text: &'a [u8]) -> Option<(u64, &'a [u8])>
-    ensures { option_map (λ x. (x.0, x.1.now)) result ≡ word_read (map as_word words.now) text.now }
+fn word<T: Text>(words: &[Word], text: T) -> Option<(u64, T)>
+    ensures { option_map (λ x. (x.0, T.bytes x.1)) result ≡ word_read (map as_word words.now) (T.bytes text) }
 {
     for word in words {
         if let Some(rest) = after(word.text.as_bytes(), text) {
@@ -215,9 +232,9 @@ fn word<'a>(words: &[Word], text: &'a [u8]) -> Option<(u64, &'a [u8])>
 }
 
 /// Fills a buffer with the bytes of the number of a word. Returns the rest of the text.
-fn word_into<'a>(words: Words, found: &mut [u8], text: &'a [u8]) -> Option<&'a [u8]>
-    ensures { option_map (λ x. (found.new, x.now)) result
-        ≡ option_and_then (as_bytes (length found.old)) (word_read (words_of words) text.now) }
+fn word_into<T: Text>(words: Words, found: &mut [u8], text: T) -> Option<T>
+    ensures { option_map (λ x. (found.new, T.bytes x)) result
+        ≡ option_and_then (as_bytes (length found.old)) (word_read (words_of words) (T.bytes text)) }
 {
     let (value, rest) = word(words_of(words), text)?;
     put_low(found, value);
@@ -225,9 +242,9 @@ fn word_into<'a>(words: Words, found: &mut [u8], text: &'a [u8]) -> Option<&'a [
 }
 
 /// Fills a buffer with bytes of two digits each, the last byte first. Returns the rest of the text.
-fn fill_back<'a>(between: &[u8], found: &mut [u8], text: &'a [u8]) -> Option<&'a [u8]>
-    ensures { option_map (λ x. (found.new, x.now)) result
-        ≡ option_and_then turned (bytes_read between.now (length found.old) text.now) }
+fn fill_back<T: Text>(between: &[u8], found: &mut [u8], text: T) -> Option<T>
+    ensures { option_map (λ x. (found.new, T.bytes x)) result
+        ≡ option_and_then turned (bytes_read between.now (length found.old) (T.bytes text)) }
 {
     let rest = fill(between, found, text)?;
     found.reverse();
@@ -235,9 +252,10 @@ fn fill_back<'a>(between: &[u8], found: &mut [u8], text: &'a [u8]) -> Option<&'a
 }
 
 /// Fills a buffer with the bytes of a field. Returns the rest of the text.
-pub(crate) fn read_value<'a>(shape: Shape, found: &mut [u8], text: &'a [u8]) -> Option<&'a [u8]>
+pub(crate) fn read_value<T: Text>(shape: Shape, found: &mut [u8], text: T) -> Option<T>
     requires { IsTrue (fits_shape shape (length found.old)) }
-    ensures { option_map (λ x. (found.new, x.now)) result ≡ field_read shape (length found.old) text.now }
+    ensures { option_map (λ x. (found.new, T.bytes x)) result
+        ≡ field_read shape (length found.old) (T.bytes text) }
 {
     match shape {
         Shape::Hexadecimal => number_into(16, found, text),

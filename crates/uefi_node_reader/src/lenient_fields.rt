@@ -17,43 +17,43 @@ use crate::faults::{Expected, Stop};
 use crate::fields::{after, last, put_low, read_value};
 use crate::numerals::{digit_of, digits_after};
 use crate::stops::stop_at;
+use crate::texts::Text;
 use uefi_node_table::rows::{Piece, Shape};
 use uefi_node_table::word_lists::words_of;
 use uefi_node_table::words::{Word, Words};
 
 /// Returns whether a text begins with `0x`.
-pub(crate) fn begins_base(text: &[u8]) -> bool
-    ensures { result ≡ begins_base text.now }
+pub(crate) fn begins_base<T: Text>(text: T) -> bool
+    ensures { result ≡ begins_base (T.bytes text) }
 {
-    matches!(text, [b'0', b'x', ..])
+    after(b"0x", text).is_some()
 }
 
 /// Returns the text after `0x`, or the whole text if it does not begin with `0x`.
-pub(crate) fn past_base(text: &[u8]) -> &[u8]
-    ensures { result.now ≡ past_base text.now }
+pub(crate) fn past_base<T: Text>(text: T) -> T
+    ensures { T.bytes result ≡ past_base (T.bytes text) }
 {
-    match text {
-        [b'0', b'x', rest @ ..] => rest,
-        _ => text,
+    match after(b"0x", text) {
+        Some(rest) => rest,
+        None => text,
     }
 }
 
 /// Reads a byte in either case, and returns the rest of the text.
-pub(crate) fn after_letter(letter: u8, text: &[u8]) -> Option<&[u8]>
-    ensures { option_map (λ x. x.now) result ≡ after_letter letter text.now }
+pub(crate) fn after_letter<T: Text>(letter: u8, text: T) -> Option<T>
+    ensures { option_map (λ x. T.bytes x) result ≡ after_letter letter (T.bytes text) }
 {
-    match text {
-        [first, rest @ ..] if letter.to_ascii_uppercase() == first.to_ascii_uppercase() => Some(
-            rest,
-        ),
-        _ => None,
+    let (first, rest) = text.split_first()?;
+    if letter.to_ascii_uppercase() != first.to_ascii_uppercase() {
+        return None;
     }
+    Some(rest)
 }
 
 /// Reads a literal of the table in either case, and returns the rest of the text, or the byte that differs.
 /// The text may omit the literal's `0x`. A `0x` at the end of the literal is left to the number after it.
-pub(crate) fn after_literal<'a>(literal: &[u8], text: &'a [u8]) -> Result<&'a [u8], Stop>
-    ensures { result_map_both (λ x. x.now) (λ e. e) result ≡ after_literal literal.now text.now }
+pub(crate) fn after_literal<T: Text>(literal: &[u8], text: T) -> Result<T, Stop>
+    ensures { result_map_both (λ x. T.bytes x) (λ e. e) result ≡ after_literal literal.now (T.bytes text) }
 {
     let mut left = literal;
     let mut at_x = false;
@@ -80,18 +80,19 @@ pub(crate) fn after_literal<'a>(literal: &[u8], text: &'a [u8]) -> Result<&'a [u
 }
 
 /// Reads a number up to `last` of at least one digit, and returns the rest of the text too.
-fn some_digits(base: u64, last: u64, text: &[u8]) -> Option<(u64, &[u8])>
-    ensures { option_map (λ x. (x.0, x.1.now)) result ≡ some_digits base (last + 1) text.now }
+fn some_digits<T: Text>(base: u64, last: u64, text: T) -> Option<(u64, T)>
+    ensures { option_map (λ x. (x.0, T.bytes x.1)) result ≡ some_digits base (last + 1) (T.bytes text) }
 {
-    match text {
-        [first, ..] if digit_of(*first) < base => digits_after(base, last, 0, text),
-        _ => None,
+    let (first, _) = text.split_first()?;
+    if base <= digit_of(first) {
+        return None;
     }
+    digits_after(base, last, 0, text)
 }
 
 /// Reads a number up to `last`, in decimal, or in hexadecimal after `0x`. Returns the rest of the text too.
-pub(crate) fn any_number(last: u64, text: &[u8]) -> Option<(u64, &[u8])>
-    ensures { option_map (λ x. (x.0, x.1.now)) result ≡ any_number (last + 1) text.now }
+pub(crate) fn any_number<T: Text>(last: u64, text: T) -> Option<(u64, T)>
+    ensures { option_map (λ x. (x.0, T.bytes x.1)) result ≡ any_number (last + 1) (T.bytes text) }
 {
     if begins_base(text) {
         return some_digits(16, last, past_base(text));
@@ -100,23 +101,23 @@ pub(crate) fn any_number(last: u64, text: &[u8]) -> Option<(u64, &[u8])>
 }
 
 /// Reads a number up to `last`, or the word `DEFAULT` for 0. Returns the rest of the text too.
-fn number_or_word(last: u64, text: &[u8]) -> Option<(u64, &[u8])>
-    ensures { option_map (λ x. (x.0, x.1.now)) result ≡ number_or_word (last + 1) text.now }
+fn number_or_word<T: Text>(last: u64, text: T) -> Option<(u64, T)>
+    ensures { option_map (λ x. (x.0, T.bytes x.1)) result ≡ number_or_word (last + 1) (T.bytes text) }
 {
-    match text {
-        [first, ..] if digit_of(*first) < 10 => any_number(last, text),
-        _ => Some((0, after(b"DEFAULT", text)?)),
+    if digit_of(first_of(text)) < 10 {
+        return any_number(last, text);
     }
+    Some((0, after(b"DEFAULT", text)?))
 }
 
 /// Fills a buffer with the bytes of a number, or of 0 for the word `DEFAULT` if `or_word`. Returns the rest
 /// of the text.
-fn number_into<'a>(or_word: bool, found: &mut [u8], text: &'a [u8]) -> Option<&'a [u8]>
+fn number_into<T: Text>(or_word: bool, found: &mut [u8], text: T) -> Option<T>
     requires some { 1 ≤ length found.old }
     requires few { length found.old ≤ 8 }
-    ensures { option_map (λ x. (found.new, x.now)) result ≡ option_and_then (as_bytes (length found.old))
-        (if or_word then number_or_word (256 ^ length found.old) text.now
-        else any_number (256 ^ length found.old) text.now) }
+    ensures { option_map (λ x. (found.new, T.bytes x)) result ≡ option_and_then (as_bytes (length found.old))
+        (if or_word then number_or_word (256 ^ length found.old) (T.bytes text)
+        else any_number (256 ^ length found.old) (T.bytes text)) }
 {
     let most = last(found.len());
     let (value, rest) = if or_word {
@@ -129,9 +130,10 @@ fn number_into<'a>(or_word: bool, found: &mut [u8], text: &'a [u8]) -> Option<&'
 }
 
 /// Fills a buffer of one byte with one less than a number. Returns the rest of the text.
-fn next_into<'a>(found: &mut [u8], text: &'a [u8]) -> Option<&'a [u8]>
-    ensures { option_map (λ x. (found.new, x.now)) result
-        ≡ option_and_then (as_bytes (length found.old)) (option_and_then less_one (any_number 257 text.now)) }
+fn next_into<T: Text>(found: &mut [u8], text: T) -> Option<T>
+    ensures { option_map (λ x. (found.new, T.bytes x)) result
+        ≡ option_and_then (as_bytes (length found.old))
+        (option_and_then less_one (any_number 257 (T.bytes text))) }
 {
     let (value, rest) = any_number(256, text)?;
     if value == 0 {
@@ -142,8 +144,8 @@ fn next_into<'a>(found: &mut [u8], text: &'a [u8]) -> Option<&'a [u8]>
 }
 
 /// Reads a word in either case, and returns its number and the rest of the text.
-fn any_word<'a>(words: &[Word], text: &'a [u8]) -> Option<(u64, &'a [u8])>
-    ensures { option_map (λ x. (x.0, x.1.now)) result ≡ any_word (map as_word words.now) text.now }
+fn any_word<T: Text>(words: &[Word], text: T) -> Option<(u64, T)>
+    ensures { option_map (λ x. (x.0, T.bytes x.1)) result ≡ any_word (map as_word words.now) (T.bytes text) }
 {
     for word in words {
         if let Ok(rest) = after_literal(word.text.as_bytes(), text) {
@@ -154,9 +156,9 @@ fn any_word<'a>(words: &[Word], text: &'a [u8]) -> Option<(u64, &'a [u8])>
 }
 
 /// Fills a buffer with the bytes of the number of a word. Returns the rest of the text.
-fn word_into<'a>(words: Words, found: &mut [u8], text: &'a [u8]) -> Option<&'a [u8]>
-    ensures { option_map (λ x. (found.new, x.now)) result
-        ≡ option_and_then (as_bytes (length found.old)) (any_word (words_of words) text.now) }
+fn word_into<T: Text>(words: Words, found: &mut [u8], text: T) -> Option<T>
+    ensures { option_map (λ x. (found.new, T.bytes x)) result
+        ≡ option_and_then (as_bytes (length found.old)) (any_word (words_of words) (T.bytes text)) }
 {
     let (value, rest) = any_word(words_of(words), text)?;
     put_low(found, value);
@@ -164,9 +166,10 @@ fn word_into<'a>(words: Words, found: &mut [u8], text: &'a [u8]) -> Option<&'a [
 }
 
 /// Fills a buffer with the bytes of a field. Returns the rest of the text.
-fn read_field<'a>(shape: Shape, found: &mut [u8], text: &'a [u8]) -> Option<&'a [u8]>
+fn read_field<T: Text>(shape: Shape, found: &mut [u8], text: T) -> Option<T>
     requires { IsTrue (fits_shape shape (length found.old)) }
-    ensures { option_map (λ x. (found.new, x.now)) result ≡ any_field shape (length found.old) text.now }
+    ensures { option_map (λ x. (found.new, T.bytes x)) result
+        ≡ any_field shape (length found.old) (T.bytes text) }
 {
     match shape {
         Shape::Hexadecimal => number_into(false, found, text),
@@ -196,15 +199,15 @@ fn put_spare(found: &mut [u8], spare: u8)
 
 /// Fills a buffer with the bytes of a field, or with `spare` if a number is omitted. Returns the rest of the
 /// text.
-pub(crate) fn value_or_spare<'a>(
+pub(crate) fn value_or_spare<T: Text>(
     shape: Shape,
     spare: u8,
     found: &mut [u8],
-    text: &'a [u8],
-) -> Option<&'a [u8]>
+    text: T,
+) -> Option<T>
     requires { IsTrue (fits_shape shape (length found.old)) }
-    ensures { option_map (λ x. (found.new, x.now)) result
-        ≡ value_or_spare shape spare (length found.old) text.now }
+    ensures { option_map (λ x. (found.new, T.bytes x)) result
+        ≡ value_or_spare shape spare (length found.old) (T.bytes text) }
 {
     if is_number(shape) && first_of(text) == b')' {
         put_spare(found, spare);
@@ -226,10 +229,10 @@ pub(crate) fn left_out(kind: u8, sub_kind: u8, place: usize) -> u8
 
 /// Reads the ending of a field, and returns the rest of the text. Before `)`, a comma and its `0x` may be
 /// omitted.
-pub(crate) fn after_ending<'a>(ending: &[u8], text: &'a [u8]) -> Result<&'a [u8], Stop>
-    ensures { result_map_both (λ x. x.now) (λ e. e) result ≡ after_ending ending.now text.now }
+pub(crate) fn after_ending<T: Text>(ending: &[u8], text: T) -> Result<T, Stop>
+    ensures { result_map_both (λ x. T.bytes x) (λ e. e) result ≡ after_ending ending.now (T.bytes text) }
 {
-    if first_of(text) == b')' && after_literal(ending, b",").is_ok() {
+    if first_of(text) == b')' && after_literal(ending, b",".as_slice()).is_ok() {
         return Ok(text);
     }
     after_literal(ending, text)
@@ -266,17 +269,17 @@ fn expected_field(shape: Shape, width: usize) -> Expected
 }
 
 /// Puts the bytes of a field at their place in the data of a node of a kind. Returns the rest of the text.
-fn set_value<'a>(
+fn set_value<T: Text>(
     kind: u8,
     sub_kind: u8,
     piece: &Piece,
     content: &mut [u8],
-    text: &'a [u8],
-) -> Result<&'a [u8], Stop>
+    text: T,
+) -> Result<T, Stop>
     requires within { IsTrue (is_within (length content.old) (as_piece piece.now)) }
     requires few { length content.old ≤ 64 }
-    ensures { result_map_both (λ rest. (content.new, rest.now)) (λ e. e) result
-        ≡ value_set kind sub_kind (as_piece piece.now) content.old text.now }
+    ensures { result_map_both (λ rest. (content.new, T.bytes rest)) (λ e. e) result
+        ≡ value_set kind sub_kind (as_piece piece.now) content.old (T.bytes text) }
 {
     let (from, width) = (piece.place as usize, piece.width as usize);
     let spare = left_out(kind, sub_kind, from);
@@ -287,34 +290,34 @@ fn set_value<'a>(
 }
 
 /// Puts a field into the data of a node of a kind, and reads its ending. Returns the rest of the text.
-fn set_piece<'a>(
+fn set_piece<T: Text>(
     kind: u8,
     sub_kind: u8,
     piece: &Piece,
     content: &mut [u8],
-    text: &'a [u8],
-) -> Result<&'a [u8], Stop>
+    text: T,
+) -> Result<T, Stop>
     requires within { IsTrue (is_within (length content.old) (as_piece piece.now)) }
     requires few { length content.old ≤ 64 }
-    ensures { result_map_both (λ rest. (content.new, rest.now)) (λ e. e) result
-        ≡ piece_set kind sub_kind (as_piece piece.now) content.old text.now }
+    ensures { result_map_both (λ rest. (content.new, T.bytes rest)) (λ e. e) result
+        ≡ piece_set kind sub_kind (as_piece piece.now) content.old (T.bytes text) }
 {
     let rest = set_value(kind, sub_kind, piece, content, text)?;
     after_ending(piece.ending.as_bytes(), rest)
 }
 
 /// Puts fields into the data of a node of a kind, and reads their endings. Returns the rest of the text.
-pub(crate) fn set_pieces<'a>(
+pub(crate) fn set_pieces<T: Text>(
     kind: u8,
     sub_kind: u8,
     pieces: &[Piece],
     content: &mut [u8],
-    text: &'a [u8],
-) -> Result<&'a [u8], Stop>
+    text: T,
+) -> Result<T, Stop>
     requires within { IsTrue (list_all (is_within (length content.old)) (map as_piece pieces.now)) }
     requires few { length content.old ≤ 64 }
-    ensures { result_map_both (λ rest. (content.new, rest.now)) (λ e. e) result
-        ≡ pieces_set kind sub_kind (map as_piece pieces.now) content.old text.now }
+    ensures { result_map_both (λ rest. (content.new, T.bytes rest)) (λ e. e) result
+        ≡ pieces_set kind sub_kind (map as_piece pieces.now) content.old (T.bytes text) }
 {
     let mut rest = text;
     for piece in pieces {

@@ -2,91 +2,83 @@
 #![tactic(auto)]
 
 ghost use Rattle.std.specs.Option.{option_map};
-ghost use Rattle.std.specs.Prelude.{◌≡◌, ◌<◌, ◌≤◌, IfSome, length, take};
+ghost use Rattle.std.specs.Prelude.{◌≡◌, drop};
 ghost use Rattle.std.specs.Result.{result_map_both};
+ghost use Rattle.uefi_node_reader.specs.FileNodes.{node_of_file};
 ghost use Rattle.uefi_node_reader.specs.LenientCalls.{whole};
 ghost use Rattle.uefi_node_reader.specs.LenientNodes.{bare_read, begins_call, closes_node, cut_file, file_in, name_end, is_bare, rooted};
 ghost use Rattle.uefi_node_reader.specs.NamedFiles.{name_read};
-ghost use Rattle.uefi_node_reader.specs.ParsedNodeViews.{parsed_node};
 
 use crate::clear_texts::first_of;
-use crate::counted_bytes::{push, push_all};
 use crate::faults::{Expected, NodeFault};
-use crate::named_files::{is_after_node, name, name_len, past_spaces};
-use crate::parsed_node::ParsedNode;
-use crate::tidied::cut_call;
+use crate::file_node::{FileNode, after_root};
+use crate::named_files::{NameText, is_after_node, past_spaces};
+use crate::texts::{Text, is_empty};
+use crate::tidied::{cut_before, cut_call, has_mark};
 
-/// Copies a name to a buffer, and puts a backslash before it if it lacks one. Returns the number of bytes.
-fn put_rooted(scratch: &mut [u8], name: &[u8]) -> usize
-    requires { length name.now < length scratch.old }
-    ensures within { result ≤ length scratch.old }
-    ensures name { take result scratch.new ≡ rooted name.now }
+/// Returns the node that was read, if nothing is left of the text.
+fn whole<T: NameText>(read: Option<(FileNode<T>, T)>) -> Option<FileNode<T>>
+    ensures { option_map node_of_file result
+        ≡ whole (option_map (λ x. (node_of_file x.0, T.bytes x.1)) read) }
 {
-    let [first, ..] = name else {
-        return 0;
-    };
-    if *first == b'\\' {
-        return push_all(scratch, 0, name);
+    let (node, rest) = read?;
+    if !is_empty(rest) {
+        return None;
     }
-    let len = push(scratch, 0, b'\\');
-    push_all(scratch, len, name)
+    Some(node)
 }
 
 /// Reads a whole text as the name of a file, with or without the first backslash.
-fn whole_name<'a>(scratch: &'a mut [u8], text: &[u8]) -> Option<ParsedNode<'a>>
-    requires { length text.now < length scratch.old }
-    ensures { option_map parsed_node result ≡ whole (name_read (rooted text.now)) }
+fn whole_name<T: NameText>(text: T) -> Option<FileNode<T>>
+    ensures { option_map node_of_file result ≡ whole (name_read (rooted (T.bytes text))) }
 {
-    let len = put_rooted(scratch, text);
-    match name(&scratch[..len]) {
-        Some((node, [])) => Some(node),
-        _ => None,
+    let (first, rest) = text.split_first()?;
+    if first == b'\\' {
+        return whole(after_root(rest));
     }
+    whole(after_root(text))
 }
 
 /// Returns whether a text begins with a `)` that may end a node. Blanks may follow it.
-fn closes_node(text: &[u8]) -> bool
-    ensures { result ≡ closes_node text.now }
+fn closes_node<T: Text>(text: T) -> bool
+    ensures { result ≡ closes_node (T.bytes text) }
 {
-    match text {
-        [first, rest @ ..] => *first == b')' && is_after_node(past_spaces(rest)),
-        [] => false,
+    match text.split_first() {
+        Some((first, rest)) => first == b')' && is_after_node(past_spaces(rest)),
+        None => false,
     }
 }
 
-/// Returns the index of the first `)` that may end a node.
-fn name_end(text: &[u8]) -> Option<usize>
-    ensures place { result ≡ name_end text.now }
-    ensures within { IfSome result (λ place. place < length text.now) }
+/// Returns the text from the first `)` on that may end a node.
+fn from_name_end<T: Text>(text: T) -> Option<T>
+    ensures { option_map (λ x. T.bytes x) result
+        ≡ option_map (λ place. drop place (T.bytes text)) (name_end (T.bytes text)) }
 {
-    for place in 0..text.len() {
-        if closes_node(&text[place..]) {
-            return Some(place);
+    let mut rest = text;
+    'bytes: while let Some((_, after)) = rest.split_first() {
+        if closes_node(rest) {
+            return Some(rest);
         }
+        rest = after;
     }
     None
 }
 
 /// Splits a text at the `)` that ends a name, and omits that byte. The name may contain other `)`.
-fn cut_file(text: &[u8]) -> Option<(&[u8], &[u8])>
-    ensures { option_map (λ x. (x.0.now, x.1.now)) result ≡ cut_file text.now }
+fn cut_file<T: Text>(text: T) -> Option<(T, T)>
+    ensures { option_map (λ x. (T.bytes x.0, T.bytes x.1)) result ≡ cut_file (T.bytes text) }
 {
-    match name_end(text) {
-        Some(place) => Some((&text[..place], &text[place + 1..])),
+    match from_name_end(text) {
+        Some(rest) => cut_before(text, rest),
         None => cut_call(text),
     }
 }
 
 /// Reads the name in `File(..)`, given the whole text and its part from the name on. Returns the node and
 /// the text after the `)`, or the fault of the text.
-pub(crate) fn file<'s, 't>(
-    scratch: &'s mut [u8],
-    text: &[u8],
-    name: &'t [u8],
-) -> Result<(ParsedNode<'s>, &'t [u8]), NodeFault>
-    requires { length name.now < length scratch.old }
-    ensures { result_map_both (λ x. (parsed_node x.0, x.1.now)) (λ e. e) result
-        ≡ file_in text.now name.now (cut_file name.now) }
+pub(crate) fn file<T: NameText>(text: T, name: T) -> Result<(FileNode<T>, T), NodeFault>
+    ensures { result_map_both (λ x. (node_of_file x.0, T.bytes x.1)) (λ e. e) result
+        ≡ file_in (T.bytes text) (T.bytes name) (cut_file (T.bytes name)) }
 {
     let Some((front, rest)) = cut_file(name) else {
         return Err(NodeFault {
@@ -94,7 +86,7 @@ pub(crate) fn file<'s, 't>(
             expected: Expected::Byte(b')'),
         });
     };
-    match whole_name(scratch, front) {
+    match whole_name(front) {
         Some(node) => Ok((node, rest)),
         None => Err(NodeFault {
             byte: text.len().saturating_sub(name.len()),
@@ -104,37 +96,32 @@ pub(crate) fn file<'s, 't>(
 }
 
 /// Returns whether a text begins with a call: whether a `(` comes before the first slash or comma.
-pub(crate) fn begins_call(text: &[u8]) -> bool
-    ensures { result ≡ begins_call text.now }
+pub(crate) fn begins_call<T: NameText>(text: T) -> bool
+    ensures { result ≡ begins_call (T.bytes text) }
 {
-    let name = &text[..name_len(text)];
-    name.iter().any(|byte| *byte == b'(')
+    let (name, _) = text.split_at(text.name_len());
+    has_mark(b'(', name)
 }
 
 /// Returns whether a name may omit its first backslash: it contains another, and no `)`, `:` or quotation
 /// mark.
-fn is_bare(name: &[u8]) -> bool
-    ensures { result ≡ is_bare name.now }
+fn is_bare<T: Text>(name: T) -> bool
+    ensures { result ≡ is_bare (T.bytes name) }
 {
-    name.contains(&b'\\')
-        && !(name.contains(&b')') || (name.contains(&b':') || name.contains(&b'"')))
+    has_mark(b'\\', name)
+        && !(has_mark(b')', name) || (has_mark(b':', name) || has_mark(b'"', name)))
 }
 
 /// Reads the name of a file at the start of a text, perhaps after blanks, if it may omit its first
 /// backslash. If `is_rooted`, it has to have that backslash. Returns the rest of the text too.
-pub(crate) fn bare<'s, 't>(
-    is_rooted: bool,
-    scratch: &'s mut [u8],
-    text: &'t [u8],
-) -> Option<(ParsedNode<'s>, &'t [u8])>
-    requires { length text.now < length scratch.old }
-    ensures { option_map (λ x. (parsed_node x.0, x.1.now)) result ≡ bare_read is_rooted text.now }
+pub(crate) fn bare<T: NameText>(is_rooted: bool, text: T) -> Option<(FileNode<T>, T)>
+    ensures { option_map (λ x. (node_of_file x.0, T.bytes x.1)) result ≡ bare_read is_rooted (T.bytes text) }
 {
-    let (front, rest) = text.split_at(name_len(text));
+    let (front, rest) = text.split_at(text.name_len());
     let name = past_spaces(front);
     if is_rooted && first_of(name) != b'\\' || !is_bare(name) {
         return None;
     }
-    let node = whole_name(scratch, name)?;
+    let node = whole_name(name)?;
     Some((node, rest))
 }

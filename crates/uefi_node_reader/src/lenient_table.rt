@@ -6,19 +6,24 @@ ghost use Rattle.std.specs.Prelude.{◌≡◌, IfSome, IsTrue, map};
 ghost use Rattle.std.specs.Result.{result_map_both};
 ghost use Rattle.uefi_node_table.specs.Rows.{as_form};
 ghost use Rattle.uefi_node_reader.specs.LenientFields.{after_literal};
-ghost use Rattle.uefi_node_reader.specs.LenientCalls.{begins_call_name, call_told, form_told, form_tried, is_textless, named_told, names_tried, plain_names, plain_told, told_in};
+ghost use Rattle.uefi_node_reader.specs.LenientCalls.{begins_call_name, call_told, form_told, form_tried, is_textless, named_told, names_tried, plain_names, plain_told, told_in, whole};
 ghost use Rattle.uefi_node_reader.specs.TableReading.{form_read, is_filled, is_read, is_sound};
 ghost use Rattle.uefi_node_reader.specs.ParsedNodeViews.{text_node_data, parsed_node};
+ghost use Rattle.uefi_node_reader.specs.ReadNodes.{node_from_text};
 
 use crate::ambiguous::ambiguous_stop;
 use crate::attempts::{Attempt, try_pasted, try_table};
 use crate::complete_texts::tells;
 use crate::faults::{Expected, Stop};
 use crate::lenient_fields::{after_letter, after_literal, set_pieces};
+use crate::named_files::NameText;
 use crate::parsed_node::ParsedNode;
 use crate::plain_nodes::{told_types, types_end};
+use crate::read_node::ReadNode;
 use crate::stops::{further, rest_end, stop_at, stop_of};
 use crate::table_reader::{finish_row, fixed_part, read_row};
+use crate::texts::{Text, is_empty};
+use crate::tidied::Tidied;
 use uefi_node_table::rows::{Mode, Row, Tail};
 
 /// Returns whether the data after the fields contains no text.
@@ -35,17 +40,17 @@ pub(crate) fn is_textless(tail: Tail) -> bool
 
 /// Returns the node that was read in a form, if nothing is left of the text, and the node's own text
 /// describes it completely.
-pub(crate) fn told<'a>(
+pub(crate) fn told<T: Text, R: Text>(
     row: &Row,
-    read: Option<(ParsedNode<'a>, &'a [u8])>,
-) -> Option<ParsedNode<'a>>
+    read: Option<(ParsedNode<T>, R)>,
+) -> Option<ParsedNode<T>>
     requires types { IfSome read (λ x.
         (x.0.device_type ≡ row.now.kind) × (x.0.sub_type ≡ row.now.sub_kind)) }
     ensures { option_map parsed_node result
-        ≡ told_in (as_form row.now) (option_map (λ x. (text_node_data x.0, x.1.now)) read.entry) }
+        ≡ told_in (as_form row.now) (option_map (λ x. (text_node_data x.0, R.bytes x.1)) read) }
 {
     let (node, rest) = read?;
-    if !rest.is_empty() {
+    if !is_empty(rest) {
         return None;
     }
     if !tells(row, &node) {
@@ -55,22 +60,22 @@ pub(crate) fn told<'a>(
 }
 
 /// Reads a whole text exactly in a form, if the node's own text describes it completely.
-pub(crate) fn exact_told<'a>(row: &Row, text: &'a [u8]) -> Option<ParsedNode<'a>>
+pub(crate) fn exact_told<T: Text>(row: &Row, text: T) -> Option<ParsedNode<T>>
     requires sound { IsTrue (is_sound (as_form row.now)) }
     requires filled { IsTrue (is_filled (as_form row.now)) }
     ensures { option_map parsed_node result
-        ≡ told_in (as_form row.now) (form_read (as_form row.now) text.now) }
+        ≡ told_in (as_form row.now) (form_read (as_form row.now) (T.bytes text)) }
 {
     told(row, read_row(row, text))
 }
 
 /// Reads a tidied text in a form, if the node's own text describes it completely. Fails with where the text
 /// stops.
-fn told_row<'a>(row: &Row, text: &'a [u8]) -> Result<ParsedNode<'a>, Stop>
+fn told_row<T: Text>(row: &Row, text: T) -> Result<ParsedNode<T>, Stop>
     requires sound { IsTrue (is_sound (as_form row.now)) }
     requires filled { IsTrue (is_filled (as_form row.now)) }
     requires read { IsTrue (is_read row.now.mode) }
-    ensures { result_map_both parsed_node (λ e. e) result ≡ form_told (as_form row.now) text.now }
+    ensures { result_map_both parsed_node (λ e. e) result ≡ form_told (as_form row.now) (T.bytes text) }
 {
     let rest = after_literal(row.start.as_bytes(), text)?;
     let mut fixed = fixed_part(row);
@@ -83,8 +88,8 @@ fn told_row<'a>(row: &Row, text: &'a [u8]) -> Result<ParsedNode<'a>, Stop>
 }
 
 /// Returns whether a text begins with the name of a call, up to its `(`, in either case.
-pub(crate) fn begins_call_name(name: &[u8], text: &[u8]) -> bool
-    ensures { result ≡ begins_call_name name.now text.now }
+pub(crate) fn begins_call_name<T: Text>(name: &[u8], text: T) -> bool
+    ensures { result ≡ begins_call_name name.now (T.bytes text) }
 {
     let mut left = name;
     let mut rest = text;
@@ -102,11 +107,11 @@ pub(crate) fn begins_call_name(name: &[u8], text: &[u8]) -> bool
 }
 
 /// Reads a tidied text in a form whose name it begins with, unless the form contains a text.
-fn named_row<'a>(row: &Row, text: &'a [u8]) -> Result<ParsedNode<'a>, Option<Stop>>
+fn named_row<T: Text>(row: &Row, text: T) -> Result<ParsedNode<T>, Option<Stop>>
     requires sound { IsTrue (is_sound (as_form row.now)) }
     requires filled { IsTrue (is_filled (as_form row.now)) }
     ensures { result_map_both parsed_node (λ e. e) result
-        ≡ named_told row.now.mode (as_form row.now) text.now }
+        ≡ named_told row.now.mode (as_form row.now) (T.bytes text) }
 {
     match row.mode {
         Mode::Read => {
@@ -124,10 +129,10 @@ fn named_row<'a>(row: &Row, text: &'a [u8]) -> Result<ParsedNode<'a>, Option<Sto
 }
 
 /// Reads a tidied text in a form, if it begins with the form's name.
-fn try_row<'a>(row: &Row, text: &'a [u8]) -> Result<ParsedNode<'a>, Option<Stop>>
+fn try_row<T: Text>(row: &Row, text: T) -> Result<ParsedNode<T>, Option<Stop>>
     requires sound { IsTrue (is_sound (as_form row.now)) }
     requires filled { IsTrue (is_filled (as_form row.now)) }
-    ensures { result_map_both parsed_node (λ e. e) result ≡ form_tried (as_form row.now) text.now }
+    ensures { result_map_both parsed_node (λ e. e) result ≡ form_tried (as_form row.now) (T.bytes text) }
 {
     if begins_call_name(row.start.as_bytes(), text) {
         return named_row(row, text);
@@ -136,48 +141,63 @@ fn try_row<'a>(row: &Row, text: &'a [u8]) -> Result<ParsedNode<'a>, Option<Stop>
 }
 
 /// An attempt that reads only the tidied call.
-struct Tidied;
+struct TextlessCall;
 
-impl Attempt for Tidied {
+impl Attempt for TextlessCall {
     ghost tried = { λ front call form. form_tried form call };
 
-    fn attempt<'a>(
-        _front: &'a [u8],
-        call: &'a [u8],
+    fn attempt<T: NameText>(
+        _front: T,
+        call: Tidied<T>,
         row: &Row,
-    ) -> Result<ParsedNode<'a>, Option<Stop>> {
-        try_row(row, call)
+    ) -> Result<ReadNode<T>, Option<Stop>> {
+        match try_row(row, call) {
+            Ok(node) => Ok(ReadNode::Tidied(node)),
+            Err(stop) => Err(stop),
+        }
     }
+}
+
+/// Returns the node that was read, if nothing is left of the text.
+fn whole<T: Text>(read: Option<(ParsedNode<T>, T)>) -> Option<ParsedNode<T>>
+    ensures { option_map parsed_node result
+        ≡ whole (option_map (λ x. (parsed_node x.0, T.bytes x.1)) read) }
+{
+    let (node, rest) = read?;
+    if !is_empty(rest) {
+        return None;
+    }
+    Some(node)
 }
 
 /// Reads a node of no known kind from its tidied text, if the text begins with this name. Fails with where
 /// the text stops, or with `None` if it begins with another.
-fn try_name<'a>(
+fn try_name<T: Text>(
     name: &[u8],
     device_type: Option<u8>,
-    text: &'a [u8],
-) -> Result<ParsedNode<'a>, Option<Stop>>
+    text: T,
+) -> Result<ParsedNode<T>, Option<Stop>>
     ensures { result_map_both parsed_node (λ e. e) result
-        ≡ plain_told device_type (after_literal name.now text.now) }
+        ≡ plain_told device_type (after_literal name.now (T.bytes text)) }
 {
     let Ok(rest) = after_literal(name, text) else {
         return Err(None);
     };
-    match told_types(device_type, rest) {
-        Some((node, [])) => Ok(node),
-        _ => Err(Some(stop_of(types_end(device_type, rest)))),
+    match whole(told_types(device_type, rest)) {
+        Some(node) => Ok(node),
+        None => Err(Some(stop_of(types_end(device_type, rest)))),
     }
 }
 
 /// Reads a node of no known kind from its tidied text, if the text begins with one of these names. Fails with
 /// `furthest`, or with where the text stops if it was read further.
-fn try_names<'a>(
+fn try_names<T: Text>(
     names: &[(&[u8], Option<u8>)],
     furthest: Option<Stop>,
-    text: &'a [u8],
-) -> Result<ParsedNode<'a>, Option<Stop>>
+    text: T,
+) -> Result<ParsedNode<T>, Option<Stop>>
     ensures { result_map_both parsed_node (λ e. e) result
-        ≡ names_tried (map (λ name. (name.0.now, name.1)) names.now) furthest text.now }
+        ≡ names_tried (map (λ name. (name.0.now, name.1)) names.now) furthest (T.bytes text) }
 {
     let mut so_far = furthest;
     for (name, device_type) in names {
@@ -190,8 +210,8 @@ fn try_names<'a>(
 }
 
 /// Reads a node of no known kind from its tidied text. Fails as [`try_names`] does.
-fn try_plain(furthest: Option<Stop>, text: &[u8]) -> Result<ParsedNode<'_>, Option<Stop>>
-    ensures { result_map_both parsed_node (λ e. e) result ≡ names_tried plain_names furthest text.now }
+fn try_plain<T: Text>(furthest: Option<Stop>, text: T) -> Result<ParsedNode<T>, Option<Stop>>
+    ensures { result_map_both parsed_node (λ e. e) result ≡ names_tried plain_names furthest (T.bytes text) }
 {
     let names: [(&[u8], Option<u8>); 6] = [
         (b"Path(", None),
@@ -204,21 +224,24 @@ fn try_plain(furthest: Option<Stop>, text: &[u8]) -> Result<ParsedNode<'_>, Opti
     try_names(&names, furthest, text)
 }
 
-/// Reads a node from a tidied text, or fails with where the text stops. A call that programs print for
+/// Reads a node from a tidied call, or fails with where the call stops. A call that programs print for
 /// different nodes stops where it becomes ambiguous.
-pub(crate) fn try_call(text: &[u8]) -> Result<ParsedNode<'_>, Option<Stop>>
-    ensures { result_map_both parsed_node (λ e. e) result ≡ call_told text.now }
+pub(crate) fn try_call<T: NameText>(front: T, call: Tidied<T>) -> Result<ReadNode<T>, Option<Stop>>
+    ensures { result_map_both node_from_text (λ e. e) result ≡ call_told (⟦<Tidied<T> as Text>⟧.bytes call) }
 {
-    if let Some(stop) = ambiguous_stop(text) {
+    if let Some(stop) = ambiguous_stop(call) {
         return Err(Some(stop));
     }
-    let furthest = match try_table::<Tidied>(text, text) {
+    let furthest = match try_table::<T, TextlessCall>(front, call) {
         Ok(node) => return Ok(node),
         Err(stop) => stop,
     };
-    let furthest = match try_pasted::<Tidied>(furthest, text, text) {
+    let furthest = match try_pasted::<T, TextlessCall>(furthest, front, call) {
         Ok(node) => return Ok(node),
         Err(stop) => stop,
     };
-    try_plain(furthest, text)
+    match try_plain(furthest, call) {
+        Ok(node) => Ok(ReadNode::Tidied(node)),
+        Err(stop) => Err(stop),
+    }
 }

@@ -16,6 +16,8 @@ mod data_form;
 #[doc(hidden)]
 pub mod faults;
 mod fields;
+#[doc(hidden)]
+pub mod file_node;
 mod form_places;
 mod lenient_fields;
 mod lenient_names;
@@ -23,7 +25,8 @@ mod lenient_table;
 mod libefivar;
 mod mistakes;
 mod name_data;
-mod named_files;
+#[doc(hidden)]
+pub mod named_files;
 mod near_names;
 mod node_tails;
 #[doc(hidden)]
@@ -33,10 +36,15 @@ mod other_forms;
 #[doc(hidden)]
 pub mod parsed_node;
 mod plain_nodes;
+#[doc(hidden)]
+pub mod read_node;
 mod short_addresses;
 mod stops;
 #[doc(hidden)]
 pub mod styles;
 mod table_reader;
 mod text_calls;
-mod tidied;
+#[doc(hidden)]
+pub mod texts;
+#[doc(hidden)]
+pub mod tidied;

@@ -6,7 +6,7 @@
 //! and `PcieRoot` may contain a text of the device in place of the number, which begins with `0x`.
 #![tactic(auto)]
 
-ghost use Rattle.std.specs.Prelude.{◌≡◌, ◌<◌, IsTrue, codes, length, map};
+ghost use Rattle.std.specs.Prelude.{◌≡◌, IsTrue, map};
 ghost use Rattle.std.specs.List.{list_all};
 ghost use Rattle.std.specs.Option.{option_map};
 ghost use Rattle.uefi_node_table.specs.Rows.{as_form};
@@ -19,17 +19,19 @@ use crate::faults::{Expected, NodeFault, Stop};
 use crate::fields::after;
 use crate::lenient_names::begins_call;
 use crate::lenient_table::exact_told;
+use crate::named_files::NameText;
 use crate::other_forms::own_forms;
 use crate::parsed_node::ParsedNode;
 use crate::stops::stop_at;
-use crate::tidied::{cut_call, place_at, tidy};
+use crate::texts::Text;
+use crate::tidied::{Tidied, cut_call, place_at, tidy};
 use uefi_node_table::rows::Row;
 
 /// Reads a tidied text in the first of these forms that it matches exactly.
-fn exact_group<'a>(rows: &[Row], text: &'a [u8]) -> Option<ParsedNode<'a>>
+fn exact_group<T: Text>(rows: &[Row], text: T) -> Option<ParsedNode<T>>
     requires sound { IsTrue (list_all is_sound (map as_form rows.now)) }
     requires filled { IsTrue (list_all is_filled (map as_form rows.now)) }
-    ensures { option_map parsed_node result ≡ forms_exact (map as_form rows.now) text.now }
+    ensures { option_map parsed_node result ≡ forms_exact (map as_form rows.now) (T.bytes text) }
 {
     for row in rows {
         if let Some(node) = exact_told(row, text) {
@@ -39,44 +41,37 @@ fn exact_group<'a>(rows: &[Row], text: &'a [u8]) -> Option<ParsedNode<'a>>
     None
 }
 
-/// Reads the call at the start of a text in a form of libefivar, from a tidied copy of the call.
-/// Returns the node and the rest of the text.
-fn own_call<'s, 't>(scratch: &'s mut [u8], text: &'t [u8]) -> Option<(ParsedNode<'s>, &'t [u8])>
-    requires { length text.now < length scratch.old }
-    ensures { option_map (λ x. (parsed_node x.0, x.1.now)) result ≡ own_call text.now }
+/// Reads the call at the start of a text in a form of libefivar. Returns the node and the rest of the text.
+fn own_call<T: NameText>(text: T) -> Option<(ParsedNode<Tidied<T>>, T)>
+    ensures { option_map (λ x. (parsed_node x.0, T.bytes x.1)) result ≡ own_call (T.bytes text) }
 {
     let (front, rest) = cut_call(text)?;
-    let len = tidy(scratch, front);
-    let node = exact_group(own_forms(), &scratch[..len])?;
+    let node = exact_group(own_forms(), tidy(front))?;
     Some((node, rest))
 }
 
 /// Reads a node in a form of libefivar, if the text begins with a call. Returns the rest of the text
 /// too.
-pub(crate) fn own<'s, 't>(
-    scratch: &'s mut [u8],
-    text: &'t [u8],
-) -> Option<(ParsedNode<'s>, &'t [u8])>
-    requires { length text.now < length scratch.old }
-    ensures { option_map (λ x. (parsed_node x.0, x.1.now)) result ≡ own_read text.now }
+pub(crate) fn own<T: NameText>(text: T) -> Option<(ParsedNode<Tidied<T>>, T)>
+    ensures { option_map (λ x. (parsed_node x.0, T.bytes x.1)) result ≡ own_read (T.bytes text) }
 {
     if begins_call(text) {
-        return own_call(scratch, text);
+        return own_call(text);
     }
     None
 }
 
 /// Returns a stop after this name, if a tidied call begins with it.
-fn stop_after(expected: Expected, name: &[u8], text: &[u8]) -> Option<Stop>
-    ensures { result ≡ stop_after expected name.now text.now }
+fn stop_after<T: Text>(expected: Expected, name: &[u8], text: T) -> Option<Stop>
+    ensures { result ≡ stop_after expected name.now (T.bytes text) }
 {
     let rest = after(name, text)?;
     Some(stop_at(rest, expected))
 }
 
 /// Returns a stop after this name, if a tidied call begins with it and no `0x` follows.
-fn base_after(name: &[u8], text: &[u8]) -> Option<Stop>
-    ensures { result ≡ base_after name.now text.now }
+fn base_after<T: Text>(name: &[u8], text: T) -> Option<Stop>
+    ensures { result ≡ base_after name.now (T.bytes text) }
 {
     let rest = after(name, text)?;
     if begins_with(b"0x", rest) {
@@ -87,8 +82,8 @@ fn base_after(name: &[u8], text: &[u8]) -> Option<Stop>
 
 /// Returns where a tidied call stops that libefivar prints for different nodes, in a form that it does
 /// not share, or with a text of the device in place of its number.
-fn own_stop(text: &[u8]) -> Option<Stop>
-    ensures { result ≡ own_stop text.now }
+fn own_stop<T: Text>(text: T) -> Option<Stop>
+    ensures { result ≡ own_stop (T.bytes text) }
 {
     if let Some(stop) = stop_after(Expected::AsPrinted, b"NVME(", text) {
         return Some(stop);
@@ -108,17 +103,15 @@ fn own_stop(text: &[u8]) -> Option<Stop>
     base_after(b"PCIEROOT(", text)
 }
 
-/// Returns the fault of a text that begins with a call of libefivar that stops. Afterwards the
-/// contents of the buffer are unspecified.
-pub(crate) fn own_fault(scratch: &mut [u8], text: &[u8]) -> Option<NodeFault>
-    requires { length text.now < length scratch.old }
-    ensures { result ≡ own_fault text.now }
+/// Returns the fault of a text that begins with a call of libefivar that stops.
+pub(crate) fn own_fault<T: NameText>(text: T) -> Option<NodeFault>
+    ensures { result ≡ own_fault (T.bytes text) }
 {
     let (front, _) = cut_call(text)?;
-    let len = tidy(scratch, front);
-    let stop = own_stop(&scratch[..len])?;
+    let call = tidy(front);
+    let stop = own_stop(call)?;
     Some(NodeFault {
-        byte: place_at(len.saturating_sub(stop.left), text),
+        byte: place_at(call.len().saturating_sub(stop.left), text),
         expected: stop.expected,
     })
 }

@@ -1,30 +1,31 @@
 //! Where a person would say that a call is wrong: at the start of the field, if the field accepts words.
 #![tactic(auto)]
 
-ghost use Rattle.std.specs.Prelude.{◌≡◌, ◌≤◌, ◌==◌, IfSome, length, position};
-ghost use Rattle.uefi_node_reader.specs.Mistakes.{choice_of, field_at, field_on, first_choice, is_flow_control, is_in_word, is_sas, later_choice, mistake, past_mark, second_choice, third_choice, word_stop};
+ghost use Rattle.std.specs.Prelude.{◌≡◌};
+ghost use Rattle.uefi_node_reader.specs.Mistakes.{choice_of, field_at, field_on, first_choice, is_flow_control, is_in_word, is_sas, later_choice, mistake, second_choice, third_choice, word_stop};
 
 use crate::ambiguous::begins_with;
 use crate::faults::{Choice, Expected, Stop};
-use crate::tidied::place_of;
+use crate::texts::Text;
+use crate::tidied::past_mark;
 
 /// Returns whether a tidied call is the call of a SAS device.
-fn is_sas(call: &[u8]) -> bool
-    ensures { result ≡ is_sas call.now }
+fn is_sas<T: Text>(call: T) -> bool
+    ensures { result ≡ is_sas (T.bytes call) }
 {
     begins_with(b"SAS(", call) || begins_with(b"SASEx(", call)
 }
 
 /// Returns whether a tidied call is the call of a serial port's flow control.
-fn is_flow_control(call: &[u8]) -> bool
-    ensures { result ≡ is_flow_control call.now }
+fn is_flow_control<T: Text>(call: T) -> bool
+    ensures { result ≡ is_flow_control (T.bytes call) }
 {
     begins_with(b"UARTFLOWCTRL(", call) || begins_with(b"UARTFLOWCONTROL(", call)
 }
 
 /// Returns the words that the first field of a tidied call accepts.
-fn first_choice(call: &[u8]) -> Option<Choice>
-    ensures { result ≡ first_choice call.now }
+fn first_choice<T: Text>(call: T) -> Option<Choice>
+    ensures { result ≡ first_choice (T.bytes call) }
 {
     if begins_with(b"ATA(", call) {
         Some(Choice::AtaChannel)
@@ -38,8 +39,8 @@ fn first_choice(call: &[u8]) -> Option<Choice>
 }
 
 /// Returns the words that the second field of a tidied call accepts.
-fn second_choice(call: &[u8]) -> Option<Choice>
-    ensures { result ≡ second_choice call.now }
+fn second_choice<T: Text>(call: T) -> Option<Choice>
+    ensures { result ≡ second_choice (T.bytes call) }
 {
     if begins_with(b"ATA(", call) {
         Some(Choice::AtaDrive)
@@ -53,8 +54,8 @@ fn second_choice(call: &[u8]) -> Option<Choice>
 }
 
 /// Returns the words that the third field of a tidied call accepts.
-fn third_choice(call: &[u8]) -> Option<Choice>
-    ensures { result ≡ third_choice call.now }
+fn third_choice<T: Text>(call: T) -> Option<Choice>
+    ensures { result ≡ third_choice (T.bytes call) }
 {
     if begins_with(b"IPV4(", call) {
         Some(Choice::Ipv4Origin)
@@ -66,8 +67,8 @@ fn third_choice(call: &[u8]) -> Option<Choice>
 }
 
 /// Returns the words that a later field of a tidied call accepts, by the field's number.
-fn later_choice(call: &[u8], field: usize) -> Option<Choice>
-    ensures { result ≡ later_choice call.now field }
+fn later_choice<T: Text>(call: T, field: usize) -> Option<Choice>
+    ensures { result ≡ later_choice (T.bytes call) field }
 {
     if is_sas(call) {
         if field == 3 {
@@ -96,8 +97,8 @@ fn later_choice(call: &[u8], field: usize) -> Option<Choice>
 
 /// Returns the words that a field of a tidied call accepts. The number of the field is the number of commas
 /// before it.
-fn choice_of(call: &[u8], field: usize) -> Option<Choice>
-    ensures { result ≡ choice_of call.now field }
+fn choice_of<T: Text>(call: T, field: usize) -> Option<Choice>
+    ensures { result ≡ choice_of (T.bytes call) field }
 {
     if field == 0 {
         first_choice(call)
@@ -110,19 +111,9 @@ fn choice_of(call: &[u8], field: usize) -> Option<Choice>
     }
 }
 
-/// Returns the text after the first of these bytes, or an empty text.
-fn past_mark(mark: u8, text: &[u8]) -> &[u8]
-    ensures { result.now ≡ past_mark mark text.now }
-{
-    match place_of(mark, text) {
-        Some(place) => &text[place + 1..],
-        None => &[],
-    }
-}
-
 /// Returns a tidied call from the start of a field.
-fn field_on(call: &[u8], field: usize) -> &[u8]
-    ensures { result.now ≡ field_on call.now field }
+fn field_on<T: Text>(call: T, field: usize) -> T
+    ensures { T.bytes result ≡ field_on (T.bytes call) field }
 {
     let mut rest = past_mark(b'(', call);
     'fields: for _ in 0..field {
@@ -132,11 +123,20 @@ fn field_on(call: &[u8], field: usize) -> &[u8]
 }
 
 /// Returns the number of the field where this much of a tidied call is left: the number of commas before.
-fn field_at(call: &[u8], left: usize) -> usize
-    ensures { result ≡ field_at call.now left }
+fn field_at<T: Text>(call: T, left: usize) -> usize
+    ensures { result ≡ field_at (T.bytes call) left }
 {
-    let front = &call[..call.len().saturating_sub(left)];
-    front.iter().filter(|byte| **byte == b',').count()
+    let mut field = 0;
+    let mut rest = call;
+    'bytes: for _ in 0..call.len().saturating_sub(left) {
+        if let Some((byte, after)) = rest.split_first() {
+            if byte == b',' {
+                field += 1;
+            }
+            rest = after;
+        }
+    }
+    field
 }
 
 /// Returns whether this is expected inside a word, or in place of a word.
@@ -152,8 +152,8 @@ fn is_in_word(expected: Expected) -> bool
 
 /// Returns where a tidied call is wrong, from where it stops: at the start of the field, if the field
 /// accepts words.
-pub(crate) fn mistake(call: &[u8], stop: Stop) -> Stop
-    ensures { result ≡ mistake call.now stop }
+pub(crate) fn mistake<T: Text>(call: T, stop: Stop) -> Stop
+    ensures { result ≡ mistake (T.bytes call) stop }
 {
     if !is_in_word(stop.expected) {
         return stop;

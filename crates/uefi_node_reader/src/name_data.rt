@@ -1,4 +1,4 @@
-//! The data of a file's node, put into a buffer and counted.
+//! Texts in UTF-16, put into a buffer and counted.
 #![tactic(auto)]
 
 ghost use Rattle.std.specs.Prelude.{◌≡◌};
@@ -7,7 +7,6 @@ ghost use Rattle.std.specs.List.{flat_map};
 ghost use Rattle.std.specs.Str.{chars};
 ghost use Rattle.uefi_text.specs.UnitBytes.{unit_bytes};
 ghost use Rattle.uefi_node_reader.specs.Counted.{pushed_byte, pushed_bytes};
-ghost use Rattle.uefi_node_reader.specs.NamedFiles.{name_data};
 
 use crate::counted_bytes::push;
 
@@ -56,7 +55,7 @@ fn push_ascii(places: &mut [u8], len: usize, text: &[u8]) -> usize
 }
 
 /// Puts the bytes of a text in UTF-16 after `len` bytes, and returns the number of bytes then.
-fn push_text(places: &mut [u8], len: usize, text: &str) -> usize
+pub(crate) fn push_text(places: &mut [u8], len: usize, text: &str) -> usize
     ensures { (places.new, result)
         ≡ pushed_bytes (places.old, len) (unit_bytes (flat_map encode_utf16 (chars text.now))) }
 {
@@ -68,13 +67,4 @@ fn push_text(places: &mut [u8], len: usize, text: &str) -> usize
         count = push_char(places, count, c);
     }
     count
-}
-
-/// Puts the data of a file's node: the name in UTF-16, and a NUL.
-pub(crate) fn push_name(places: &mut [u8], len: usize, name: &str) -> usize
-    ensures { (places.new, result) ≡ pushed_bytes (places.old, len) (name_data (chars name.now)) }
-{
-    let count = push_text(places, len, name);
-    let count = push(places, count, 0);
-    push(places, count, 0)
 }

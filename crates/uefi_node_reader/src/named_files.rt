@@ -1,14 +1,16 @@
-//! Nodes of files, read from the names.
+//! Names of files in texts.
 #![tactic(auto)]
 
-ghost use Rattle.std.specs.Prelude.{◌≡◌, ◌<◌, ◌≤◌, ℕ, false, length, slice_index, true};
-ghost use Rattle.std.specs.List.{list_all, position_or_len};
-ghost use Rattle.std.specs.Option.{option_map};
-ghost use Rattle.std.specs.Str.{IsAscii, chars};
-ghost use Rattle.uefi_node_reader.specs.NamedFiles.{begins_name, ends_name, is_after_node, is_name_char, name_read, past_spaces};
-ghost use Rattle.uefi_node_reader.specs.ParsedNodeViews.{parsed_node};
+ghost use Rattle.std.specs.Prelude.{◌≡◌, ◌+◌, ◌<◌, ◌≤◌, ◌&&◌, ℕ, false, length, slice_index, true};
+ghost use Rattle.std.specs.Char.Escape.{encode_utf16};
+ghost use Rattle.std.specs.List.{flat_map, list_all, position_or_len};
+ghost use Rattle.std.specs.Str.{IsAscii, chars, is_utf8};
+ghost use Rattle.uefi_text.specs.UnitBytes.{unit_bytes};
+ghost use Rattle.uefi_node_reader.specs.Counted.{pushed_bytes};
+ghost use Rattle.uefi_node_reader.specs.NamedFiles.{ends_name, is_after_node, is_name_char, past_spaces};
 
-use crate::parsed_node::ParsedNode;
+use crate::name_data::push_text;
+use crate::texts::Text;
 use uefi_field_texts::shown_texts::is_escaped;
 
 /// Returns whether a byte ends a name.
@@ -18,22 +20,52 @@ pub(crate) fn ends_name(byte: u8) -> bool
     byte == b'/' || byte == b','
 }
 
+/// A text that may be the name of a file.
+pub trait NameText: Text {
+    /// Returns the number of bytes before the first slash or comma.
+    fn name_len(self) -> usize
+        ensures place { result ≡ position_or_len ends_name (Self.bytes self) }
+        ensures within { result ≤ length (Self.bytes self) };
+
+    /// Returns the number of bytes, and one for an end.
+    fn len_with_end(self) -> usize
+        ensures { result ≡ length (Self.bytes self) + 1 };
+
+    /// Returns whether the text is UTF-8, and all its characters may be in a name.
+    fn has_name_chars(self) -> bool
+        ensures { result ≡ (is_utf8 (Self.bytes self) && list_all is_name_char (chars (Self.bytes self))) };
+
+    /// Puts the text in UTF-16 after `len` bytes, the low byte of each unit first, as far as there is room.
+    /// Returns the new number of bytes.
+    fn push_utf16(self, places: &mut [u8], len: usize) -> usize
+        requires { is_utf8 (Self.bytes self) ≡ true }
+        ensures { (places.new, result) ≡ pushed_bytes (places.old, len)
+            (unit_bytes (flat_map encode_utf16 (chars (Self.bytes self)))) };
+}
+
 /// Returns whether a node may end before a text: before no byte, a slash or a comma.
-pub(crate) fn is_after_node(text: &[u8]) -> bool
-    ensures { result ≡ is_after_node text.now }
+pub(crate) fn is_after_node<T: Text>(text: T) -> bool
+    ensures { result ≡ is_after_node (T.bytes text) }
 {
-    match text {
-        [first, ..] => ends_name(*first),
-        [] => true,
+    match text.split_first() {
+        Some((first, _)) => ends_name(first),
+        None => true,
     }
 }
 
 /// Returns a text without the blanks and line ends at its start.
-pub(crate) fn past_spaces(text: &[u8]) -> &[u8]
-    ensures rest { result.now ≡ past_spaces text.now }
-    ensures within { length result.now ≤ length text.now }
+pub(crate) fn past_spaces<T: Text>(text: T) -> T
+    ensures rest { T.bytes result ≡ past_spaces (T.bytes text) }
+    ensures within { length (T.bytes result) ≤ length (T.bytes text) }
 {
-    text.trim_ascii_start()
+    let mut rest = text;
+    'bytes: while let Some((byte, after)) = rest.split_first() {
+        if !byte.is_ascii_whitespace() {
+            return rest;
+        }
+        rest = after;
+    }
+    rest
 }
 
 /// The number of bytes that are tested together. Without an early exit among them, the test becomes
@@ -67,7 +99,7 @@ fn inner_blocks_end(text: &[u8]) -> usize
 }
 
 /// Returns the number of bytes of a text before its first slash or comma.
-pub(crate) fn name_len(text: &[u8]) -> usize
+fn name_len(text: &[u8]) -> usize
     ensures place { result ≡ position_or_len ends_name text.now }
     ensures within { result ≤ length text.now }
 {
@@ -89,13 +121,6 @@ fn is_name_char(c: char) -> bool
         !is_escaped(c)
     };
     is_shown && c != '/' && c != ','
-}
-
-/// Returns whether a text begins with a backslash.
-fn begins_name(text: &str) -> bool
-    ensures { result ≡ begins_name (chars text.now) }
-{
-    text.chars().next() == Some('\\')
 }
 
 /// Returns whether an ASCII character may be in a name.
@@ -130,17 +155,27 @@ fn has_name_chars(text: &str) -> bool
     text.chars().all(|c| is_name_char(c))
 }
 
-/// Reads the node of the name at the start of a text, and returns the rest of the text too.
-pub(crate) fn name(text: &[u8]) -> Option<(ParsedNode<'_>, &[u8])>
-    ensures { option_map (λ x. (parsed_node x.0, x.1.now)) result ≡ name_read text.now }
-{
-    let (front, rest) = text.split_at(name_len(text));
-    let Ok(name) = str::from_utf8(front) else {
-        return None;
-    };
-    if !begins_name(name) || !has_name_chars(name) {
-        return None;
+/// A text of bytes.
+impl NameText for &[u8] {
+    fn name_len(self) -> usize {
+        name_len(self)
     }
-    let node = ParsedNode::with_name(name)?;
-    Some((node, rest))
+
+    fn len_with_end(self) -> usize {
+        self.len() + 1
+    }
+
+    fn has_name_chars(self) -> bool {
+        match str::from_utf8(self) {
+            Ok(text) => has_name_chars(text),
+            Err(_) => false,
+        }
+    }
+
+    fn push_utf16(self, places: &mut [u8], len: usize) -> usize {
+        match str::from_utf8(self) {
+            Ok(text) => push_text(places, len, text),
+            Err(_) => unreachable!(),
+        }
+    }
 }

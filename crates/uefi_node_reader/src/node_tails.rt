@@ -11,17 +11,20 @@ ghost use Rattle.uefi_node_reader.specs.Counted.{pushed_bytes, put_on};
 ghost use Rattle.uefi_node_reader.specs.FieldReading.{clear_run, comma_read, run_read};
 ghost use Rattle.uefi_node_reader.specs.TableReading.{as_ids, as_padded, ids_read, list_read, piece_put, pieces_put, tail_read};
 
-use crate::clear_texts::{cut_clear, first_of, push_clear, push_clear_name, push_clear_units};
+use crate::clear_texts::{
+    cut_clear, first_of, past_clear, push_clear, push_clear_name, push_clear_units,
+};
 use crate::counted_bytes::{push, push_all};
 use crate::fields::{after, byte, read_value};
+use crate::texts::Text;
 use uefi_node_table::rows::{Item, Piece, Tail};
 use uefi_node_table::table::item_of;
 
 /// Puts the field at the start of a text into data, and reads its ending. Returns the rest of the text.
-fn read_piece<'a>(piece: &Piece, content: &mut [u8], text: &'a [u8]) -> Option<&'a [u8]>
+fn read_piece<T: Text>(piece: &Piece, content: &mut [u8], text: T) -> Option<T>
     requires { IsTrue (is_within (length content.old) (as_piece piece.now)) }
-    ensures { option_map (λ rest. (content.new, rest.now)) result
-        ≡ piece_put (as_piece piece.now) content.old text.now }
+    ensures { option_map (λ rest. (content.new, T.bytes rest)) result
+        ≡ piece_put (as_piece piece.now) content.old (T.bytes text) }
 {
     let from = piece.place as usize;
     let to = from + piece.width as usize;
@@ -30,14 +33,10 @@ fn read_piece<'a>(piece: &Piece, content: &mut [u8], text: &'a [u8]) -> Option<&
 }
 
 /// Puts the fields at the start of a text into data, and reads their endings. Returns the rest of the text.
-pub(crate) fn read_pieces<'a>(
-    pieces: &[Piece],
-    content: &mut [u8],
-    text: &'a [u8],
-) -> Option<&'a [u8]>
+pub(crate) fn read_pieces<T: Text>(pieces: &[Piece], content: &mut [u8], text: T) -> Option<T>
     requires { IsTrue (list_all (is_within (length content.old)) (map as_piece pieces.now)) }
-    ensures { option_map (λ rest. (content.new, rest.now)) result
-        ≡ pieces_put (map as_piece pieces.now) content.old text.now }
+    ensures { option_map (λ rest. (content.new, T.bytes rest)) result
+        ≡ pieces_put (map as_piece pieces.now) content.old (T.bytes text) }
 {
     let mut rest = text;
     for piece in pieces {
@@ -48,9 +47,9 @@ pub(crate) fn read_pieces<'a>(
 
 /// Puts all bytes of two digits each at the start of a text after `len` others. Returns the new number of
 /// bytes, and the rest of the text.
-pub(crate) fn push_run<'a>(places: &mut [u8], len: usize, text: &'a [u8]) -> (usize, &'a [u8])
-    ensures state { (places.new, result.0) ≡ pushed_bytes (places.old, len) (run_read text.now).0 }
-    ensures rest { result.1.now ≡ (run_read text.now).1 }
+pub(crate) fn push_run<T: Text>(places: &mut [u8], len: usize, text: T) -> (usize, T)
+    ensures state { (places.new, result.0) ≡ pushed_bytes (places.old, len) (run_read (T.bytes text)).0 }
+    ensures rest { T.bytes result.1 ≡ (run_read (T.bytes text)).1 }
 {
     let mut count = len;
     let mut rest = text;
@@ -62,11 +61,11 @@ pub(crate) fn push_run<'a>(places: &mut [u8], len: usize, text: &'a [u8]) -> (us
 }
 
 /// Puts the bytes after a comma, or nothing if the text begins with no comma.
-fn push_comma_bytes<'a>(places: &mut [u8], len: usize, text: &'a [u8]) -> Option<(usize, &'a [u8])>
-    ensures { option_map (λ x. ((places.new, x.0), x.1.now)) result
-        ≡ option_and_then (put_on (places.old, len)) (comma_read text.now) }
+fn push_comma_bytes<T: Text>(places: &mut [u8], len: usize, text: T) -> Option<(usize, T)>
+    ensures { option_map (λ x. ((places.new, x.0), T.bytes x.1)) result
+        ≡ option_and_then (put_on (places.old, len)) (comma_read (T.bytes text)) }
 {
-    let [b',', digits @ ..] = text else {
+    let Some((b',', digits)) = text.split_first() else {
         return Some((len, text));
     };
     byte(digits)?;
@@ -74,17 +73,12 @@ fn push_comma_bytes<'a>(places: &mut [u8], len: usize, text: &'a [u8]) -> Option
 }
 
 /// Puts an item of a list, whose fields are at the start of a text.
-fn push_item<'a>(
-    places: &mut [u8],
-    len: usize,
-    item: &Item,
-    text: &'a [u8],
-) -> Option<(usize, &'a [u8])>
+fn push_item<T: Text>(places: &mut [u8], len: usize, item: &Item, text: T) -> Option<(usize, T)>
     requires few { item.now.size ≤ 16 }
     requires laid_out { IsTrue (list_all (is_within item.now.size) (as_item item.now).pieces) }
-    ensures { option_map (λ x. ((places.new, x.0), x.1.now)) result
+    ensures { option_map (λ x. ((places.new, x.0), T.bytes x.1)) result
         ≡ option_and_then (put_on (places.old, len))
-        (pieces_put (as_item item.now).pieces (replicate item.now.size 0) text.now) }
+        (pieces_put (as_item item.now).pieces (replicate item.now.size 0) (T.bytes text)) }
 {
     let mut buffer = [0; 16];
     let bytes = &mut buffer[..item.size];
@@ -93,16 +87,11 @@ fn push_item<'a>(
 }
 
 /// Puts all items of a list at the start of a text.
-fn push_items<'a>(
-    places: &mut [u8],
-    len: usize,
-    item: &Item,
-    text: &'a [u8],
-) -> Option<(usize, &'a [u8])>
+fn push_items<T: Text>(places: &mut [u8], len: usize, item: &Item, text: T) -> Option<(usize, T)>
     requires few { item.now.size ≤ 16 }
     requires laid_out { IsTrue (list_all (is_within item.now.size) (as_item item.now).pieces) }
-    ensures { option_map (λ x. ((places.new, x.0), x.1.now)) result
-        ≡ option_and_then (put_on (places.old, len)) (list_read (as_item item.now) text.now) }
+    ensures { option_map (λ x. ((places.new, x.0), T.bytes x.1)) result
+        ≡ option_and_then (put_on (places.old, len)) (list_read (as_item item.now) (T.bytes text)) }
 {
     let mut count = len;
     let mut rest = text;
@@ -118,74 +107,50 @@ fn push_items<'a>(
 }
 
 /// Puts a text, padded with zeros to 32 bytes.
-fn push_padded<'a>(
-    places: &mut [u8],
-    len: usize,
-    stop: u8,
-    text: &'a [u8],
-) -> Option<(usize, &'a [u8])>
-    ensures { option_map (λ x. ((places.new, x.0), x.1.now)) result
-        ≡ option_and_then (put_on (places.old, len)) (as_padded (clear_run stop text.now)) }
+fn push_padded<T: Text>(places: &mut [u8], len: usize, stop: u8, text: T) -> Option<(usize, T)>
+    ensures { option_map (λ x. ((places.new, x.0), T.bytes x.1)) result
+        ≡ option_and_then (put_on (places.old, len)) (as_padded (clear_run stop (T.bytes text))) }
 {
-    let (name, rest) = cut_clear(stop, text);
-    let spare = 32usize.checked_sub(name.len())?;
-    let len = push_all(places, len, name);
+    let spare = 32usize.checked_sub(cut_clear(stop, text).0.len())?;
+    let (len, rest) = push_clear(places, len, stop, text);
     Some((push_all(places, len, &[0; 32][..spare]), rest))
 }
 
-/// Puts a string and a NUL.
-fn push_string(places: &mut [u8], len: usize, string: &[u8]) -> usize
-    ensures { (places.new, result) ≡ pushed_bytes (pushed_bytes (places.old, len) string.now) (0 ∷ []) }
-{
-    let len = push_all(places, len, string);
-    push(places, len, 0)
-}
-
-/// Puts the ID strings of a device in the order of the node's data.
-fn push_strings(places: &mut [u8], len: usize, hid: &[u8], cid: &[u8], uid: &[u8]) -> usize
-    ensures { (places.new, result) ≡ pushed_bytes (places.old, len) (as_ids hid.now cid.now uid.now) }
-{
-    let len = push_string(places, len, hid);
-    let len = push_string(places, len, uid);
-    push_string(places, len, cid)
-}
-
 /// Puts the ID strings that a text contains in the order of the node's data.
-fn push_ids<'a>(
-    places: &mut [u8],
-    len: usize,
-    stop: u8,
-    text: &'a [u8],
-) -> Option<(usize, &'a [u8])>
-    ensures { option_map (λ x. ((places.new, x.0), x.1.now)) result
-        ≡ option_and_then (put_on (places.old, len)) (ids_read stop text.now) }
+fn push_ids<T: Text>(places: &mut [u8], len: usize, stop: u8, text: T) -> Option<(usize, T)>
+    ensures { option_map (λ x. ((places.new, x.0), T.bytes x.1)) result
+        ≡ option_and_then (put_on (places.old, len)) (ids_read stop (T.bytes text)) }
 {
-    let (hid, rest) = cut_clear(b',', text);
-    let (cid, rest) = cut_clear(b',', after(b",", rest)?);
-    let (uid, rest) = cut_clear(stop, after(b",", rest)?);
-    Some((push_strings(places, len, hid, cid, uid), rest))
+    let cid = after(b",", past_clear(b',', text))?;
+    let uid = after(b",", past_clear(b',', cid))?;
+    let (len, _) = push_clear_name(places, len, b',', text);
+    let (len, rest) = push_clear_name(places, len, stop, uid);
+    let (len, _) = push_clear_name(places, len, b',', cid);
+    Some((len, rest))
 }
 
 /// Puts the ID strings of a device. The string of `_UID` is at the start of a text, and the others are
 /// empty.
-pub(crate) fn push_uid(places: &mut [u8], len: usize, stop: u8, text: &[u8]) -> usize
+pub(crate) fn push_uid<T: Text>(places: &mut [u8], len: usize, stop: u8, text: T) -> usize
     ensures { (places.new, result)
-        ≡ pushed_bytes (places.old, len) (as_ids [] [] (clear_run stop text.now).0) }
+        ≡ pushed_bytes (places.old, len) (as_ids [] [] (clear_run stop (T.bytes text)).0) }
 {
-    push_strings(places, len, &[], &[], cut_clear(stop, text).0)
+    let len = push(places, len, 0);
+    let (len, _) = push_clear_name(places, len, stop, text);
+    push(places, len, 0)
 }
 
 /// Puts the data after the fixed part, which comes before `close` in a text, after `len` other bytes, as
 /// far as there is room. Returns the new number of bytes, and the rest of the text.
-pub(crate) fn push_tail<'a>(
+pub(crate) fn push_tail<T: Text>(
     tail: Tail,
     close: &[u8],
     places: &mut [u8],
     len: usize,
-    text: &'a [u8],
-) -> Option<(usize, &'a [u8])>
-    ensures { option_map (λ x. ((places.new, x.0), x.1.now)) result
-        ≡ option_and_then (put_on (places.old, len)) (tail_read tail close.now text.now) }
+    text: T,
+) -> Option<(usize, T)>
+    ensures { option_map (λ x. ((places.new, x.0), T.bytes x.1)) result
+        ≡ option_and_then (put_on (places.old, len)) (tail_read tail close.now (T.bytes text)) }
 {
     match tail {
         Tail::Nothing => Some((len, text)),

@@ -1,52 +1,65 @@
 //! One node, read from its text.
 #![tactic(auto, unfolding(crate::specs::NamedFiles::node_read))]
 
-ghost use Rattle.std.specs.Prelude.{◌≡◌, ◌<◌, ◌≤◌, codes, length};
+ghost use Rattle.std.specs.Prelude.{◌≡◌, codes};
 ghost use Rattle.std.specs.Option.{option_map};
 ghost use Rattle.std.specs.Result.{result_map_both};
+ghost use Rattle.uefi_node_table.specs.Table.{forms};
 ghost use Rattle.uefi_node_reader.specs.Alike.{CallsAlike, ZerosAlike, ZerosAlikeAfterBase};
+ghost use Rattle.uefi_node_reader.specs.FieldReading.{either_read};
 ghost use Rattle.uefi_node_reader.specs.Helps.{ExpectedHelps};
 ghost use Rattle.uefi_node_reader.specs.Laws.{NodeAgain, NodeFits, NodeStarts, NodeTakes, NodeTextOnce};
 ghost use Rattle.uefi_node_reader.specs.LenientFields.{after_literal};
 ghost use Rattle.uefi_node_reader.specs.LenientNodes.{end_fault, ended, ended_at, file_or_call, lenient_read, written_read};
 ghost use Rattle.uefi_node_reader.specs.NamedFiles.{is_after_node, node_read};
 ghost use Rattle.uefi_node_reader.specs.ParsedNodeViews.{parsed_node};
+ghost use Rattle.uefi_node_reader.specs.PlainNodes.{plain_read};
+ghost use Rattle.uefi_node_reader.specs.ReadNodes.{node_from_text};
+ghost use Rattle.uefi_node_reader.specs.TableReading.{table_read};
 
 use crate::calls::by_call;
 use crate::clear_texts::first_of;
 use crate::faults::{Expected, NodeFault};
+use crate::file_node::name;
 use crate::lenient_fields::after_literal;
 use crate::lenient_names::{bare, begins_call, file};
-use crate::named_files::{is_after_node, name, past_spaces};
+use crate::named_files::{NameText, is_after_node, past_spaces};
 use crate::parsed_node::ParsedNode;
 use crate::plain_nodes::plain;
+use crate::read_node::ReadNode;
 use crate::table_reader::by_table;
+use crate::texts::Text;
+
+/// Reads the node of a call at the start of a text, exactly as it is printed.
+fn call<T: Text>(text: T) -> Option<(ParsedNode<T>, T)>
+    ensures { option_map (λ x. (parsed_node x.0, T.bytes x.1)) result
+        ≡ either_read (table_read forms (T.bytes text)) (plain_read (T.bytes text)) }
+{
+    if let Some(read) = by_table(text) {
+        return Some(read);
+    }
+    plain(text)
+}
 
 /// Reads the node at the start of a text, exactly as it is printed, and returns the rest of the text too. The
 /// rest may begin with any byte. Returns `None` only if no node that its text describes completely has such a
 /// text before a slash, a comma or the end. Does not allocate.
-pub fn read_node(text: &[u8]) -> Option<(ParsedNode<'_>, &[u8])>
-    ensures { option_map (λ x. (parsed_node x.0, x.1.now)) result ≡ node_read text.now }
+pub fn read_node<T: NameText>(text: T) -> Option<(ReadNode<T>, T)>
+    ensures { option_map (λ x. (node_from_text x.0, T.bytes x.1)) result ≡ node_read (T.bytes text) }
 {
-    if first_of(text) == b'\\' {
-        // No other text of a node begins with a backslash.
-        return name(text);
+    // No text of a call begins with a backslash.
+    if first_of(text) != b'\\' {
+        let (node, rest) = call(text)?;
+        return Some((ReadNode::Exact(node), rest));
     }
-    if let Some(read) = by_table(text) {
-        return Some(read);
-    }
-    if let Some(read) = plain(text) {
-        return Some(read);
-    }
-    name(text)
+    let (node, rest) = name(text)?;
+    Some((ReadNode::File(node), rest))
 }
 
 /// Returns what was read, if a node may end there.
-pub(crate) fn ended<'s, 't>(
-    read: Option<(ParsedNode<'s>, &'t [u8])>,
-) -> Option<(ParsedNode<'s>, &'t [u8])>
-    ensures { option_map (λ x. (parsed_node x.0, x.1.now)) result
-        ≡ ended (option_map (λ x. (parsed_node x.0, x.1.now)) read.entry) }
+pub(crate) fn ended<T: NameText>(read: Option<(ReadNode<T>, T)>) -> Option<(ReadNode<T>, T)>
+    ensures { option_map (λ x. (node_from_text x.0, T.bytes x.1)) result
+        ≡ ended (option_map (λ x. (node_from_text x.0, T.bytes x.1)) read) }
 {
     let (node, rest) = read?;
     if is_after_node(rest) {
@@ -56,8 +69,8 @@ pub(crate) fn ended<'s, 't>(
 }
 
 /// Returns the fault of a text that continues past the end of its node.
-fn end_fault(text: &[u8], rest: &[u8]) -> NodeFault
-    ensures { result ≡ end_fault text.now rest.now }
+fn end_fault<T: Text>(text: T, rest: T) -> NodeFault
+    ensures { result ≡ end_fault (T.bytes text) (T.bytes rest) }
 {
     NodeFault {
         byte: text.len().saturating_sub(rest.len()),
@@ -67,12 +80,12 @@ fn end_fault(text: &[u8], rest: &[u8]) -> NodeFault
 
 /// Returns what was read, if a node may end there, perhaps with blanks after it. Otherwise returns the fault
 /// of the text.
-pub(crate) fn ended_at<'s, 't>(
-    text: &[u8],
-    read: (ParsedNode<'s>, &'t [u8]),
-) -> Result<(ParsedNode<'s>, &'t [u8]), NodeFault>
-    ensures { result_map_both (λ x. (parsed_node x.0, x.1.now)) (λ e. e) result
-        ≡ ended_at text.now (parsed_node read.entry.0, read.entry.1.now) }
+pub(crate) fn ended_at<T: NameText>(
+    text: T,
+    read: (ReadNode<T>, T),
+) -> Result<(ReadNode<T>, T), NodeFault>
+    ensures { result_map_both (λ x. (node_from_text x.0, T.bytes x.1)) (λ e. e) result
+        ≡ ended_at (T.bytes text) (node_from_text read.0, T.bytes read.1) }
 {
     let (node, rest) = read;
     let after = past_spaces(rest);
@@ -83,35 +96,29 @@ pub(crate) fn ended_at<'s, 't>(
 }
 
 /// Reads the node at the start of a text that begins with a call.
-fn called<'s, 't: 's>(
-    scratch: &'s mut [u8],
-    text: &'t [u8],
-) -> Result<(ParsedNode<'s>, &'t [u8]), NodeFault>
-    requires { length text.now < length scratch.old }
-    ensures { result_map_both (λ x. (parsed_node x.0, x.1.now)) (λ e. e) result
-        ≡ file_or_call (after_literal (codes "File(") text.now) text.now }
+fn called<T: NameText>(text: T) -> Result<(ReadNode<T>, T), NodeFault>
+    ensures { result_map_both (λ x. (node_from_text x.0, T.bytes x.1)) (λ e. e) result
+        ≡ file_or_call (after_literal (codes "File(") (T.bytes text)) (T.bytes text) }
 {
     match after_literal(b"File(", text) {
-        Ok(name) => file(scratch, text, name),
-        Err(_) => by_call(scratch, text),
+        Ok(name) => {
+            let (node, rest) = file(text, name)?;
+            Ok((ReadNode::File(node), rest))
+        }
+        Err(_) => by_call(text),
     }
 }
 
 /// Reads the node at the start of a text, in any form that people write except the printed one.
-fn written<'s, 't: 's>(
-    is_rooted: bool,
-    scratch: &'s mut [u8],
-    text: &'t [u8],
-) -> Result<(ParsedNode<'s>, &'t [u8]), NodeFault>
-    requires { length text.now < length scratch.old }
-    ensures { result_map_both (λ x. (parsed_node x.0, x.1.now)) (λ e. e) result
-        ≡ written_read is_rooted text.now }
+fn written<T: NameText>(is_rooted: bool, text: T) -> Result<(ReadNode<T>, T), NodeFault>
+    ensures { result_map_both (λ x. (node_from_text x.0, T.bytes x.1)) (λ e. e) result
+        ≡ written_read is_rooted (T.bytes text) }
 {
     if begins_call(text) {
-        return ended_at(text, called(scratch, text)?);
+        return ended_at(text, called(text)?);
     }
-    if let Some(read) = bare(is_rooted, scratch, text) {
-        return Ok(read);
+    if let Some((node, rest)) = bare(is_rooted, text) {
+        return Ok((ReadNode::File(node), rest));
     }
     Err(NodeFault {
         byte: 0,
@@ -124,8 +131,7 @@ fn written<'s, 't: 's>(
 }
 
 /// Reads the node at the start of a text, as people write it, and returns the rest of the text too. The rest
-/// is empty, or begins with a slash or a comma. The buffer is for a copy of the call or the name; afterwards
-/// its contents are unspecified. Does not allocate.
+/// is empty, or begins with a slash or a comma. Does not allocate.
 ///
 /// A node that [`read_node`] reads there is read as the same node. Otherwise a call is read up to its first
 /// `)`, in either case and without its blanks:
@@ -147,23 +153,21 @@ fn written<'s, 't: 's>(
 /// After a whole node, it is the first byte that follows the node. If no form has the name of the call, but a
 /// form has a name that differs in one letter, the error gives that name.
 #[tactic(auto, unfolding(crate::specs::LenientNodes::lenient_read))]
-pub fn read_lenient_node<'s, 't: 's>(
+pub fn read_lenient_node<T: NameText>(
     is_rooted: bool,
-    scratch: &'s mut [u8],
-    text: &'t [u8],
-) -> Result<(ParsedNode<'s>, &'t [u8]), NodeFault>
-    requires { length text.now < length scratch.old }
-    ensures { result_map_both (λ x. (parsed_node x.0, x.1.now)) (λ e. e) result
-        ≡ lenient_read is_rooted text.now }
+    text: T,
+) -> Result<(ReadNode<T>, T), NodeFault>
+    ensures { result_map_both (λ x. (node_from_text x.0, T.bytes x.1)) (λ e. e) result
+        ≡ lenient_read is_rooted (T.bytes text) }
 {
     let Some((node, rest)) = read_node(text) else {
-        return written(is_rooted, scratch, text);
+        return written(is_rooted, text);
     };
     let after = past_spaces(rest);
     if is_after_node(after) {
         return Ok((node, after));
     }
-    match written(is_rooted, scratch, text) {
+    match written(is_rooted, text) {
         Ok(read) => Ok(read),
         Err(_) => Err(end_fault(text, rest)),
     }

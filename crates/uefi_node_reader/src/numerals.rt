@@ -5,6 +5,8 @@ ghost use Rattle.std.specs.Prelude.{◌≡◌, ◌+◌, ◌<◌};
 ghost use Rattle.std.specs.Option.{option_map};
 ghost use Rattle.uefi_node_reader.specs.Numerals.{digit_of, digits_after, number_read};
 
+use crate::texts::Text;
+
 /// Returns the value of a digit, from 0 to 9 or A to F in upper case, or 16 for another byte.
 pub(crate) fn digit_of(byte: u8) -> u64
     ensures { result ≡ digit_of byte }
@@ -18,13 +20,14 @@ pub(crate) fn digit_of(byte: u8) -> u64
 
 /// Reads all digits at the start of a text, after digits with the value `first`. Returns the number and
 /// the rest of the text, or `None` if the number is above `last`.
-pub(crate) fn digits_after(base: u64, last: u64, first: u64, text: &[u8]) -> Option<(u64, &[u8])>
-    ensures { option_map (λ x. (x.0, x.1.now)) result ≡ digits_after base (last + 1) first text.now }
+pub(crate) fn digits_after<T: Text>(base: u64, last: u64, first: u64, text: T) -> Option<(u64, T)>
+    ensures { option_map (λ x. (x.0, T.bytes x.1)) result
+        ≡ digits_after base (last + 1) first (T.bytes text) }
 {
     let mut number = first;
     let mut rest = text;
-    'digits: while let [byte, after @ ..] = rest {
-        let digit = digit_of(*byte);
+    'digits: while let Some((byte, after)) = rest.split_first() {
+        let digit = digit_of(byte);
         if base <= digit {
             return Some((number, rest));
         }
@@ -39,19 +42,17 @@ pub(crate) fn digits_after(base: u64, last: u64, first: u64, text: &[u8]) -> Opt
 }
 
 /// Reads a number up to `last`, without leading zeros, and returns the rest of the text too.
-pub(crate) fn number(base: u64, last: u64, text: &[u8]) -> Option<(u64, &[u8])>
-    ensures { option_map (λ x. (x.0, x.1.now)) result ≡ number_read base (last + 1) text.now }
+pub(crate) fn number<T: Text>(base: u64, last: u64, text: T) -> Option<(u64, T)>
+    ensures { option_map (λ x. (x.0, T.bytes x.1)) result ≡ number_read base (last + 1) (T.bytes text) }
 {
-    let [byte, after @ ..] = text else {
-        return None;
-    };
-    let digit = digit_of(*byte);
+    let (byte, after) = text.split_first()?;
+    let digit = digit_of(byte);
     if base <= digit {
         return None;
     }
     if digit == 0 {
-        return match after {
-            [next, ..] if digit_of(*next) < base => None,
+        return match after.split_first() {
+            Some((next, _)) if digit_of(next) < base => None,
             _ => Some((0, after)),
         };
     }

@@ -3,44 +3,50 @@
 
 ghost use Rattle.std.specs.List.{list_all};
 ghost use Rattle.std.specs.Option.{option_and_then, option_map};
-ghost use Rattle.std.specs.Prelude.{◌≡◌, ◌≤◌, ◌++◌, [], IfSome, IsTrue, true, drop, if◌then◌else◌, length, map, nat_le, take, None, Some};
-ghost use Rattle.std.specs.Str.{chars};
-ghost use Rattle.uefi_device_nodes.specs.Nodes.{node_with};
+ghost use Rattle.std.specs.Prelude.{◌≡◌, ◌≤◌, ◌++◌, ◌∷◌, [], IfSome, IsTrue, true, drop, if◌then◌else◌, length, map, nat_le, take, None, Some};
 ghost use Rattle.uefi_node_reader.specs.FieldReading.{clear_run};
-ghost use Rattle.uefi_node_reader.specs.NamedFiles.{name_data};
+ghost use Rattle.uefi_node_reader.specs.ParsedNodeViews.{TextNode, text_node_data, parsed_node};
 ghost use Rattle.uefi_node_table.specs.Rows.{as_piece, is_within};
 ghost use Rattle.uefi_node_reader.specs.TableReading.{added, as_ids, first_of, followed, pieces_put, tail_read};
-ghost use Rattle.uefi_node_reader.specs.ParsedNodes.{all_data, fitting, is_coded};
+ghost use Rattle.uefi_node_reader.specs.ParsedNodes.{IsDecoded, all_data, fitting};
 
 use crate::clear_texts::first_of;
 use crate::counted_bytes::push_all;
 use crate::data_form::DataForm;
-use crate::name_data::push_name;
 use crate::node_tails::{push_tail, push_uid, read_pieces};
+use crate::texts::Text;
+use std::marker::Model;
 use uefi_node_table::rows::{Piece, Tail};
 
-/// A node that was read from a text. A contract sees it as `parsed_node` of it. Its numbers are small so that
-/// a move does not call `memcpy`, which firmware lacks.
-#[derive(Clone, Copy)]
-pub struct ParsedNode<'a> {
+/// A node that was read from a call. A contract sees its types, the number of its fixed bytes, and its data.
+/// Its numbers are small so that a move does not call `memcpy`, which firmware lacks.
+#[derive(Drop)]
+pub struct ParsedNode<T: Text> {
     device_type: u8,
     sub_type: u8,
     head: [u8; 64],
     fixed: u8,
     data_form: DataForm,
-    close: &'static str,
-    text: &'a [u8],
+    /// The first byte of what closes the data.
+    stop: u8,
+    text: T,
     len: u16,
-    pub ghost small: { fixed ≤ 64 },
-    pub ghost coded: { is_coded data_form close.now text.now ≡ true },
-    pub ghost counted: { len ≡ length (all_data head fixed data_form close.now text.now) },
-    pub ghost shown: { take len head ≡ take 64 (all_data head fixed data_form close.now text.now) },
-    pub ghost fits: { len ≤ 0xfffb },
 }
 
-impl<'a> ParsedNode<'a> {
-    ghost use Rattle.uefi_node_reader.specs.ParsedNodeViews.{text_node_data, parsed_node};
+impl<T: Text> Model for ParsedNode<T> {
+    ghost Value = { TextNode };
 
+    ghost view = { λ n. record {
+      device_type = n.device_type;
+      sub_type = n.sub_type;
+      fixed = n.fixed;
+      content = all_data n.head n.fixed n.data_form (n.stop ∷ []) (T.bytes n.text);
+    } };
+
+    ghost invariant = { λ n. IsDecoded n.head n.fixed n.len n.data_form (n.stop ∷ []) (T.bytes n.text) };
+}
+
+impl<T: Text> ParsedNode<T> {
     /// Returns the node with these fixed bytes, and the data that a tail reads at the start of a text, up to
     /// `close`. Returns the rest of the text too.
     pub(crate) fn with_tail(
@@ -50,16 +56,18 @@ impl<'a> ParsedNode<'a> {
         fixed: usize,
         tail: Tail,
         close: &'static str,
-        text: &'a [u8],
-    ) -> Option<(Self, &'a [u8])>
+        text: T,
+    ) -> Option<(Self, T)>
         requires { fixed ≤ 64 }
         ensures types { IfSome result (λ x. (x.0.device_type ≡ device_type) × (x.0.sub_type ≡ sub_type)) }
         ensures fixed { IfSome result (λ x. x.0.fixed ≡ fixed) }
-        ensures data { option_map (λ x. (text_node_data x.0, x.1.now)) result
-            ≡ fitting (option_and_then (added (take fixed fixed_bytes)) (tail_read tail close.now text.now)) }
+        ensures data { option_map (λ x. (text_node_data x.0, T.bytes x.1)) result
+            ≡ fitting (option_and_then (added (take fixed fixed_bytes))
+            (tail_read tail close.now (T.bytes text))) }
     {
+        let stop = first_of(close.as_bytes());
         let mut head = fixed_bytes;
-        let (len, rest) = push_tail(tail, close.as_bytes(), &mut head, fixed, text)?;
+        let (len, rest) = push_tail(tail, &[stop], &mut head, fixed, text)?;
         if 0xfffb < len {
             return None;
         }
@@ -69,7 +77,7 @@ impl<'a> ParsedNode<'a> {
             head,
             fixed: fixed as u8,
             data_form: DataForm::InTail(tail),
-            close,
+            stop,
             text,
             len: len as u16,
         };
@@ -78,18 +86,14 @@ impl<'a> ParsedNode<'a> {
 
     /// Returns the node with more fields of its fixed part, which are read at the start of a text, and
     /// the rest of the text.
-    pub(crate) fn with_fields<'b>(
-        self,
-        pieces: &[Piece],
-        text: &'b [u8],
-    ) -> Option<(Self, &'b [u8])>
+    pub(crate) fn with_fields(self, pieces: &[Piece], text: T) -> Option<(Self, T)>
         requires { IsTrue (list_all (is_within self.fixed) (map as_piece pieces.now)) }
         ensures types { IfSome result (λ x.
-            (x.0.device_type ≡ self.entry.device_type) × (x.0.sub_type ≡ self.entry.sub_type)) }
-        ensures data { option_map (λ x. (text_node_data x.0, x.1.now)) result
-            ≡ option_and_then (followed (drop self.entry.fixed (text_node_data self.entry)))
+            (x.0.device_type ≡ self.device_type) × (x.0.sub_type ≡ self.sub_type)) }
+        ensures data { option_map (λ x. (text_node_data x.0, T.bytes x.1)) result
+            ≡ option_and_then (followed (drop self.fixed (text_node_data self)))
             (pieces_put (map as_piece pieces.now)
-            (take self.entry.fixed (text_node_data self.entry)) text.now) }
+            (take self.fixed (text_node_data self)) (T.bytes text)) }
     {
         let mut head = self.head;
         let rest = read_pieces(pieces, &mut head[..usize::from(self.fixed)], text)?;
@@ -99,33 +103,11 @@ impl<'a> ParsedNode<'a> {
             head,
             fixed: self.fixed,
             data_form: self.data_form,
-            close: self.close,
+            stop: self.stop,
             text: self.text,
             len: self.len,
         };
         Some((node, rest))
-    }
-
-    /// Returns the node of a file with this name, or `None` if its data is too long.
-    pub(crate) fn with_name(name: &'a str) -> Option<Self>
-        ensures { option_map parsed_node result ≡ (if nat_le (length (name_data (chars name.now))) 0xfffb
-            then Some (node_with 4 4 (name_data (chars name.now))) else None) }
-    {
-        let mut head = [0; 64];
-        let len = push_name(&mut head, 0, name);
-        if 0xfffb < len {
-            return None;
-        }
-        Some(ParsedNode {
-            device_type: 4,
-            sub_type: 4,
-            head,
-            fixed: 0,
-            data_form: DataForm::InName,
-            close: "",
-            text: name.as_bytes(),
-            len: len as u16,
-        })
     }
 
     /// Returns the node with these fixed bytes and three strings of IDs. The second string is read at
@@ -136,19 +118,20 @@ impl<'a> ParsedNode<'a> {
         fixed_bytes: [u8; 64],
         fixed: usize,
         close: &'static str,
-        text: &'a [u8],
+        text: T,
     ) -> Option<Self>
         requires { fixed ≤ 64 }
         ensures types { IfSome result (λ x. (x.device_type ≡ device_type) × (x.sub_type ≡ sub_type)) }
         ensures data { option_map text_node_data result
             ≡ option_map (λ x. x.0) (fitting (Some (
               take fixed fixed_bytes
-                  ++ as_ids [] [] (clear_run (first_of close.now) text.now).0,
+                  ++ as_ids [] [] (clear_run (first_of close.now) (T.bytes text)).0,
               [],
             ))) }
     {
+        let stop = first_of(close.as_bytes());
         let mut head = fixed_bytes;
-        let len = push_uid(&mut head, fixed, first_of(close.as_bytes()), text);
+        let len = push_uid(&mut head, fixed, stop, text);
         if 0xfffb < len {
             return None;
         }
@@ -158,7 +141,7 @@ impl<'a> ParsedNode<'a> {
             head,
             fixed: fixed as u8,
             data_form: DataForm::InUid,
-            close,
+            stop,
             text,
             len: len as u16,
         })
@@ -198,15 +181,10 @@ impl<'a> ParsedNode<'a> {
         let len = push_all(bytes, 0, &self.head[..usize::from(self.fixed)]);
         match self.data_form {
             DataForm::InTail(tail) => {
-                let _ = push_tail(tail, self.close.as_bytes(), bytes, len, self.text);
-            }
-            DataForm::InName => {
-                if let Ok(name) = str::from_utf8(self.text) {
-                    push_name(bytes, len, name);
-                }
+                let _ = push_tail(tail, &[self.stop], bytes, len, self.text);
             }
             DataForm::InUid => {
-                push_uid(bytes, len, first_of(self.close.as_bytes()), self.text);
+                push_uid(bytes, len, self.stop, self.text);
             }
         }
     }

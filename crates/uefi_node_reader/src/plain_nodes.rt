@@ -20,6 +20,7 @@ use crate::lenient_fields::any_number;
 use crate::numerals::number;
 use crate::parsed_node::ParsedNode;
 use crate::stops::{exact_end, rest_end, stop_at};
+use crate::texts::Text;
 use uefi_node_table::printing::has_form;
 use uefi_node_table::rows::Tail;
 
@@ -33,7 +34,7 @@ fn is_file(device_type: u8, sub_type: u8, len: usize) -> bool
 
 /// Returns whether a node has no form of its own, fits into a path, and does not end an instance or
 /// the path.
-fn is_plain(node: &ParsedNode<'_>) -> bool
+fn is_plain<T: Text>(node: &ParsedNode<T>) -> bool
     ensures { result ≡ is_plain (parsed_node node.now) }
 {
     let (device_type, sub_type) = node.types();
@@ -47,16 +48,16 @@ fn is_plain(node: &ParsedNode<'_>) -> bool
 }
 
 /// Reads a byte in decimal, and returns the rest of the text too.
-fn byte_number(text: &[u8]) -> Option<(u8, &[u8])>
-    ensures { option_map (λ x. (x.0, x.1.now)) result ≡ number_read 10 256 text.now }
+fn byte_number<T: Text>(text: T) -> Option<(u8, T)>
+    ensures { option_map (λ x. (x.0, T.bytes x.1)) result ≡ number_read 10 256 (T.bytes text) }
 {
     let (value, rest) = number(10, 0xff, text)?;
     Some((value as u8, rest))
 }
 
 /// Reads a type and a sub-type, and returns the rest of the text too.
-fn types(text: &[u8]) -> Option<(u8, u8, &[u8])>
-    ensures { option_and_then (λ x. plain_rest x.0 x.1 x.2.now) result ≡ types_read text.now }
+fn types<T: Text>(text: T) -> Option<(u8, u8, T)>
+    ensures { option_and_then (λ x. plain_rest x.0 x.1 (T.bytes x.2)) result ≡ types_read (T.bytes text) }
 {
     let (device_type, rest) = byte_number(text)?;
     let rest = after(b",", rest)?;
@@ -65,12 +66,9 @@ fn types(text: &[u8]) -> Option<(u8, u8, &[u8])>
 }
 
 /// Reads a node of a type and a sub-type from its data on.
-fn plain_from<'a>(
-    device_type: u8,
-    sub_type: u8,
-    text: &'a [u8],
-) -> Option<(ParsedNode<'a>, &'a [u8])>
-    ensures { option_map (λ x. (parsed_node x.0, x.1.now)) result ≡ plain_rest device_type sub_type text.now }
+fn plain_from<T: Text>(device_type: u8, sub_type: u8, text: T) -> Option<(ParsedNode<T>, T)>
+    ensures { option_map (λ x. (parsed_node x.0, T.bytes x.1)) result
+        ≡ plain_rest device_type sub_type (T.bytes text) }
 {
     let (node, rest) = ParsedNode::with_tail(
         device_type,
@@ -89,23 +87,23 @@ fn plain_from<'a>(
 }
 
 /// Reads a node of no known kind from its type on, and returns the rest of the text too.
-fn plain_types(text: &[u8]) -> Option<(ParsedNode<'_>, &[u8])>
-    ensures { option_map (λ x. (parsed_node x.0, x.1.now)) result ≡ types_read text.now }
+fn plain_types<T: Text>(text: T) -> Option<(ParsedNode<T>, T)>
+    ensures { option_map (λ x. (parsed_node x.0, T.bytes x.1)) result ≡ types_read (T.bytes text) }
 {
     let (device_type, sub_type, rest) = types(text)?;
     plain_from(device_type, sub_type, rest)
 }
 
 /// Reads a node of no known kind, and returns the rest of the text too.
-pub(crate) fn plain(text: &[u8]) -> Option<(ParsedNode<'_>, &[u8])>
-    ensures { option_map (λ x. (parsed_node x.0, x.1.now)) result ≡ plain_read text.now }
+pub(crate) fn plain<T: Text>(text: T) -> Option<(ParsedNode<T>, T)>
+    ensures { option_map (λ x. (parsed_node x.0, T.bytes x.1)) result ≡ plain_read (T.bytes text) }
 {
     plain_types(after(b"Path(", text)?)
 }
 
 /// Reads a byte of a tidied text from its number, and returns the rest of the text too.
-fn any_byte(text: &[u8]) -> Option<(u8, &[u8])>
-    ensures { option_map (λ x. (x.0, x.1.now)) result ≡ any_number 256 text.now }
+fn any_byte<T: Text>(text: T) -> Option<(u8, T)>
+    ensures { option_map (λ x. (x.0, T.bytes x.1)) result ≡ any_number 256 (T.bytes text) }
 {
     let (value, rest) = any_number(0xff, text)?;
     Some((value as u8, rest))
@@ -113,8 +111,9 @@ fn any_byte(text: &[u8]) -> Option<(u8, &[u8])>
 
 /// Reads a node of no known kind of a type from its sub-type on, as people write it, and returns the rest of
 /// the text too.
-fn told_sub_type(device_type: u8, text: &[u8]) -> Option<(ParsedNode<'_>, &[u8])>
-    ensures { option_map (λ x. (parsed_node x.0, x.1.now)) result ≡ sub_type_told device_type text.now }
+fn told_sub_type<T: Text>(device_type: u8, text: T) -> Option<(ParsedNode<T>, T)>
+    ensures { option_map (λ x. (parsed_node x.0, T.bytes x.1)) result
+        ≡ sub_type_told device_type (T.bytes text) }
 {
     let (sub_type, rest) = any_byte(text)?;
     plain_from(device_type, sub_type, rest)
@@ -122,8 +121,9 @@ fn told_sub_type(device_type: u8, text: &[u8]) -> Option<(ParsedNode<'_>, &[u8])
 
 /// Reads a node of no known kind from its type on, as people write it, or from its sub-type on if its type
 /// is known. Returns the rest of the text too.
-pub(crate) fn told_types(device_type: Option<u8>, text: &[u8]) -> Option<(ParsedNode<'_>, &[u8])>
-    ensures { option_map (λ x. (parsed_node x.0, x.1.now)) result ≡ types_told device_type text.now }
+pub(crate) fn told_types<T: Text>(device_type: Option<u8>, text: T) -> Option<(ParsedNode<T>, T)>
+    ensures { option_map (λ x. (parsed_node x.0, T.bytes x.1)) result
+        ≡ types_told device_type (T.bytes text) }
 {
     if let Some(device_type) = device_type {
         return told_sub_type(device_type, text);
@@ -133,9 +133,9 @@ pub(crate) fn told_types(device_type: Option<u8>, text: &[u8]) -> Option<(Parsed
 }
 
 /// Reads the number of a byte, and returns the rest of the text.
-fn byte_end(text: &[u8]) -> Result<&[u8], Stop>
-    ensures { result_map_both (λ x. x.now) (λ e. e) result
-        ≡ ok_or (past (any_number 256 text.now)) (stop_at text.now (Number 255)) }
+fn byte_end<T: Text>(text: T) -> Result<T, Stop>
+    ensures { result_map_both (λ x. T.bytes x) (λ e. e) result
+        ≡ ok_or (past (any_number 256 (T.bytes text))) (stop_at (T.bytes text) (Number 255)) }
 {
     match any_number(0xff, text) {
         Some((_, rest)) => Ok(rest),
@@ -145,16 +145,16 @@ fn byte_end(text: &[u8]) -> Result<&[u8], Stop>
 
 /// Reads a node of no known kind from its sub-type on, as people write it, and returns only the rest of the
 /// text.
-fn sub_type_end(text: &[u8]) -> Result<&[u8], Stop>
-    ensures { result_map_both (λ x. x.now) (λ e. e) result ≡ sub_type_end text.now }
+fn sub_type_end<T: Text>(text: T) -> Result<T, Stop>
+    ensures { result_map_both (λ x. T.bytes x) (λ e. e) result ≡ sub_type_end (T.bytes text) }
 {
     let rest = byte_end(text)?;
     rest_end(Tail::Bytes, b")", rest)
 }
 
 /// Reads a node as [`told_types`] does, and returns only the rest of the text.
-pub(crate) fn types_end(device_type: Option<u8>, text: &[u8]) -> Result<&[u8], Stop>
-    ensures { result_map_both (λ x. x.now) (λ e. e) result ≡ types_end device_type text.now }
+pub(crate) fn types_end<T: Text>(device_type: Option<u8>, text: T) -> Result<T, Stop>
+    ensures { result_map_both (λ x. T.bytes x) (λ e. e) result ≡ types_end device_type (T.bytes text) }
 {
     if device_type.is_some() {
         return sub_type_end(text);

@@ -15,6 +15,7 @@ use crate::counted_bytes::push_all;
 use crate::fields::after;
 use crate::lenient_fields::any_number;
 use crate::parsed_node::ParsedNode;
+use crate::texts::{Text, is_empty};
 use uefi_node_table::printing::form_of;
 use uefi_node_table::rows::Tail;
 
@@ -29,21 +30,26 @@ fn ends_address(byte: u8) -> bool
 }
 
 /// Returns the number of bytes before the first byte that ends an address.
-fn address_len(text: &[u8]) -> usize
-    ensures place { result ≡ position_or_len ends_address text.now }
-    ensures within { result ≤ length text.now }
+fn address_len<T: Text>(text: T) -> usize
+    ensures place { result ≡ position_or_len ends_address (T.bytes text) }
+    ensures within { result ≤ length (T.bytes text) }
 {
+    let mut rest = text;
     for place in 0..text.len() {
-        if ends_address(text[place]) {
+        let Some((byte, after)) = rest.split_first() else {
+            return place;
+        };
+        if ends_address(byte) {
             return place;
         }
+        rest = after;
     }
     text.len()
 }
 
 /// Reads an address, and returns the rest of the text too.
-fn bare_address(text: &[u8]) -> Option<(Address, &[u8])>
-    ensures { option_map (λ x. (x.0.octets, x.1.now)) result ≡ bare_address text.now }
+fn bare_address<T: Text>(text: T) -> Option<(Address, T)>
+    ensures { option_map (λ x. (x.0.octets, T.bytes x.1)) result ≡ bare_address (T.bytes text) }
 {
     let (front, rest) = text.split_at(address_len(text));
     let address = whole_address(front)?;
@@ -51,8 +57,8 @@ fn bare_address(text: &[u8]) -> Option<(Address, &[u8])>
 }
 
 /// Reads an address from the byte after `[` on, and the `]`. Returns the rest of the text too.
-fn closed_address(text: &[u8]) -> Option<(Address, &[u8])>
-    ensures { option_map (λ x. (x.0.octets, x.1.now)) result ≡ closed_address text.now }
+fn closed_address<T: Text>(text: T) -> Option<(Address, T)>
+    ensures { option_map (λ x. (x.0.octets, T.bytes x.1)) result ≡ closed_address (T.bytes text) }
 {
     let (address, rest) = bare_address(text)?;
     let rest = after(b"]", rest)?;
@@ -60,18 +66,18 @@ fn closed_address(text: &[u8]) -> Option<(Address, &[u8])>
 }
 
 /// Reads an address, perhaps in brackets, and returns the rest of the text too.
-fn address(text: &[u8]) -> Option<(Address, &[u8])>
-    ensures { option_map (λ x. (x.0.octets, x.1.now)) result ≡ address_read text.now }
+fn address<T: Text>(text: T) -> Option<(Address, T)>
+    ensures { option_map (λ x. (x.0.octets, T.bytes x.1)) result ≡ address_read (T.bytes text) }
 {
-    match text {
-        [b'[', rest @ ..] => closed_address(rest),
+    match text.split_first() {
+        Some((b'[', rest)) => closed_address(rest),
         _ => bare_address(text),
     }
 }
 
 /// Reads a protocol, by its name or its number, and returns the rest of the text too.
-fn protocol(text: &[u8]) -> Option<(u16, &[u8])>
-    ensures { option_map (λ x. (x.0, x.1.now)) result ≡ protocol_read text.now }
+fn protocol<T: Text>(text: T) -> Option<(u16, T)>
+    ensures { option_map (λ x. (x.0, T.bytes x.1)) result ≡ protocol_read (T.bytes text) }
 {
     if let Some(rest) = after(b"TCP", text) {
         return Some((6, rest));
@@ -84,8 +90,8 @@ fn protocol(text: &[u8]) -> Option<(u16, &[u8])>
 }
 
 /// Reads the origin of an address, and returns the rest of the text too.
-fn origin(text: &[u8]) -> Option<(u8, &[u8])>
-    ensures { option_map (λ x. (x.0, x.1.now)) result ≡ origin_read text.now }
+fn origin<T: Text>(text: T) -> Option<(u8, T)>
+    ensures { option_map (λ x. (x.0, T.bytes x.1)) result ≡ origin_read (T.bytes text) }
 {
     if let Some(rest) = after(b"STATIC", text) {
         return Some((0, rest));
@@ -98,15 +104,18 @@ fn origin(text: &[u8]) -> Option<(u8, &[u8])>
 }
 
 /// Returns whether a text is only the `)` at the end of a call.
-fn closes_call(text: &[u8]) -> bool
-    ensures { result ≡ closes_call text.now }
+fn closes_call<T: Text>(text: T) -> bool
+    ensures { result ≡ closes_call (T.bytes text) }
 {
-    text.len() == 1 && text[0] == b')'
+    match text.split_first() {
+        Some((first, rest)) => first == b')' && is_empty(rest),
+        None => false,
+    }
 }
 
 /// Reads the prefix length and the gateway at the end of a call.
-fn last_fields(text: &[u8]) -> Option<(u8, Address)>
-    ensures { option_map (λ x. (x.0, x.1.octets)) result ≡ last_fields text.now }
+fn last_fields<T: Text>(text: T) -> Option<(u8, Address)>
+    ensures { option_map (λ x. (x.0, x.1.octets)) result ≡ last_fields (T.bytes text) }
 {
     let (prefix_length, rest) = any_number(0xff, text)?;
     let (gateway, rest) = address(after(b",", rest)?)?;
@@ -118,16 +127,16 @@ fn last_fields(text: &[u8]) -> Option<(u8, Address)>
 
 /// Reads the prefix length and the gateway at the end of a call, after a comma. A node without them has
 /// other data, and is read only with whole addresses.
-fn gateway(text: &[u8]) -> Option<(u8, Address)>
-    ensures { option_map (λ x. (x.0, x.1.octets)) result ≡ gateway_read text.now }
+fn gateway<T: Text>(text: T) -> Option<(u8, Address)>
+    ensures { option_map (λ x. (x.0, x.1.octets)) result ≡ gateway_read (T.bytes text) }
 {
     last_fields(after(b",", text)?)
 }
 
 /// Reads the local address, the prefix length and the gateway at the end of a call, or zeros if all are
 /// omitted.
-fn local(text: &[u8]) -> Option<(Address, u8, Address)>
-    ensures { option_map (λ x. (x.0.octets, x.1, x.2.octets)) result ≡ local_read text.now }
+fn local<T: Text>(text: T) -> Option<(Address, u8, Address)>
+    ensures { option_map (λ x. (x.0.octets, x.1, x.2.octets)) result ≡ local_read (T.bytes text) }
 {
     if closes_call(text) {
         return Some((NO_ADDRESS, 0, NO_ADDRESS));
@@ -157,8 +166,8 @@ fn connection(remote: Address, protocol: u16, origin: u8, local: (Address, u8, A
 }
 
 /// Reads the end of a call after the remote address. Returns the data of the connection, and eight zeros.
-fn settings(remote: Address, text: &[u8]) -> Option<[u8; 64]>
-    ensures { option_map (λ x. take 56 x) result ≡ settings_read remote.octets text.now }
+fn settings<T: Text>(remote: Address, text: T) -> Option<[u8; 64]>
+    ensures { option_map (λ x. take 56 x) result ≡ settings_read remote.octets (T.bytes text) }
 {
     if closes_call(text) {
         return Some(connection(remote, 0, 2, (NO_ADDRESS, 0, NO_ADDRESS)));
@@ -170,8 +179,8 @@ fn settings(remote: Address, text: &[u8]) -> Option<[u8; 64]>
 }
 
 /// Reads a whole call. Returns the data of the connection, and eight zeros.
-fn call_data(text: &[u8]) -> Option<[u8; 64]>
-    ensures { option_map (λ x. take 56 x) result ≡ call_data text.now }
+fn call_data<T: Text>(text: T) -> Option<[u8; 64]>
+    ensures { option_map (λ x. take 56 x) result ≡ call_data (T.bytes text) }
 {
     let (remote, rest) = address(after(b"IPV6(", text)?)?;
     settings(remote, rest)
@@ -185,8 +194,8 @@ fn is_fixed(tail: Tail) -> bool
 }
 
 /// Returns the node, if it is completely described by the text that it is printed as.
-fn told_fixed<'a>(node: ParsedNode<'a>) -> Option<ParsedNode<'a>>
-    ensures { option_map parsed_node result ≡ told_fixed (parsed_node node.entry) }
+fn told_fixed<T: Text>(node: ParsedNode<T>) -> Option<ParsedNode<T>>
+    ensures { option_map parsed_node result ≡ told_fixed (parsed_node node) }
 {
     let (kind, sub_kind) = node.types();
     let row = form_of(false, kind, sub_kind, node.head())?;
@@ -198,8 +207,8 @@ fn told_fixed<'a>(node: ParsedNode<'a>) -> Option<ParsedNode<'a>>
 
 /// Reads an IPv6 node from a tidied call whose addresses have any form of RFC 4291, section 2.2.
 #[tactic(auto, unfolding(crate::specs::ShortAddresses::short_ipv6))]
-pub(crate) fn short_ipv6(text: &[u8]) -> Option<ParsedNode<'_>>
-    ensures { option_map parsed_node result ≡ short_ipv6 text.now }
+pub(crate) fn short_ipv6<T: Text>(text: T) -> Option<ParsedNode<T>>
+    ensures { option_map parsed_node result ≡ short_ipv6 (T.bytes text) }
 {
     let fixed = call_data(text)?;
     let (node, _) = ParsedNode::with_tail(3, 13, fixed, 56, Tail::Nothing, "", text)?;

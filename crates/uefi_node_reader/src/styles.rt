@@ -1,16 +1,17 @@
 //! One node, read from its text in a style.
 #![tactic(auto)]
 
-ghost use Rattle.std.specs.Prelude.{◌≡◌, ◌<◌, length};
+ghost use Rattle.std.specs.Prelude.{◌≡◌};
 ghost use Rattle.std.specs.Result.{result_map_both};
 ghost use Rattle.uefi_node_reader.specs.Libefivar.{libefivar_read};
-ghost use Rattle.uefi_node_reader.specs.Styles.{HasScratch, PrintedExactly, StyledAgain, StyledEnds, StyledFaultWithin, StyledStarts, StyledTakes, is_copied, styled_read};
-ghost use Rattle.uefi_node_reader.specs.ParsedNodeViews.{parsed_node};
+ghost use Rattle.uefi_node_reader.specs.Styles.{PrintedExactly, StyledAgain, StyledEnds, StyledFaultWithin, StyledStarts, StyledTakes, styled_read};
+ghost use Rattle.uefi_node_reader.specs.ReadNodes.{node_from_text};
 
 use crate::faults::{Expected, NodeFault};
 use crate::libefivar::{own, own_fault};
+use crate::named_files::NameText;
 use crate::nodes::{ended, ended_at, read_lenient_node, read_node};
-use crate::parsed_node::ParsedNode;
+use crate::read_node::ReadNode;
 
 /// The style of the texts to read.
 #[derive(Clone, Copy, Debug, PartialEq, Eq)]
@@ -23,66 +24,43 @@ pub enum TextStyle {
     Libefivar,
 }
 
-/// Returns whether calls and names of a style are copied before they are read.
-pub fn is_copied(style: TextStyle) -> bool
-    ensures { result ≡ is_copied style }
-{
-    match style {
-        TextStyle::Printed => false,
-        TextStyle::Lenient => true,
-        TextStyle::Libefivar => true,
-    }
-}
-
 /// Reads the node at the start of a text as libefivar prints it. Returns the rest of the text too, or the
-/// fault of the text. Afterwards the contents of the buffer are unspecified.
+/// fault of the text.
 #[tactic(auto, unfolding(crate::specs::Libefivar::libefivar_read))]
-fn read_libefivar_node<'s, 't: 's>(
-    is_rooted: bool,
-    scratch: &'s mut [u8],
-    text: &'t [u8],
-) -> Result<(ParsedNode<'s>, &'t [u8]), NodeFault>
-    requires { length text.now < length scratch.old }
-    ensures { result_map_both (λ x. (parsed_node x.0, x.1.now)) (λ e. e) result
-        ≡ libefivar_read is_rooted text.now }
+fn read_libefivar_node<T: NameText>(is_rooted: bool, text: T) -> Result<(ReadNode<T>, T), NodeFault>
+    ensures { result_map_both (λ x. (node_from_text x.0, T.bytes x.1)) (λ e. e) result
+        ≡ libefivar_read is_rooted (T.bytes text) }
 {
-    if own(scratch, text).is_some() {
-        // Read again, because the node borrows the buffer, and the lines below need the buffer.
-        let Some(read) = own(scratch, text) else {
-            unreachable!()
-        };
-        return ended_at(text, read);
+    if let Some((node, rest)) = own(text) {
+        return ended_at(text, (ReadNode::Tidied(node), rest));
     }
-    if let Some(fault) = own_fault(scratch, text) {
+    if let Some(fault) = own_fault(text) {
         return Err(fault);
     }
-    read_lenient_node(is_rooted, scratch, text)
+    read_lenient_node(is_rooted, text)
 }
 
 /// Reads the node at the start of a text in a style, and returns the rest of the text too. The rest is
 /// empty, or begins with a slash or a comma. If `is_rooted`, the name of a file has to begin with a
-/// backslash. The buffer is for a copy of the call or the name; afterwards its contents are unspecified.
-/// Does not allocate.
+/// backslash. Does not allocate.
 ///
 /// An error gives the offset of the wrong byte, and what is expected there.
 #[tactic(auto, unfolding(crate::specs::Styles::styled_read))]
-pub fn read_styled_node<'s, 't: 's>(
+pub fn read_styled_node<T: NameText>(
     style: TextStyle,
     is_rooted: bool,
-    scratch: &'s mut [u8],
-    text: &'t [u8],
-) -> Result<(ParsedNode<'s>, &'t [u8]), NodeFault>
-    requires { HasScratch style text.now scratch.old }
-    ensures { result_map_both (λ x. (parsed_node x.0, x.1.now)) (λ e. e) result
-        ≡ styled_read style is_rooted text.now }
+    text: T,
+) -> Result<(ReadNode<T>, T), NodeFault>
+    ensures { result_map_both (λ x. (node_from_text x.0, T.bytes x.1)) (λ e. e) result
+        ≡ styled_read style is_rooted (T.bytes text) }
 {
     match style {
         TextStyle::Printed => ended(read_node(text)).ok_or(NodeFault {
             byte: 0,
             expected: Expected::AsPrinted,
         }),
-        TextStyle::Lenient => read_lenient_node(is_rooted, scratch, text),
-        TextStyle::Libefivar => read_libefivar_node(is_rooted, scratch, text),
+        TextStyle::Lenient => read_lenient_node(is_rooted, text),
+        TextStyle::Libefivar => read_libefivar_node(is_rooted, text),
     }
 }
 

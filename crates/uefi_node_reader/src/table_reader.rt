@@ -17,6 +17,7 @@ use crate::fields::after;
 use crate::form_places::{FormTest, form_place};
 use crate::node_tails::read_pieces;
 use crate::parsed_node::ParsedNode;
+use crate::texts::Text;
 use uefi_node_table::packed::FIRST_LETTERS;
 use uefi_node_table::printing::{begin_with_kind, matches};
 use uefi_node_table::rows::{Mode, Row};
@@ -45,17 +46,13 @@ pub(crate) fn fixed_part(row: &Row) -> [u8; 64]
 
 /// Reads the rest of a node of a form whose first fields were read, from the data after the fixed part on.
 /// Returns the rest of the text too.
-pub(crate) fn finish_row<'a>(
-    row: &Row,
-    fixed: [u8; 64],
-    text: &'a [u8],
-) -> Option<(ParsedNode<'a>, &'a [u8])>
+pub(crate) fn finish_row<T: Text>(row: &Row, fixed: [u8; 64], text: T) -> Option<(ParsedNode<T>, T)>
     requires small { row.now.least ≤ 64 }
     requires within { IsTrue (list_all (is_within row.now.least) (as_form row.now).rest) }
     ensures types { IfSome result (λ x.
         (x.0.device_type ≡ row.now.kind) × (x.0.sub_type ≡ row.now.sub_kind)) }
-    ensures data { option_map (λ x. (text_node_data x.0, x.1.now)) result
-        ≡ fitting (rest_read (as_form row.now) (take row.now.least fixed, text.now)) }
+    ensures data { option_map (λ x. (text_node_data x.0, T.bytes x.1)) result
+        ≡ fitting (rest_read (as_form row.now) (take row.now.least fixed, (T.bytes text))) }
 {
     let (node, rest) = ParsedNode::with_tail(
         row.kind,
@@ -71,13 +68,13 @@ pub(crate) fn finish_row<'a>(
 }
 
 /// Reads a node of a form, and returns the rest of the text too.
-pub(crate) fn read_row<'a>(row: &Row, text: &'a [u8]) -> Option<(ParsedNode<'a>, &'a [u8])>
+pub(crate) fn read_row<T: Text>(row: &Row, text: T) -> Option<(ParsedNode<T>, T)>
     requires sound { IsTrue (is_sound (as_form row.now)) }
     requires filled { IsTrue (is_filled (as_form row.now)) }
     ensures types { IfSome result (λ x.
         (x.0.device_type ≡ row.now.kind) × (x.0.sub_type ≡ row.now.sub_kind)) }
-    ensures data { option_map (λ x. (text_node_data x.0, x.1.now)) result
-        ≡ fitting (form_read (as_form row.now) text.now) }
+    ensures data { option_map (λ x. (text_node_data x.0, T.bytes x.1)) result
+        ≡ fitting (form_read (as_form row.now) (T.bytes text)) }
 {
     let Mode::Read = row.mode else {
         return None;
@@ -116,21 +113,33 @@ impl FormTest for PrintedNode<'_> {
 /// Returns whether a text may begin with the start of a form, by the first three bytes of both. Most forms
 /// fail this test.
 #[inline(always)]
-fn begin_alike(start: &[u8], text: &[u8]) -> bool
-    ensures { result ≡ false → after start.now text.now ≡ None }
+fn begin_alike<T: Text>(start: &[u8], text: T) -> bool
+    ensures { result ≡ false → after start.now (T.bytes text) ≡ None }
 {
-    match (start, text) {
-        ([a, b, c, ..], [x, y, z, ..]) => a == x && b == y && c == z,
-        _ => true,
+    let mut left = start;
+    let mut rest = text;
+    'bytes: for _ in 0..3 {
+        let [byte, others @ ..] = left else {
+            return true;
+        };
+        let Some((first, after)) = rest.split_first() else {
+            return true;
+        };
+        if first != *byte {
+            return false;
+        }
+        left = others;
+        rest = after;
     }
+    true
 }
 
 /// Reads a node of the form at an index of the table, if it is printed in that form.
-fn read_kept<'a>(row: &Row, place: usize, text: &'a [u8]) -> Option<(ParsedNode<'a>, &'a [u8])>
+fn read_kept<T: Text>(row: &Row, place: usize, text: T) -> Option<(ParsedNode<T>, T)>
     requires sound { IsTrue (is_sound (as_form row.now)) }
     requires filled { IsTrue (is_filled (as_form row.now)) }
-    ensures { option_map (λ x. (parsed_node x.0, x.1.now)) result
-        ≡ kept forms place (as_form row.now) (form_read (as_form row.now) text.now) }
+    ensures { option_map (λ x. (parsed_node x.0, T.bytes x.1)) result
+        ≡ kept forms place (as_form row.now) (form_read (as_form row.now) (T.bytes text)) }
 {
     let (node, rest) = read_row(row, text)?;
     let printed = PrintedNode {
@@ -146,12 +155,12 @@ fn read_kept<'a>(row: &Row, place: usize, text: &'a [u8]) -> Option<(ParsedNode<
 
 /// Reads the node at the start of a text in one of these forms, which have the indices from `before` on in
 /// the table.
-fn read_group<'a>(rows: &[Row], before: usize, text: &'a [u8]) -> Option<(ParsedNode<'a>, &'a [u8])>
+fn read_group<T: Text>(rows: &[Row], before: usize, text: T) -> Option<(ParsedNode<T>, T)>
     requires sound { IsTrue (list_all is_sound (map as_form rows.now)) }
     requires filled { IsTrue (list_all is_filled (map as_form rows.now)) }
     requires few { before + length rows.now < 2 ^ 64 }
-    ensures { option_map (λ x. (parsed_node x.0, x.1.now)) result
-        ≡ forms_read forms before (map as_form rows.now) text.now }
+    ensures { option_map (λ x. (parsed_node x.0, T.bytes x.1)) result
+        ≡ forms_read forms before (map as_form rows.now) (T.bytes text) }
 {
     for (place, row) in rows.iter().enumerate() {
         if begin_alike(row.start.as_bytes(), text) {
@@ -164,12 +173,12 @@ fn read_group<'a>(rows: &[Row], before: usize, text: &'a [u8]) -> Option<(Parsed
 }
 
 /// Returns whether a text begins with one of these letters.
-fn begins_in(letters: u64, text: &[u8]) -> bool
-    ensures { result ≡ begins_in letters text.now }
+fn begins_in<T: Text>(letters: u64, text: T) -> bool
+    ensures { result ≡ begins_in letters (T.bytes text) }
 {
-    match text {
-        [first, ..] => (letters >> (*first % 64)) % 2 == 1,
-        [] => false,
+    match text.split_first() {
+        Some((first, _)) => (letters >> (first % 64)) % 2 == 1,
+        None => false,
     }
 }
 
@@ -184,18 +193,18 @@ fn first_letters(index: usize) -> u64
 
 /// Reads the node at the start of a text in one of these forms, as [`read_group`] does. Their texts begin
 /// with these letters.
-fn read_letters<'a>(
+fn read_letters<T: Text>(
     letters: u64,
     rows: &[Row],
     before: usize,
-    text: &'a [u8],
-) -> Option<(ParsedNode<'a>, &'a [u8])>
+    text: T,
+) -> Option<(ParsedNode<T>, T)>
     requires letters { IsTrue (all_begin_in letters (map as_form rows.now)) }
     requires sound { IsTrue (list_all is_sound (map as_form rows.now)) }
     requires filled { IsTrue (list_all is_filled (map as_form rows.now)) }
     requires few { before + length rows.now < 2 ^ 64 }
-    ensures { option_map (λ x. (parsed_node x.0, x.1.now)) result
-        ≡ forms_read forms before (map as_form rows.now) text.now }
+    ensures { option_map (λ x. (parsed_node x.0, T.bytes x.1)) result
+        ≡ forms_read forms before (map as_form rows.now) (T.bytes text) }
 {
     if !begins_in(letters, text) {
         return None;
@@ -204,8 +213,8 @@ fn read_letters<'a>(
 }
 
 /// Reads the node at the start of a text in a form of the table, and returns the rest of the text too.
-pub(crate) fn by_table(text: &[u8]) -> Option<(ParsedNode<'_>, &[u8])>
-    ensures { option_map (λ x. (parsed_node x.0, x.1.now)) result ≡ table_read forms text.now }
+pub(crate) fn by_table<T: Text>(text: T) -> Option<(ParsedNode<T>, T)>
+    ensures { option_map (λ x. (parsed_node x.0, T.bytes x.1)) result ≡ table_read forms (T.bytes text) }
 {
     let mut before = 0;
     for index in 0..GROUPS {

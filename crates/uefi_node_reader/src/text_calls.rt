@@ -2,24 +2,30 @@
 //! form.
 #![tactic(auto)]
 
-ghost use Rattle.std.specs.Option.{option_map};
-ghost use Rattle.std.specs.Prelude.{◌≡◌, ◌-◌, ◌≤◌, ◌&&◌, ℕ, List, IsTrue, Some, drop, length, take};
+ghost use Rattle.std.specs.Option.{ok_or, option_and_then, option_map};
+ghost use Rattle.std.specs.Prelude.{◌≡◌, ◌≤◌, IfSome, IsTrue, length, take};
 ghost use Rattle.std.specs.Result.{result_map_both};
 ghost use Rattle.uefi_node_table.specs.Rows.{as_form};
 ghost use Rattle.uefi_node_reader.specs.LenientCalls.{begins_call_name, tidied};
-ghost use Rattle.uefi_node_reader.specs.ParsedNodeViews.{parsed_node};
-ghost use Rattle.uefi_node_reader.specs.TableReading.{blank, is_filled, is_read, is_sound, tail_read};
-ghost use Rattle.uefi_node_reader.specs.TextCalls.{call_left, head_set, holds_ids, holds_text, left_of, or_commas, past_second, stop_before, text_call_told, text_stop, text_told, text_tried, texts_tried, uid_call_told, uid_told, uid_tried};
+ghost use Rattle.uefi_node_reader.specs.ParsedNodeViews.{parsed_node, text_node_data};
+ghost use Rattle.uefi_node_reader.specs.ParsedNodes.{fitting};
+ghost use Rattle.uefi_node_reader.specs.Stops.{past};
+ghost use Rattle.uefi_node_reader.specs.ReadNodes.{node_from_text};
+ghost use Rattle.uefi_node_reader.specs.TableReading.{added, blank, is_filled, is_read, is_sound, tail_read};
+ghost use Rattle.uefi_node_reader.specs.TextCalls.{are_left_out, call_left, head_set, holds_ids, holds_text, left_of, or_commas, past_second, stop_before, text_call_told, text_stop, text_told, text_tried, texts_tried, uid_call_told, uid_told, uid_tried};
 
 use crate::attempts::{Attempt, try_pasted, try_table};
-use crate::clear_texts::{cut_clear, first_of};
+use crate::clear_texts::{first_of, past_clear};
 use crate::faults::{Expected, Stop};
 use crate::lenient_fields::{after_ending, after_literal, set_pieces};
 use crate::lenient_table::{begins_call_name, is_textless, told};
+use crate::named_files::NameText;
 use crate::parsed_node::ParsedNode;
+use crate::read_node::ReadNode;
 use crate::stops::{stop_at, tail_rest};
 use crate::table_reader::fixed_part;
-use crate::tidied::{place_at, tidied_len};
+use crate::texts::{Text, is_empty};
+use crate::tidied::{Tidied, place_at, tidy};
 use uefi_node_table::rows::{Mode, Row, Tail};
 
 /// Returns whether a form is read and contains a text.
@@ -40,88 +46,114 @@ fn holds_ids(mode: Mode, tail: Tail) -> bool
 }
 
 /// Returns the rest of a call from this rest of the tidied call.
-fn left_of<'a>(front: &'a [u8], call: &[u8], left: &[u8]) -> &'a [u8]
-    ensures { result.now ≡ left_of front.now call.now left.now }
+fn left_of<T: NameText>(front: T, call: Tidied<T>, left: Tidied<T>) -> T
+    ensures { T.bytes result ≡ left_of (T.bytes front) (⟦<Tidied<T> as Text>⟧.bytes call)
+        (⟦<Tidied<T> as Text>⟧.bytes left) }
 {
-    &front[place_at(call.len().saturating_sub(left.len()), front)..]
+    front
+        .split_at(place_at(call.len().saturating_sub(left.len()), front))
+        .1
 }
 
-/// Returns a text, or the commas between empty strings if the IDs of a device are omitted.
-fn or_commas(tail: Tail, text: &[u8]) -> &[u8]
-    ensures { result.now ≡ or_commas tail text.now }
+/// Returns whether the IDs of a device are omitted.
+fn are_left_out<T: Text>(tail: Tail, text: T) -> bool
+    ensures { result ≡ are_left_out tail (T.bytes text) }
 {
-    match (tail, text) {
-        (Tail::Ids, []) => b",,",
-        _ => text,
-    }
+    matches!(tail, Tail::Ids) && is_empty(text)
 }
 
 /// Returns the stop of a tidied call before this rest of the call.
-fn stop_before(left: &[u8], expected: Expected) -> Stop
-    ensures { result ≡ stop_before left.now expected }
+fn stop_before<T: NameText>(left: T, expected: Expected) -> Stop
+    ensures { result ≡ stop_before (T.bytes left) expected }
 {
-    Stop {
-        left: tidied_len(left),
-        expected,
-    }
+    stop_at(tidy(left), expected)
 }
 
 /// Returns the rest of a text from the end of the second ID string on, given the text after the first.
-fn past_second(text: &[u8]) -> &[u8]
-    ensures { result.now ≡ past_second text.now }
+fn past_second<T: Text>(text: T) -> T
+    ensures { T.bytes result ≡ past_second (T.bytes text) }
 {
-    match text {
-        [b',', rest @ ..] => cut_clear(b',', rest).1,
+    match text.split_first() {
+        Some((b',', rest)) => past_clear(b',', rest),
         _ => text,
     }
 }
 
 /// Returns where a text stops that is not read, because an ID of a device is omitted or a name is too long.
-fn text_stop(tail: Tail, text: &[u8]) -> Stop
-    ensures { result ≡ text_stop tail text.now }
+fn text_stop<T: NameText>(tail: Tail, text: T) -> Stop
+    ensures { result ≡ text_stop tail (T.bytes text) }
 {
     match tail {
-        Tail::Ids => stop_before(past_second(cut_clear(b',', text).1), Expected::Byte(b',')),
-        Tail::Padded => stop_before(&text[text.len().min(32)..], Expected::Byte(b')')),
+        Tail::Ids => stop_before(past_second(past_clear(b',', text)), Expected::Byte(b',')),
+        Tail::Padded => {
+            let (_, rest) = text.split_at(text.len().min(32));
+            stop_before(rest, Expected::Byte(b')'))
+        }
         _ => stop_before(text, Expected::AsPrinted),
     }
 }
 
 /// Returns the end of a tidied call from this rest of the call.
-fn call_left<'a>(call: &'a [u8], left: &[u8]) -> &'a [u8]
-    ensures { result.now ≡ call_left call.now left.now }
+fn call_left<T: NameText>(call: Tidied<T>, left: T) -> Tidied<T>
+    ensures { ⟦<Tidied<T> as Text>⟧.bytes result
+        ≡ call_left (⟦<Tidied<T> as Text>⟧.bytes call) (T.bytes left) }
 {
-    &call[call.len().saturating_sub(tidied_len(left))..]
+    call.split_at(call.len().saturating_sub(tidy(left).len())).1
+}
+
+/// Returns the rest of a text after the data that a tail reads, or where the text stops.
+fn words_end<T: NameText>(tail: Tail, close: &[u8], words: T) -> Result<T, Stop>
+    ensures { let text = or_commas tail (T.bytes words) in result_map_both (λ x. T.bytes x) (λ e. e) result
+        ≡ ok_or (past (tail_read tail close.now text)) (text_stop tail text) }
+{
+    if are_left_out(tail, words) {
+        return Ok(words);
+    }
+    match tail_rest(tail, close, words) {
+        Some(rest) => Ok(rest),
+        None => Err(text_stop(tail, words)),
+    }
+}
+
+/// Returns the node of a form with this fixed part and the text in its call.
+fn with_words<T: NameText>(row: &Row, fixed: [u8; 64], words: T) -> Option<ParsedNode<T>>
+    requires { row.now.least ≤ 64 }
+    ensures types { IfSome result (λ x.
+        (x.device_type ≡ row.now.kind) × (x.sub_type ≡ row.now.sub_kind)) }
+    ensures data { option_map text_node_data result ≡ option_map (λ x. x.0) (fitting (option_and_then
+        (added (take row.now.least fixed))
+        (tail_read row.now.tail (as_form row.now).close (or_commas row.now.tail (T.bytes words))))) }
+{
+    let (kind, sub_kind, least) = (row.kind, row.sub_kind, row.least as usize);
+    let close = row.close.as_str();
+    if are_left_out(row.tail, words) {
+        return ParsedNode::with_uid(kind, sub_kind, fixed, least, close, words);
+    }
+    let (node, _) = ParsedNode::with_tail(kind, sub_kind, fixed, least, row.tail, close, words)?;
+    Some(node)
 }
 
 /// Reads a node of a form with this fixed part, from the text in its call on and from the tidied call.
-fn text_told<'a>(
+fn text_told<T: NameText>(
     row: &Row,
     fixed: [u8; 64],
-    words: &'a [u8],
-    call: &'a [u8],
-) -> Result<ParsedNode<'a>, Stop>
+    words: T,
+    call: Tidied<T>,
+) -> Result<ParsedNode<T>, Stop>
     requires sound { IsTrue (is_sound (as_form row.now)) }
     requires filled { IsTrue (is_filled (as_form row.now)) }
     requires read { IsTrue (is_read row.now.mode) }
     ensures { result_map_both parsed_node (λ e. e) result
-        ≡ text_told (as_form row.now) (take row.now.least fixed) words.now call.now }
+        ≡ text_told (as_form row.now) (take row.now.least fixed)
+        (or_commas row.now.tail (T.bytes words)) (⟦<Tidied<T> as Text>⟧.bytes call) }
 {
     let close = row.close.as_bytes();
-    let end = tail_rest(row.tail, close, words).ok_or(text_stop(row.tail, words))?;
+    let end = words_end(row.tail, close, words)?;
     let rest = after_ending(close, call_left(call, end))?;
     let mut whole = fixed;
     let content = &mut whole[..row.least as usize];
     let rest = set_pieces(row.kind, row.sub_kind, row.rest.as_slice(), content, rest)?;
-    let Some((node, _)) = ParsedNode::with_tail(
-        row.kind,
-        row.sub_kind,
-        whole,
-        row.least as usize,
-        row.tail,
-        row.close.as_str(),
-        words,
-    ) else {
+    let Some(node) = with_words(row, whole, words) else {
         return Err(stop_at(rest, Expected::Untold));
     };
     match told(row, Some((node, rest))) {
@@ -131,15 +163,15 @@ fn text_told<'a>(
 }
 
 /// Reads a node of a form with this fixed part, if the call contains only the ID string of `_UID`.
-fn uid_told<'a>(row: &Row, fixed: [u8; 64], words: &'a [u8]) -> Result<ParsedNode<'a>, Stop>
+fn uid_told<T: NameText>(row: &Row, fixed: [u8; 64], words: T) -> Result<ParsedNode<T>, Stop>
     requires sound { IsTrue (is_sound (as_form row.now)) }
     requires filled { IsTrue (is_filled (as_form row.now)) }
     ensures { result_map_both parsed_node (λ e. e) result
-        ≡ uid_told (as_form row.now) (take row.now.least fixed) words.now }
+        ≡ uid_told (as_form row.now) (take row.now.least fixed) (T.bytes words) }
 {
     let stop = first_of(row.close.as_bytes());
-    let (_, rest) = cut_clear(stop, words);
-    if !rest.is_empty() {
+    let rest = past_clear(stop, words);
+    if !is_empty(rest) {
         return Err(stop_before(rest, Expected::Byte(stop)));
     }
     let Some(node) = ParsedNode::with_uid(
@@ -150,52 +182,47 @@ fn uid_told<'a>(row: &Row, fixed: [u8; 64], words: &'a [u8]) -> Result<ParsedNod
         row.close.as_str(),
         words,
     ) else {
-        return Err(stop_before(&[], Expected::Untold));
+        return Err(stop_before(rest, Expected::Untold));
     };
     match told(row, Some((node, rest))) {
         Some(node) => Ok(node),
-        None => Err(stop_before(&[], Expected::Untold)),
+        None => Err(stop_before(rest, Expected::Untold)),
     }
 }
 
 /// Puts the fields before a text into the fixed part of a form. Returns the rest of the tidied call.
-fn set_head<'a>(row: &Row, content: &mut [u8], call: &'a [u8]) -> Result<&'a [u8], Stop>
+fn set_head<T: Text>(row: &Row, content: &mut [u8], call: T) -> Result<T, Stop>
     requires sound { IsTrue (is_sound (as_form row.now)) }
     requires read { IsTrue (is_read row.now.mode) }
     requires blank { content.old ≡ blank (as_form row.now) }
     requires few { length content.old ≤ 64 }
-    ensures { result_map_both (λ rest. (content.new, rest.now)) (λ e. e) result
-        ≡ head_set (as_form row.now) call.now }
+    ensures { result_map_both (λ rest. (content.new, T.bytes rest)) (λ e. e) result
+        ≡ head_set (as_form row.now) (T.bytes call) }
 {
     let rest = after_literal(row.start.as_bytes(), call)?;
     set_pieces(row.kind, row.sub_kind, row.pieces.as_slice(), content, rest)
 }
 
 /// Reads a node of a form that contains a text, from the part of a call before its `)` and the tidied call.
-fn text_call<'a>(row: &Row, front: &'a [u8], call: &'a [u8]) -> Result<ParsedNode<'a>, Stop>
+fn text_call<T: NameText>(row: &Row, front: T, call: Tidied<T>) -> Result<ParsedNode<T>, Stop>
     requires sound { IsTrue (is_sound (as_form row.now)) }
     requires filled { IsTrue (is_filled (as_form row.now)) }
     requires read { IsTrue (is_read row.now.mode) }
     ensures { result_map_both parsed_node (λ e. e) result
-        ≡ text_call_told (as_form row.now) front.now call.now }
+        ≡ text_call_told (as_form row.now) (T.bytes front) (⟦<Tidied<T> as Text>⟧.bytes call) }
 {
     let mut fixed = fixed_part(row);
     let rest = set_head(row, &mut fixed[..row.least as usize], call)?;
-    text_told(
-        row,
-        fixed,
-        or_commas(row.tail, left_of(front, call, rest)),
-        call,
-    )
+    text_told(row, fixed, left_of(front, call, rest), call)
 }
 
 /// Reads a node of a form whose call contains only the ID string of `_UID`.
-fn uid_call<'a>(row: &Row, front: &'a [u8], call: &'a [u8]) -> Result<ParsedNode<'a>, Stop>
+fn uid_call<T: NameText>(row: &Row, front: T, call: Tidied<T>) -> Result<ParsedNode<T>, Stop>
     requires sound { IsTrue (is_sound (as_form row.now)) }
     requires filled { IsTrue (is_filled (as_form row.now)) }
     requires read { IsTrue (is_read row.now.mode) }
     ensures { result_map_both parsed_node (λ e. e) result
-        ≡ uid_call_told (as_form row.now) front.now call.now }
+        ≡ uid_call_told (as_form row.now) (T.bytes front) (⟦<Tidied<T> as Text>⟧.bytes call) }
 {
     let mut fixed = fixed_part(row);
     let rest = set_head(row, &mut fixed[..row.least as usize], call)?;
@@ -208,16 +235,16 @@ struct TextCall;
 impl Attempt for TextCall {
     ghost tried = { text_tried };
 
-    fn attempt<'a>(
-        front: &'a [u8],
-        call: &'a [u8],
+    fn attempt<T: NameText>(
+        front: T,
+        call: Tidied<T>,
         row: &Row,
-    ) -> Result<ParsedNode<'a>, Option<Stop>> {
+    ) -> Result<ReadNode<T>, Option<Stop>> {
         if !(holds_text(row.mode, row.tail) && begins_call_name(row.start.as_bytes(), call)) {
             return Err(None);
         }
         match text_call(row, front, call) {
-            Ok(node) => Ok(node),
+            Ok(node) => Ok(ReadNode::Exact(node)),
             Err(stop) => Err(Some(stop)),
         }
     }
@@ -229,16 +256,16 @@ struct UidCall;
 impl Attempt for UidCall {
     ghost tried = { uid_tried };
 
-    fn attempt<'a>(
-        front: &'a [u8],
-        call: &'a [u8],
+    fn attempt<T: NameText>(
+        front: T,
+        call: Tidied<T>,
         row: &Row,
-    ) -> Result<ParsedNode<'a>, Option<Stop>> {
+    ) -> Result<ReadNode<T>, Option<Stop>> {
         if !(holds_ids(row.mode, row.tail) && begins_call_name(row.start.as_bytes(), call)) {
             return Err(None);
         }
         match uid_call(row, front, call) {
-            Ok(node) => Ok(node),
+            Ok(node) => Ok(ReadNode::Exact(node)),
             Err(stop) => Err(Some(stop)),
         }
     }
@@ -246,11 +273,12 @@ impl Attempt for UidCall {
 
 /// Reads a call in a form that contains a text, from the part before its `)` and the tidied call. Fails with
 /// where the call stops, or with `None` if no such form has its name.
-pub(crate) fn try_texts<'a>(front: &'a [u8], call: &'a [u8]) -> Result<ParsedNode<'a>, Option<Stop>>
-    ensures { result_map_both parsed_node (λ e. e) result ≡ texts_tried front.now call.now }
+pub(crate) fn try_texts<T: NameText>(front: T, call: Tidied<T>) -> Result<ReadNode<T>, Option<Stop>>
+    ensures { result_map_both node_from_text (λ e. e) result
+        ≡ texts_tried (T.bytes front) (⟦<Tidied<T> as Text>⟧.bytes call) }
 {
-    match try_table::<TextCall>(front, call) {
+    match try_table::<T, TextCall>(front, call) {
         Ok(node) => Ok(node),
-        Err(stop) => try_pasted::<UidCall>(stop, front, call),
+        Err(stop) => try_pasted::<T, UidCall>(stop, front, call),
     }
 }

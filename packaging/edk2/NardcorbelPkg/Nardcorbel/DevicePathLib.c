@@ -545,7 +545,7 @@ ConvertDeviceNodeToText (
 }
 
 /**
-  A text in UTF-8, which the library reads, after as many bytes of scratch; NULL if it holds a lone surrogate or memory runs out.
+  A text in UTF-8, which the library reads; NULL if it holds a lone surrogate or memory runs out.
 **/
 STATIC
 UINT8 *
@@ -558,8 +558,8 @@ Utf8Of (
   UINT8  *Bytes;
 
   Count = StrSize (Text) / sizeof (CHAR16);
-  Bytes = AllocatePool (6 * Count);
-  return Bytes == NULL ? NULL : (UINT8 *)Built (nard_utf8_from_string (Text, Count, Bytes + 3 * Count, 3 * Count, Length), Bytes);
+  Bytes = AllocatePool (3 * Count);
+  return Bytes == NULL ? NULL : (UINT8 *)Built (nard_utf8_from_string (Text, Count, Bytes, 3 * Count, Length), Bytes);
 }
 
 EFI_DEVICE_PATH_PROTOCOL *
@@ -568,7 +568,6 @@ ConvertTextToDevicePath (
   IN CONST CHAR16  *TextDevicePath
   )
 {
-  UINT8        *Scratch;
   UINT8        *Text;
   UINT8        *Buffer;
   UINTN        Length;
@@ -580,12 +579,11 @@ ConvertTextToDevicePath (
     return NULL;
   }
 
-  Scratch = Utf8Of (TextDevicePath, &Length);
-  if (Scratch == NULL) {
+  Text = Utf8Of (TextDevicePath, &Length);
+  if (Text == NULL) {
     return NULL;
   }
 
-  Text   = Scratch + 3 * (StrSize (TextDevicePath) / sizeof (CHAR16));
   Size   = HEADER;
   Buffer = NULL;
   do {
@@ -598,11 +596,11 @@ ConvertTextToDevicePath (
     Buffer = Room > MAX_INT32 ? NULL : AllocatePool (Room);
     if (Buffer != NULL) {
       SetDevicePathEndNode (Buffer);
-      Reason = nard_device_path_push_lenient_text (Buffer, Room, Text, Length, Scratch, Length + 1, &Size);
+      Reason = nard_device_path_push_lenient_text (Buffer, Room, Text, Length, &Size);
     }
   } while ((Reason == NARD_BUFFER_TOO_SMALL) && (Room < Size));
 
-  FreePool (Scratch);
+  FreePool (Text);
   return Built (Reason, Buffer);
 }
 

@@ -237,21 +237,20 @@ impl<'a> DevicePathBuilder<'a> {
     /// first backslash. A comma ends an instance. Quotation marks around the whole text and one `/` before the first node are
     /// ignored.
     ///
-    /// `scratch` is for copies; its contents are then unspecified. Fails with [`Reason::ScratchTooSmall`] if it is not longer than
-    /// the text, and with [`Reason::NoNode`] at the wrong byte of the first node that can't be read.
+    /// Fails with [`Reason::NoNode`] at the wrong byte of the first node that can't be read.
     ///
     /// ```
     /// use nardcorbel::proto::device_path::build::DevicePathBuilder;
     ///
-    /// let (mut bytes, mut scratch) = (Vec::new(), [0; 32]);
+    /// let mut bytes = Vec::new();
     /// let builder = DevicePathBuilder::with_vec(&mut bytes);
-    /// let path = builder.push_lenient_text("pci(31, 2)/File(a)", &mut scratch)?.finalize()?;
+    /// let path = builder.push_lenient_text("pci(31, 2)/File(a)")?.finalize()?;
     /// assert_eq!(path.to_string(), r"Pci(0x1F,0x2)/\a");
     /// # Ok::<(), nardcorbel::Error>(())
     /// ```
-    pub fn push_lenient_text(self, text: &str, scratch: &mut [u8]) -> Result<Self, Error> {
+    pub fn push_lenient_text(self, text: &str) -> Result<Self, Error> {
         self.add(&mut |room, length| {
-            sys::nard_device_path_push_lenient_text(room, text.as_bytes(), scratch, length)
+            sys::nard_device_path_push_lenient_text(room, text.as_bytes(), length)
         })
     }
 
@@ -262,16 +261,16 @@ impl<'a> DevicePathBuilder<'a> {
     /// ```
     /// use nardcorbel::proto::device_path::build::DevicePathBuilder;
     ///
-    /// let (mut bytes, mut scratch) = (Vec::new(), [0; 40]);
+    /// let mut bytes = Vec::new();
     /// let builder = DevicePathBuilder::with_vec(&mut bytes);
     /// let text = "NVMe(0x1,00-25-38-5B-71-B0-03-1C)";
-    /// let path = builder.push_libefivar_text(text, &mut scratch)?.finalize()?;
+    /// let path = builder.push_libefivar_text(text)?.finalize()?;
     /// assert_eq!(path.to_string(), "NVMe(0x1,1C-03-B0-71-5B-38-25-00)");
     /// # Ok::<(), nardcorbel::Error>(())
     /// ```
-    pub fn push_libefivar_text(self, text: &str, scratch: &mut [u8]) -> Result<Self, Error> {
+    pub fn push_libefivar_text(self, text: &str) -> Result<Self, Error> {
         self.add(&mut |room, length| {
-            sys::nard_device_path_push_libefivar_text(room, text.as_bytes(), scratch, length)
+            sys::nard_device_path_push_libefivar_text(room, text.as_bytes(), length)
         })
     }
 
@@ -282,22 +281,22 @@ impl<'a> DevicePathBuilder<'a> {
     /// use nardcorbel::proto::device_path::build::DevicePathBuilder;
     ///
     /// let text = r"PciRoot(0x0)/File(\a.efi)RC";
-    /// let end = DevicePathBuilder::lenient_text_extent(text, &mut [0; 32])?;
+    /// let end = DevicePathBuilder::lenient_text_extent(text)?;
     /// assert_eq!(&text[end..], "RC");
     /// # Ok::<(), nardcorbel::Error>(())
     /// ```
-    pub fn lenient_text_extent(text: &str, scratch: &mut [u8]) -> Result<usize, Error> {
+    pub fn lenient_text_extent(text: &str) -> Result<usize, Error> {
         let mut length = 0;
-        let reason = sys::nard_lenient_text_extent(text.as_bytes(), scratch, &mut length);
+        let reason = sys::nard_lenient_text_extent(text.as_bytes(), &mut length);
         crate::error::check(reason, length)?;
         Ok(length)
     }
 
     /// Returns the number of bytes at the start of a text that are a path, as [`push_libefivar_text`](Self::push_libefivar_text)
     /// reads it.
-    pub fn libefivar_text_extent(text: &str, scratch: &mut [u8]) -> Result<usize, Error> {
+    pub fn libefivar_text_extent(text: &str) -> Result<usize, Error> {
         let mut length = 0;
-        let reason = sys::nard_libefivar_text_extent(text.as_bytes(), scratch, &mut length);
+        let reason = sys::nard_libefivar_text_extent(text.as_bytes(), &mut length);
         crate::error::check(reason, length)?;
         Ok(length)
     }
@@ -309,18 +308,14 @@ impl<'a> DevicePathBuilder<'a> {
     /// use nardcorbel::proto::device_path::build::DevicePathBuilder;
     ///
     /// let mut units = [0; 64];
-    /// let words = DevicePathBuilder::lenient_text_fault("Pci(x)", &mut [0; 7], &mut units)?;
+    /// let words = DevicePathBuilder::lenient_text_fault("Pci(x)", &mut units)?;
     /// let words = String::from_utf16_lossy(words);
     /// assert_eq!(words, "no node at offset 0: expected a number up to 0xFF at offset 4");
     /// # Ok::<(), nardcorbel::Error>(())
     /// ```
-    pub fn lenient_text_fault<'b>(
-        text: &str,
-        scratch: &mut [u8],
-        buffer: &'b mut [u16],
-    ) -> Result<&'b [u16], Error> {
+    pub fn lenient_text_fault<'b>(text: &str, buffer: &'b mut [u16]) -> Result<&'b [u16], Error> {
         let mut length = 0;
-        let reason = sys::nard_lenient_text_fault(text.as_bytes(), scratch, buffer, &mut length);
+        let reason = sys::nard_lenient_text_fault(text.as_bytes(), buffer, &mut length);
         crate::error::check(reason, length)?;
         Ok(&buffer[..length])
     }

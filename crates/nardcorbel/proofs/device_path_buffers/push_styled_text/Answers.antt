@@ -1,4 +1,4 @@
--- What is refused is the path in the buffer, then the second buffer, then the text, and then the room.
+-- What is refused is the path in the buffer, then the text, and then the room.
 use Rattle.std.proofs.Common.{arith, subst}
 use Rattle.std.proofs.lemmas.Grind.{common_steps}
 use Rattle.uefi_device_path.specs.Views.{nodes_of}
@@ -15,8 +15,8 @@ returns-in-Ok-push_styled_text_in_buf c =
     let said = c.in-Ok-push_styled_text_in_buf.ensures in
     let begins = c.in_default.ensures.begins in
     rw (c.in_default.ensures.ok, c.in-Ok.ensures.ok)
-    (added c.args.style c.args.buffer.now c.push_styled_text_in_buf.new.buffer text c.args.scratch.now nodes _ c.args.place.now c.report.result c.report.new.place
-    (grind (arith, common_steps)) (said.no_scratch nodes begins) (λ has. said.no_node nodes begins has) (λ others has. said.refusal nodes others begins has)
+    (added c.args.style c.args.buffer.now c.push_styled_text_in_buf.new.buffer text nodes _ c.args.place.now c.report.result c.report.new.place
+    (grind (arith, common_steps)) (said.no_node nodes begins) (λ others. said.refusal nodes others begins)
     (λ others. said.len nodes others begins) (λ others. said.buffer nodes others begins) said.err c.report.ensures.shows)
 
 pub returns-in-Err-push_styled_text_in_buf : goal.returns-in-Err-push_styled_text_in_buf
@@ -28,6 +28,6 @@ returns-in-Err-push_styled_text_in_buf c =
     let shown = subst (λ (r : Refusal). ShowsNumber (Refused r) c.args.place.now c.refuse-in-Err-push_styled_text_in_buf.result c.refuse-in-Err-push_styled_text_in_buf.new.place)
     c.text_refused.ensures c.refuse-in-Err-push_styled_text_in_buf.ensures in
     rw (c.in_default.ensures.ok, c.in-Ok.ensures.ok)
-    (added c.args.style c.args.buffer.now c.push_styled_text_in_buf.new.buffer text c.args.scratch.now nodes _ c.args.place.now _ _
-    (grind (arith, common_steps)) (said.no_scratch nodes begins) (λ has. said.no_node nodes begins has) (λ others has. said.refusal nodes others begins has)
+    (added c.args.style c.args.buffer.now c.push_styled_text_in_buf.new.buffer text nodes _ c.args.place.now _ _
+    (grind (arith, common_steps)) (said.no_node nodes begins) (λ others. said.refusal nodes others begins)
     (λ others. said.len nodes others begins) (λ others. said.buffer nodes others begins) said.err shown)

@@ -1,4 +1,4 @@
--- The text alone can be at fault: the path is the empty one, and the second buffer is long enough.
+-- The text alone can be at fault: the path is the empty one.
 use Rattle.std.proofs.Common.{◌≡◌, ◌∙◌, ap, Bool, true, false, cond, List, ℕ, [], ◌∷◌, refl, Result, Ok, Err}
 use Rattle.std.specs.Prelude.{Some, None, nat_lt}
 use Rattle.std.specs.Result.{result_err}
@@ -36,8 +36,8 @@ none (Err fault) stops = absurd (stops fault refl)
 
 pub returns-in-Err : goal.returns-in-Err
 returns-in-Err c = c.fault_in.ensures
-    ∙ found (path_read c.args.style c.args.text.now) c.in-Err.error (λ f stop. let said = c.in-Err.ensures.no_node [] begins (λ _. c.requires.room) f stop in cc)
-    (λ others reads. c.in-Err.ensures.refusal [] others begins (λ _. c.requires.room) reads)
+    ∙ found (path_read c.args.style c.args.text.now) c.in-Err.error (λ f stop. let said = c.in-Err.ensures.no_node [] begins f stop in cc)
+    (λ others reads. c.in-Err.ensures.refusal [] others begins reads)
 
 pub returns-in-Ok : goal.returns-in-Ok
-returns-in-Ok c = none (path_read c.args.style c.args.text.now) (λ f stop. cc (c.in-Ok.ensures.no_node [] begins (λ _. c.requires.room) f stop))
+returns-in-Ok c = none (path_read c.args.style c.args.text.now) (λ f stop. cc (c.in-Ok.ensures.no_node [] begins f stop))

@@ -7,7 +7,7 @@ use Rattle.std.proofs.lemmas.Grind.{common_steps}
 use Rattle.std.proofs.lemmas.Result.{IfErr-at_err}
 use Rattle.uefi_device_nodes.specs.RawNodes.{raw_node}
 use Rattle.uefi_device_nodes.specs.Nodes.{Node}
-use Rattle.uefi_node_reader.specs.ParsedNodeViews.{parsed_node}
+use Rattle.uefi_node_reader.specs.ReadNodes.{node_from_text}
 use Rattle.uefi_node_reader.specs.declared.faults.NodeFault.{NodeFault}
 use Rattle.uefi_node_reader.specs.declared.styles.TextStyle.{TextStyle}
 use Rattle.uefi_device_path.specs.Building.{build_refusal}
@@ -32,7 +32,7 @@ pub nodes-init : goal.nodes-init
 nodes-init c =
     let buffer = c.args.buffer.now in
     subst (λ (x : List ℕ). Puts c.args.style c.args.text.now buffer c.args.len buffer c.args.len true x) (sym c.around_nodes.ensures.first)
-    (puts_none c.args.style c.args.text.now buffer c.args.len (omega arith) c.requires.is_path)
+    (puts_none c.args.style c.args.text.now buffer c.args.len (omega arith) c.requires)
 
 pub put_if_room-end-requires-clause-unrefused : goal.put_if_room-end-requires-clause-unrefused
 put_if_room-end-requires-clause-unrefused c = ap build_refusal c.instance_end-node.ensures
@@ -56,12 +56,6 @@ nodes-smaller-in-Some c =
     (going_comma c.args.style c.args.text.now c.nodes.invariant.nodes c.nodes.at_start c.nodes.rest.now c.in-Some.after.now
     c.nodes.invariant.on c.in-Some.ensures).1
 
-pub first_styled_node-requires : goal.first_styled_node-requires
-first_styled_node-requires c =
-    let within = place_inside c.args.style c.args.text.now c.nodes.invariant.nodes c.nodes.at_start c.nodes.rest.now
-    c.node_start-place.result.now c.nodes.invariant.on c.in-None.ensures c.node_start-place.ensures in
-    λ copied. omega (arith, within, closing_within c.args.style c.args.text.now, c.requires.scratch copied, c.nodes.auto.scratch)
-
 pub fault_at-requires-clause-rest : goal.fault_at-requires-clause-rest
 fault_at-requires-clause-rest c =
     let within = place_inside c.args.style c.args.text.now c.nodes.invariant.nodes c.nodes.at_start c.nodes.rest.now
@@ -84,7 +78,7 @@ returns-in-Err-clause-len c =
 
 pub put_if_room-end-requires-in-None-clause-unrefused : goal.put_if_room-end-requires-in-None-clause-unrefused
 put_if_room-end-requires-in-None-clause-unrefused c =
-    let node : Node = parsed_node c.in-Ok.read.0.node in
+    let node : Node = node_from_text c.in-Ok.read.0 in
     let place = c.node_start-place.result.now in
     accepted c.nodes_are_read.ensures.fits node
     (c.styled_nodes_are_read.ensures.takes c.args.style (follows_comma c.around_nodes.result.0.now place) place node c.in-Ok.read.1.now (sym c.in-Ok.ensures))
@@ -96,7 +90,7 @@ pub nodes-preserved : goal.nodes-preserved
 nodes-preserved c =
     let on = c.nodes.invariant in
     let put = c.put_if_room-end-in-None.ensures in
-    let node : Node = parsed_node c.in-Ok.read.0.node in
+    let node : Node = node_from_text c.in-Ok.read.0 in
     let after = c.in-Ok.read.1.now in
     let over = (going_node c.args.style c.args.text.now on.nodes c.nodes.at_start c.nodes.rest.now c.node_start-place.result.now
     on.on c.in-None.ensures c.node_start-place.ensures c.styled_nodes_are_read.ensures.ends node after
@@ -109,7 +103,7 @@ pub nodes-smaller : goal.nodes-smaller
 nodes-smaller c =
     (going_node c.args.style c.args.text.now c.nodes.invariant.nodes c.nodes.at_start c.nodes.rest.now c.node_start-place.result.now
     c.nodes.invariant.on c.in-None.ensures c.node_start-place.ensures c.styled_nodes_are_read.ensures.ends
-    (parsed_node c.in-Ok.read.0.node) c.in-Ok.read.1.now
+    (node_from_text c.in-Ok.read.0) c.in-Ok.read.1.now
     (read_there _ _ _ _ _ c.around_nodes.ensures.whole (sym c.in-Ok.ensures))).1
 
 pub returns-clause-len : goal.returns-clause-len

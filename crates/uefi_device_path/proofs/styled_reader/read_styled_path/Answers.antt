@@ -8,8 +8,8 @@ use Rattle.uefi_device_path.proofs.Building.{path_empty}
 use Rattle.uefi_device_path.proofs.StyledPushes.{path_held}
 use Rattle.uefi_device_path.proofs.styled_reader.read_styled_path.Goals as goal
 
-pub put_text-requires-2-clause-is_path : goal.put_text-requires-2-clause-is_path
-put_text-requires-2-clause-is_path g c = λ fits.
+pub put_text-requires-2 : goal.put_text-requires-2
+put_text-requires-2 g c = λ fits.
     (path_empty (take 4 c.as_mut_slice.result.now) (ap (take 4) c.as_mut_slice.ensures.value ∙ c.in-Ok-empty_path.ensures.begins)).0
 
 pub of_bytes-requires : goal.of_bytes-requires

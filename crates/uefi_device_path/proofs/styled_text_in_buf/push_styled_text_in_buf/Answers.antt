@@ -9,17 +9,11 @@ use Rattle.uefi_device_path.proofs.styled_text_in_buf.push_styled_text_in_buf.Go
 pub returns-in-Err-clause-no_path : goal.returns-in-Err-clause-no_path
 returns-in-Err-clause-no_path c = λ error refused. let same = c.in-Err.ensures.refusal error refused in cc
 
-pub returns-in-Err-clause-no_scratch : goal.returns-in-Err-clause-no_scratch
-returns-in-Err-clause-no_scratch c = λ nodes begins copied short. absurd (cc (c.in-Err.ensures.accepts nodes begins).1)
-
 pub returns-in-Err-clause-no_node : goal.returns-in-Err-clause-no_node
-returns-in-Err-clause-no_node c = λ nodes begins long fault stop. absurd (cc (c.in-Err.ensures.accepts nodes begins).1)
+returns-in-Err-clause-no_node c = λ nodes begins fault stop. absurd (cc (c.in-Err.ensures.accepts nodes begins).1)
 
 pub returns-in-Err-clause-refusal : goal.returns-in-Err-clause-refusal
-returns-in-Err-clause-refusal c = λ nodes read begins long is. absurd (cc (c.in-Err.ensures.accepts nodes begins).1)
-
-pub returns-then-scratch-bytes-clause-no_path : goal.returns-then-scratch-bytes-clause-no_path
-returns-then-scratch-bytes-clause-no_path c = λ error refused. absurd (cc (c.in-Ok.ensures.refusal error refused))
+returns-in-Err-clause-refusal c = λ nodes read begins is. absurd (cc (c.in-Err.ensures.accepts nodes begins).1)
 
 pub returns-in-Err-put_text-clause-no_path : goal.returns-in-Err-put_text-clause-no_path
 returns-in-Err-put_text-clause-no_path c = λ error refused. absurd (cc (c.in-Ok.ensures.refusal error refused))
@@ -28,7 +22,7 @@ pub returns-then-buffer-needed-clause-no_path : goal.returns-then-buffer-needed-
 returns-then-buffer-needed-clause-no_path c = λ error refused. absurd (cc (c.in-Ok.ensures.refusal error refused))
 
 pub returns-then-buffer-needed-clause-refusal : goal.returns-then-buffer-needed-clause-refusal
-returns-then-buffer-needed-clause-refusal c = λ nodes read begins long is.
+returns-then-buffer-needed-clause-refusal c = λ nodes read begins is.
     let size = len_of_path c.args.buffer.now nodes c.in-Ok.len c.in-Ok.ensures.is_path (sym (c.in-Ok.ensures.accepts nodes begins).0) c.in-Ok.ensures.within in
     without_room nodes read (length c.args.buffer.now) c.in-Ok-put_text.needed
     (needed_by c.args.style c.as_bytes-bytes.result.now nodes read c.in-Ok.len c.in-Ok-put_text.needed size c.in-Ok-put_text.ensures.len
@@ -43,7 +37,7 @@ pub returns-in-Ok-put_text-2-clause-no_path : goal.returns-in-Ok-put_text-2-clau
 returns-in-Ok-put_text-2-clause-no_path c = λ error refused. absurd (cc (c.in-Ok.ensures.refusal error refused))
 
 pub returns-in-Ok-put_text-2-clause-refusal : goal.returns-in-Ok-put_text-2-clause-refusal
-returns-in-Ok-put_text-2-clause-refusal c = λ nodes read begins long is.
+returns-in-Ok-put_text-2-clause-refusal c = λ nodes read begins is.
     let size = len_of_path c.args.buffer.now nodes c.in-Ok.len c.in-Ok.ensures.is_path (sym (c.in-Ok.ensures.accepts nodes begins).0) c.in-Ok.ensures.within in
     with_room nodes read (length c.args.buffer.now) c.in-Ok-put_text.needed
     (needed_by c.args.style c.as_bytes-bytes.result.now nodes read c.in-Ok.len c.in-Ok-put_text.needed size c.in-Ok-put_text.ensures.len

@@ -17,7 +17,7 @@ returns-in-Ok-clause-no_node c = λ nodes begins place stop. absurd (never_stops
 
 pub returns-in-Ok-clause-refusal : goal.returns-in-Ok-clause-refusal
 returns-in-Ok-clause-refusal c = λ nodes told begins are is. all_fit nodes told _
-    (c.in-Ok.ensures.refusal nodes told begins (λ copied. cc) (c.styled_texts.ensures.printed Printed refl c.args.text.now told are is))
+    (c.in-Ok.ensures.refusal nodes told begins (c.styled_texts.ensures.printed Printed refl c.args.text.now told are is))
 
 pub returns-in-Ok-clause-len : goal.returns-in-Ok-clause-len
 returns-in-Ok-clause-len c = λ nodes told begins are is.
@@ -46,7 +46,7 @@ returns-in-Err-clause-no_node c = λ nodes begins place stop. ap (λ (e : PushTe
 pub returns-in-Err-clause-refusal : goal.returns-in-Err-clause-refusal
 returns-in-Err-clause-refusal c = λ nodes told begins are is.
     not_all_fit nodes told _ c.in-Err.error c.text_error.result c.text_error.ensures
-    (c.in-Err.ensures.refusal nodes told begins (λ copied. cc) (c.styled_texts.ensures.printed Printed refl c.args.text.now told are is))
+    (c.in-Err.ensures.refusal nodes told begins (c.styled_texts.ensures.printed Printed refl c.args.text.now told are is))
 
 pub returns-in-Err-clause-cause : goal.returns-in-Err-clause-cause
 returns-in-Err-clause-cause c =

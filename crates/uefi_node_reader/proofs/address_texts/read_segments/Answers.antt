@@ -1,5 +1,5 @@
 -- Segments are read one after the other, as `std::net` reads them.
-use Rattle.std.proofs.Common.{◌≡◌, ℕ, suc, ◌+◌, ◌-◌, ◌<◌, ◌==◌, nat_lt, Bool, true, false, List, [], ◌∷◌, ◌++◌, length, take, Option, Some, None, ◌∙◌, arith, append-nil, append_assoc, ne_eqb, refl, set, get_or, ap, sym, length-set}
+use Rattle.std.proofs.Common.{◌≡◌, ℕ, suc, ◌+◌, ◌-◌, ◌<◌, ◌==◌, nat_lt, Bool, true, false, List, [], ◌∷◌, ◌++◌, length, take, Option, Some, None, ◌∙◌, arith, append-nil, append_assoc, ne_eqb, refl, set, get_or, ap, sym, length-set, rules}
 use Rattle.std.specs.Option.{option_map}
 use Rattle.std.proofs.lemmas.List.{take_more_set}
 use Rattle.std.proofs.lemmas.Bool.Decides.{nat_tests}
@@ -55,7 +55,7 @@ module _ (n i : ℕ) (text s front : List ℕ) (within : i < n) (so_far : read_s
           so_far ∙ rw (room, ← led, fits, ← no_ipv4, ← e, later, append_assoc)
 
 pub returns-in_default-clause-value : goal.returns-in_default-clause-value
-returns-in_default-clause-value c = no_separator _ _ _ _ _ c.loop-i-test.true c.loop-i.invariant c.in_default.ensures
+returns-in_default-clause-value g c = no_separator _ _ _ _ _ c.loop-i-test.true c.loop-i.invariant c.in_default.ensures
 
 -- two writes put a list of two after the front
 two_more : (xs pair : List ℕ) (i : ℕ) → i + 1 < length xs → length pair ≡ 2 → take (i + 2) (set (set xs i (get_or pair 0 0)) (i + 1) (get_or pair 1 0)) ≡ take i xs ++ pair
@@ -68,28 +68,35 @@ two_more xs (a ∷ b ∷ []) i within two =
     rw (twice, take_more_set (set xs i a) (i + 1) b second, take_more_set xs i a (omega arith), append_assoc)
 
 pub returns-in-Some-read_ipv4_if-clause-value : goal.returns-in-Some-read_ipv4_if-clause-value
-returns-in-Some-read_ipv4_if-clause-value c =
+returns-in-Some-read_ipv4_if-clause-value g c =
     let high = c.in-Some-read_ipv4_if.high in
     let low = c.in-Some-read_ipv4_if.low in
     let read = ipv4 _ _ _ _ _ c.loop-i-test.true c.loop-i.invariant _ c.in-Some.ensures _ refl (high ∷ low ∷ []) _ c.in-Some-read_ipv4_if.ensures in
     let within : c.loop-i.i + 1 < length c.loop-i.segments =
-    omega (arith, ltb-true (c.loop-i.i + 1) (length c.args.segments.now) (fits_of _ c.in-Some.group.now _ c.in-Some-read_ipv4_if.ensures)) in
+    omega (arith, ltb-true (c.loop-i.i + 1) (length c.args.segments.now) (fits_of _ (g.T.Text.bytes c.in-Some.group) _ c.in-Some-read_ipv4_if.ensures)) in
     let put = two_more c.loop-i.segments (high ∷ low ∷ []) c.loop-i.i within (omega arith) in
-    read ∙ ap (λ (xs : List ℕ). (xs, true, c.in-Some-read_ipv4_if.after.now)) (sym put)
+    let whole : read_segments (length c.args.segments.now) true (g.T.Text.bytes c.args.text)
+    ≡ (take (c.loop-i.i + 2) (set (set c.loop-i.segments c.loop-i.i high) (c.loop-i.i + 1) low), true, g.T.Text.bytes c.in-Some-read_ipv4_if.after) =
+    read ∙ ap (λ (xs : List ℕ). (xs, true, g.T.Text.bytes c.in-Some-read_ipv4_if.after)) (sym put) in
+    search rules
 
 pub returns-in_default-read_segment-clause-value : goal.returns-in_default-read_segment-clause-value
-returns-in_default-read_segment-clause-value c =
+returns-in_default-read_segment-clause-value g c =
     no_segment _ _ _ _ _ c.loop-i-test.true c.loop-i.invariant _ c.in-Some.ensures (none_of _ c.in_default-read_ipv4_if.ensures) c.in_default-read_segment.ensures
 
 pub loop-i-preserved : goal.loop-i-preserved
-loop-i-preserved c =
+loop-i-preserved g c =
     let within : c.loop-i.i < length c.loop-i.segments = omega arith in
     let read = segment _ _ _ _ _ c.loop-i-test.true c.loop-i.invariant _ c.in-Some.ensures (none_of _ c.in_default-read_ipv4_if.ensures) _ _ c.in-Some-read_segment.ensures in
-    rw (take_more_set c.loop-i.segments c.loop-i.i c.in-Some-read_segment.segment within) read
+    let whole : read_segments (length c.args.segments.now) true (g.T.Text.bytes c.args.text)
+    ≡ after (take (c.loop-i.i + 1) (set c.loop-i.segments c.loop-i.i c.in-Some-read_segment.segment))
+    (read_segments (length c.args.segments.now - (c.loop-i.i + 1)) (c.loop-i.i + 1 == 0) (g.T.Text.bytes c.in-Some-read_segment.after)) =
+    rw (take_more_set c.loop-i.segments c.loop-i.i c.in-Some-read_segment.segment within) read in
+    search rules
 
 pub returns-clause-value : goal.returns-clause-value
 unfolding read_segments
-returns-clause-value c =
+returns-clause-value g c =
     let none : length c.args.segments.now - c.loop-i.i ≡ 0 = omega arith in
     let all : length c.args.segments.now ≡ c.loop-i.i = omega arith in
     c.loop-i.invariant ∙ rw (none, append-nil, ← all)

@@ -3,9 +3,9 @@ use Rattle.std.specs.List.{list_all}
 use Rattle.std.specs.Prelude.{None, Ok, Err}
 use Rattle.uefi_node_table.specs.Rows.{Form, as_form}
 use Rattle.uefi_node_table.specs.Table.{forms}
-use Rattle.uefi_node_reader.specs.LenientCalls.{first_tried}
+use Rattle.uefi_node_reader.specs.LenientCalls.{first_tried, tidied_rest}
 use Rattle.uefi_node_reader.specs.TableReading.{is_filled, is_sound}
-use Rattle.uefi_node_reader.specs.ParsedNodeViews.{parsed_node}
+use Rattle.uefi_node_reader.specs.ReadNodes.{node_from_text}
 use Rattle.uefi_node_reader.proofs.Groups.{group_filled, group_sound}
 use Rattle.uefi_node_reader.proofs.LenientReads.{tried_step}
 use Rattle.uefi_node_reader.proofs.attempts.try_table.Goals as goal
@@ -22,14 +22,14 @@ try_group-requires-clause-filled g c =
 
 pub returns-in-Ok : goal.returns-in-Ok
 returns-in-Ok g c =
-    tried_step (g.A.Attempt.tried c.args.front.now c.args.call.now) c.loop-index.index c.loop-index-test.true
+    tried_step (g.A.Attempt.tried (g.T.Text.bytes c.args.front) (tidied_rest c.args.call.is_open (g.T.Text.bytes c.args.call.text))) c.loop-index.index c.loop-index-test.true
     (map as_form c.group.result.now) c.group.ensures.forms c.loop-index.furthest
-    (first_tried (g.A.Attempt.tried c.args.front.now c.args.call.now) forms None) c.loop-index.invariant
-    (Ok (parsed_node c.in-Ok.node)) c.in-Ok.ensures
+    (first_tried (g.A.Attempt.tried (g.T.Text.bytes c.args.front) (tidied_rest c.args.call.is_open (g.T.Text.bytes c.args.call.text))) forms None) c.loop-index.invariant
+    (Ok (node_from_text c.in-Ok.node)) c.in-Ok.ensures
 
 pub loop-index-preserved : goal.loop-index-preserved
 loop-index-preserved g c =
-    tried_step (g.A.Attempt.tried c.args.front.now c.args.call.now) c.loop-index.index c.loop-index-test.true
+    tried_step (g.A.Attempt.tried (g.T.Text.bytes c.args.front) (tidied_rest c.args.call.is_open (g.T.Text.bytes c.args.call.text))) c.loop-index.index c.loop-index-test.true
     (map as_form c.group.result.now) c.group.ensures.forms c.loop-index.furthest
-    (first_tried (g.A.Attempt.tried c.args.front.now c.args.call.now) forms None) c.loop-index.invariant
+    (first_tried (g.A.Attempt.tried (g.T.Text.bytes c.args.front) (tidied_rest c.args.call.is_open (g.T.Text.bytes c.args.call.text))) forms None) c.loop-index.invariant
     (Err c.in-Err.stop) c.in-Err.ensures

@@ -4,9 +4,9 @@ use Rattle.uefi_node_reader.specs.FieldReading.{clear_run}
 use Rattle.uefi_node_reader.proofs.clear_texts.push_clear.Given as goal
 
 abbrev pub invariant-bytes : goal.invariant-bytes
-invariant-bytes l =
-    (pushed_bytes (l.places, l.count) (clear_run l.stop l.rest).0 ≡ pushed_bytes (l.initial.places, l.len) (clear_run l.stop l.text).0)
-    × ((clear_run l.stop l.rest).1 ≡ (clear_run l.stop l.text).1)
+invariant-bytes g l =
+    (pushed_bytes (l.places, l.count) (clear_run l.stop (g.T.Text.bytes l.rest)).0 ≡ pushed_bytes (l.initial.places, l.fn.len) (clear_run l.stop (g.T.Text.bytes l.fn.text)).0)
+    × ((clear_run l.stop (g.T.Text.bytes l.rest)).1 ≡ (clear_run l.stop (g.T.Text.bytes l.fn.text)).1)
 
 abbrev pub decreases-bytes : goal.decreases-bytes
-decreases-bytes l = length l.rest
+decreases-bytes g l = length (g.T.Text.bytes l.rest)

@@ -5,10 +5,10 @@ use Rattle.uefi_node_reader.specs.FieldReading.{clear_run}
 use Rattle.uefi_node_reader.proofs.clear_texts.push_clear_units.Given as goal
 
 abbrev pub invariant-units : goal.invariant-units
-invariant-units l =
-    (pushed_bytes (l.places, l.count) (unit_bytes (clear_run l.stop l.rest).0)
-    ≡ pushed_bytes (l.initial.places, l.len) (unit_bytes (clear_run l.stop l.text).0))
-    × ((clear_run l.stop l.rest).1 ≡ (clear_run l.stop l.text).1)
+invariant-units g l =
+    (pushed_bytes (l.places, l.count) (unit_bytes (clear_run l.stop (g.T.Text.bytes l.rest)).0)
+    ≡ pushed_bytes (l.initial.places, l.fn.len) (unit_bytes (clear_run l.stop (g.T.Text.bytes l.fn.text)).0))
+    × ((clear_run l.stop (g.T.Text.bytes l.rest)).1 ≡ (clear_run l.stop (g.T.Text.bytes l.fn.text)).1)
 
 abbrev pub decreases-units : goal.decreases-units
-decreases-units l = length l.rest
+decreases-units g l = length (g.T.Text.bytes l.rest)

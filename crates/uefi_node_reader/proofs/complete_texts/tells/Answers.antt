@@ -9,14 +9,14 @@ use Rattle.uefi_node_reader.proofs.ToldNodes.{ShownIn, by_parts, shown_in, shown
 use Rattle.uefi_node_reader.proofs.complete_texts.tells.Goals as goal
 
 pub returns-in_default : goal.returns-in_default
-returns-in_default c =
+returns-in_default g c =
     let node : Node = parsed_node c.args.node.now in
     tells_none (as_form c.args.read.now) node (shown_not node (by_parts node c.types-kind.result.0 c.types-kind.result.1
     c.head-head.result.now None c.types-kind.ensures.device_type c.types-kind.ensures.sub_type c.head-head.ensures
     (rw c.in_default.is at c.form_of.ensures)))
 
 pub returns-in_default-mode : goal.returns-in_default-mode
-returns-in_default-mode c =
+returns-in_default-mode g c =
     let node : Node = parsed_node c.args.node.now in
     let form : Form = as_form c.in-Some.row.now in
     let shown : ShownIn node form = shown_in node form (by_parts node c.types-kind.result.0 c.types-kind.result.1
@@ -25,7 +25,7 @@ returns-in_default-mode c =
     tells_other (as_form c.args.read.now) node form shown.chosen c.in_default-mode.not-Read
 
 pub slice_bounds-tells_fixed-end : goal.slice_bounds-tells_fixed-end
-slice_bounds-tells_fixed-end c =
+slice_bounds-tells_fixed-end g c =
     let node : Node = parsed_node c.args.node.now in
     let form : Form = as_form c.in-Some.row.now in
     let shown : ShownIn node form = shown_in node form (by_parts node c.types-kind.result.0 c.types-kind.result.1
@@ -34,7 +34,7 @@ slice_bounds-tells_fixed-end c =
     sym (length-take-le form.least c.head-head.result.now (omega (arith, shown.within, ap length c.head-head.ensures)))
 
 pub tells_fixed-requires-clause-sound : goal.tells_fixed-requires-clause-sound
-tells_fixed-requires-clause-sound c =
+tells_fixed-requires-clause-sound g c =
     let node : Node = parsed_node c.args.node.now in
     let form : Form = as_form c.in-Some.row.now in
     (shown_in node form (by_parts node c.types-kind.result.0 c.types-kind.result.1
@@ -42,7 +42,7 @@ tells_fixed-requires-clause-sound c =
     (rw c.in-Some.is at c.form_of.ensures))).sounds
 
 pub tells_fixed-requires-clause-filled : goal.tells_fixed-requires-clause-filled
-tells_fixed-requires-clause-filled c =
+tells_fixed-requires-clause-filled g c =
     let node : Node = parsed_node c.args.node.now in
     let form : Form = as_form c.in-Some.row.now in
     (shown_in node form (by_parts node c.types-kind.result.0 c.types-kind.result.1
@@ -50,7 +50,7 @@ tells_fixed-requires-clause-filled c =
     (rw c.in-Some.is at c.form_of.ensures))).fills
 
 pub tells_fixed-requires-clause-size : goal.tells_fixed-requires-clause-size
-tells_fixed-requires-clause-size c =
+tells_fixed-requires-clause-size g c =
     let node : Node = parsed_node c.args.node.now in
     let form : Form = as_form c.in-Some.row.now in
     let shown : ShownIn node form = shown_in node form (by_parts node c.types-kind.result.0 c.types-kind.result.1
@@ -59,7 +59,7 @@ tells_fixed-requires-clause-size c =
     length-take-le form.least c.head-head.result.now (omega (arith, shown.within, ap length c.head-head.ensures))
 
 pub returns-then-tells_fixed : goal.returns-then-tells_fixed
-returns-then-tells_fixed c =
+returns-then-tells_fixed g c =
     let node : Node = parsed_node c.args.node.now in
     let read : Form = as_form c.args.read.now in
     let form : Form = as_form c.in-Some.row.now in
@@ -72,7 +72,7 @@ returns-then-tells_fixed c =
     (c.tells_tail.ensures ∙ ap (tells_tail read form.least form.tail form.close) c.data_len-len.ensures.count)
 
 pub returns-else-tells_fixed : goal.returns-else-tells_fixed
-returns-else-tells_fixed c =
+returns-else-tells_fixed g c =
     let node : Node = parsed_node c.args.node.now in
     let read : Form = as_form c.args.read.now in
     let form : Form = as_form c.in-Some.row.now in

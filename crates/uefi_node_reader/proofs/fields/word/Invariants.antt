@@ -4,4 +4,4 @@ use Rattle.uefi_node_reader.specs.WordReading.{word_read}
 use Rattle.uefi_node_reader.proofs.fields.word.Given as goal
 
 abbrev pub invariant-loop-word : goal.invariant-loop-word
-invariant-loop-word l = word_read (map as_word (drop l.word-index l.words)) l.text ≡ word_read (map as_word l.words) l.text
+invariant-loop-word g l = word_read (map as_word (drop l.word-index l.words)) (g.T.Text.bytes l.text) ≡ word_read (map as_word l.words) (g.T.Text.bytes l.text)

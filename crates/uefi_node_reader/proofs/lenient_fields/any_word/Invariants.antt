@@ -4,5 +4,5 @@ use Rattle.uefi_node_reader.specs.LenientFields.{any_word}
 use Rattle.uefi_node_reader.proofs.lenient_fields.any_word.Given as goal
 
 abbrev pub invariant-loop-word : goal.invariant-loop-word
-invariant-loop-word l =
-    any_word (map as_word (drop l.word-index l.words)) l.text ≡ any_word (map as_word l.words) l.text
+invariant-loop-word g l =
+    any_word (map as_word (drop l.word-index l.words)) (g.T.Text.bytes l.fn.text) ≡ any_word (map as_word l.words) (g.T.Text.bytes l.fn.text)

@@ -7,7 +7,7 @@ use Rattle.uefi_node_reader.proofs.ToldForms.{told_in-fitting}
 use Rattle.uefi_node_reader.proofs.lenient_table.exact_told.Goals as goal
 
 pub returns : goal.returns
-returns c =
+returns g c =
     let form : Form = as_form c.args.row.now in
     c.told.ensures ∙ ap (λ (o : Option (List ℕ × List ℕ)). told_in form o) c.read_row.ensures.data
-    ∙ told_in-fitting form (form_read form c.args.text.now)
+    ∙ told_in-fitting form (form_read form (g.T.Text.bytes c.args.text))

@@ -4,5 +4,6 @@ use Rattle.uefi_node_reader.proofs.lenient_table.try_names.Given as goal
 
 -- the names that are left decide
 abbrev pub invariant-loop-name : goal.invariant-loop-name
-invariant-loop-name l = names_tried (map (λ name. (name.0.now, name.1)) (drop l.name-index l.names)) l.so_far l.text
-    ≡ names_tried (map (λ name. (name.0.now, name.1)) l.names) l.fn.furthest l.fn.text
+invariant-loop-name g l =
+    names_tried (map (λ name. (name.0.now, name.1)) (drop l.name-index l.names)) l.so_far (g.T.Text.bytes l.fn.text)
+    ≡ names_tried (map (λ name. (name.0.now, name.1)) l.names) l.fn.furthest (g.T.Text.bytes l.fn.text)

@@ -6,7 +6,7 @@ use Rattle.uefi_node_reader.proofs.OtherForms.{own_filled, own_sound}
 use Rattle.uefi_node_reader.proofs.libefivar.own_call.Goals as goal
 
 pub exact_group-requires-clause-sound : goal.exact_group-requires-clause-sound
-exact_group-requires-clause-sound c = ap (λ (l : List Form). list_all is_sound l) c.own_forms.ensures ∙ own_sound
+exact_group-requires-clause-sound g c = ap (λ (l : List Form). list_all is_sound l) c.own_forms.ensures ∙ own_sound
 
 pub exact_group-requires-clause-filled : goal.exact_group-requires-clause-filled
-exact_group-requires-clause-filled c = ap (λ (l : List Form). list_all is_filled l) c.own_forms.ensures ∙ own_filled
+exact_group-requires-clause-filled g c = ap (λ (l : List Form). list_all is_filled l) c.own_forms.ensures ∙ own_filled

@@ -1,37 +1,44 @@
-use Rattle.std.proofs.Common.{◌≡◌, ℕ, Bor, List, ap, codes, sym, ◌∙◌}
+use Rattle.std.proofs.Common.{◌≡◌, ℕ, ◌∷◌, [], ◌++◌, List, ap, codes, sym, ◌∙◌, append_assoc}
 use Rattle.std.specs.Option.{option_map}
 use Rattle.std.specs.Prelude.{Option, Some, option_and_then}
-use Rattle.uefi_node_reader.specs.Counted.{put_on}
-use Rattle.uefi_node_reader.specs.FieldReading.{◌>>=◌, clear_run}
+use Rattle.uefi_node_reader.specs.Counted.{pushed_bytes, put_on}
+use Rattle.uefi_node_reader.specs.FieldReading.{clear_run}
 use Rattle.uefi_node_reader.specs.TableReading.{as_ids, ids_read}
 use Rattle.uefi_node_reader.specs.WordReading.{after}
+use Rattle.uefi_node_reader.proofs.CountedBytes.{pushed_bytes-append}
 use Rattle.uefi_node_reader.proofs.Literals.{after_some}
 use Rattle.uefi_node_reader.proofs.node_tails.push_ids.Goals as goal
 
 -- the strings that a text has
-read : (stop : ℕ) (text t u hid r cid s uid rest : List ℕ) → (hid, r) ≡ clear_run 44 text → after (codes ",") r ≡ Some t
-    → (cid, s) ≡ clear_run 44 t → after (codes ",") s ≡ Some u → (uid, rest) ≡ clear_run stop u → ids_read stop text ≡ Some (as_ids hid cid uid, rest)
-read stop text t u hid r cid s uid rest a b c d e =
-    let last : List ℕ → List ℕ → List ℕ → Option (List ℕ × List ℕ) = λ x y v. Some (as_ids x y (clear_run stop v).0, (clear_run stop v).1) in
-    let middle : List ℕ → List ℕ → Option (List ℕ × List ℕ) = λ x v. after (codes ",") (clear_run 44 v).1 >>= last x (clear_run 44 v).0 in
-    ap (λ (x : List ℕ × List ℕ). after (codes ",") x.1 >>= middle x.0) (sym a)
-    ∙ after_some _ (middle hid) t b
-    ∙ ap (λ (x : List ℕ × List ℕ). after (codes ",") x.1 >>= last hid x.0) (sym c)
-    ∙ after_some _ (last hid cid) u d
-    ∙ ap (λ (x : List ℕ × List ℕ). Some (as_ids hid cid x.0, x.1)) (sym e)
+read : (stop : ℕ) (text t u : List ℕ) → after (codes ",") (clear_run 44 text).1 ≡ Some t → after (codes ",") (clear_run 44 t).1 ≡ Some u
+    → ids_read stop text ≡ Some (as_ids (clear_run 44 text).0 (clear_run 44 t).0 (clear_run stop u).0, (clear_run stop u).1)
+read stop text t u a b =
+    let last : List ℕ → List ℕ → Option (List ℕ × List ℕ) = λ x v. Some (as_ids (clear_run 44 text).0 x (clear_run stop v).0, (clear_run stop v).1) in
+    after_some _ (λ (v : List ℕ). option_and_then (last (clear_run 44 v).0) (after (codes ",") (clear_run 44 v).1)) t a
+    ∙ after_some _ (last (clear_run 44 t).0) u b
 
--- what stands after a literal
-rest_of : (o : Option (List ℕ)) (found : Option (Bor (List ℕ))) (x : Bor (List ℕ)) → option_map (λ (y : Bor (List ℕ)). y.now) found ≡ o → found ≡ Some x → o ≡ Some x.now
-rest_of o found x e is = sym e ∙ ap (λ (f : Option (Bor (List ℕ))). option_map (λ (y : Bor (List ℕ)). y.now) f) is
+-- three strings, each with its zero
+strings : (state : List ℕ × ℕ) (hid cid uid : List ℕ)
+    → pushed_bytes (pushed_bytes (pushed_bytes state (hid ++ 0 ∷ [])) (uid ++ 0 ∷ [])) (cid ++ 0 ∷ []) ≡ pushed_bytes state (as_ids hid cid uid)
+strings state hid cid uid =
+    sym (pushed_bytes-append (pushed_bytes state (hid ++ 0 ∷ [])) (uid ++ 0 ∷ []) (cid ++ 0 ∷ []))
+    ∙ sym (pushed_bytes-append state (hid ++ 0 ∷ []) ((uid ++ 0 ∷ []) ++ (cid ++ 0 ∷ [])))
+    ∙ ap (pushed_bytes state) (append_assoc hid (0 ∷ []) ((uid ++ 0 ∷ []) ++ (cid ++ 0 ∷ []))
+    ∙ ap (λ (l : List ℕ). hid ++ (0 ∷ l)) (append_assoc uid (0 ∷ []) (cid ++ 0 ∷ [])))
 
 pub returns : goal.returns
-returns c =
+returns g c =
     let state : List ℕ × ℕ = (c.args.places.now, c.args.len) in
-    let hid : List ℕ = c.cut_clear.result.0.now in
-    let cid : List ℕ = c.cut_clear-2.result.0.now in
-    let uid : List ℕ = c.cut_clear-3.result.0.now in
-    ap (λ (s : List ℕ × ℕ). Some (s, c.cut_clear-3.result.1.now)) c.push_strings.ensures
-    ∙ ap (λ (o : Option (List ℕ × List ℕ)). option_and_then (put_on state) o)
-    (sym (read c.args.stop c.args.text.now c.in_ok-after.field-0.now c.in_ok-after-2.field-0.now hid c.cut_clear.result.1.now cid c.cut_clear-2.result.1.now
-    uid c.cut_clear-3.result.1.now c.cut_clear.ensures (rest_of _ c.after.result c.in_ok-after.field-0 c.after.ensures c.in_ok-after.was)
-    c.cut_clear-2.ensures (rest_of _ c.after-2.result c.in_ok-after-2.field-0 c.after-2.ensures c.in_ok-after-2.was) c.cut_clear-3.ensures))
+    let text : List ℕ = g.T.Text.bytes c.args.text in
+    let t : List ℕ = g.T.Text.bytes c.in_ok-cid.cid in
+    let u : List ℕ = g.T.Text.bytes c.in_ok-uid.uid in
+    let first : after (codes ",") (clear_run 44 text).1 ≡ Some t =
+    ap (after (codes ",")) (sym c.past_clear.ensures) ∙ sym (rw c.in_ok-cid.was at c.after.ensures) in
+    let second : after (codes ",") (clear_run 44 t).1 ≡ Some u =
+    ap (after (codes ",")) (sym c.past_clear-2.ensures) ∙ sym (rw c.in_ok-uid.was at c.after-2.ensures) in
+    let pushed = c.push_clear_name-len-3.ensures.state
+    ∙ ap (λ (s : List ℕ × ℕ). pushed_bytes s ((clear_run 44 t).0 ++ 0 ∷ [])) (c.push_clear_name-len-2.ensures.state
+    ∙ ap (λ (s : List ℕ × ℕ). pushed_bytes s ((clear_run c.args.stop u).0 ++ 0 ∷ [])) c.push_clear_name-len.ensures.state)
+    ∙ strings state (clear_run 44 text).0 (clear_run 44 t).0 (clear_run c.args.stop u).0 in
+    (λ i. Some (pushed i, c.push_clear_name-len-2.ensures.rest i))
+    ∙ ap (λ (o : Option (List ℕ × List ℕ)). option_and_then (put_on state) o) (sym (read c.args.stop text t u first second))

@@ -4,6 +4,6 @@ use Rattle.uefi_node_table.proofs.Lists.{all_at_same}
 use Rattle.uefi_node_reader.proofs.node_tails.read_pieces.Goals as goal
 
 pub read_piece-requires : goal.read_piece-requires
-read_piece-requires c =
+read_piece-requires g c =
     all_at_same as_piece is_within (length c.args.content.now) (length c.loop-piece.content) c.loop-piece.auto.content
     c.args.pieces.now c.loop-piece.piece-index _ c.loop-piece-test.true c.requires

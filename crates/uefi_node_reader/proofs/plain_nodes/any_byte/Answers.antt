@@ -5,6 +5,6 @@ use Rattle.uefi_node_reader.proofs.LenientNumbers.{number_small}
 use Rattle.uefi_node_reader.proofs.plain_nodes.any_byte.Goals as goal
 
 pub overflow_cast-result : goal.overflow_cast-result
-overflow_cast-result c =
-    let e : any_number 256 c.args.text.now ≡ Some (c.in_ok-value.value, c.in_ok-value.rest.now) = sym (rw c.in_ok-value.was at c.any_number.ensures) in
-    omega (arith, number_small 256 c.args.text.now c.in_ok-value.value c.in_ok-value.rest.now (omega arith) e)
+overflow_cast-result g c =
+    let e : any_number 256 (g.T.Text.bytes c.args.text) ≡ Some (c.in_ok-value.value, (g.T.Text.bytes c.in_ok-value.rest)) = sym (rw c.in_ok-value.was at c.any_number.ensures) in
+    omega (arith, number_small 256 (g.T.Text.bytes c.args.text) c.in_ok-value.value (g.T.Text.bytes c.in_ok-value.rest) (omega arith) e)

@@ -14,7 +14,7 @@ yes true = refl
 yes false = refl
 
 pub returns-then-has_form : goal.returns-then-has_form
-returns-then-has_form c =
+returns-then-has_form g c =
     let node : Node = parsed_node c.args.node.now in
     let kind : ℕ = c.types-device_type.result.0 in
     let sub_kind : ℕ = c.types-device_type.result.1 in
@@ -25,7 +25,7 @@ returns-then-has_form c =
     (omega (arith, c.data_len.ensures.fits, c.data_len.ensures.count))
 
 pub returns : goal.returns
-returns c =
+returns g c =
     let node : Node = parsed_node c.args.node.now in
     let kind : ℕ = c.types-device_type.result.0 in
     let sub_kind : ℕ = c.types-device_type.result.1 in

@@ -5,7 +5,7 @@ use Rattle.uefi_node_reader.proofs.LenientNumbers.{number_small}
 use Rattle.uefi_node_reader.proofs.short_addresses.last_fields.Goals as goal
 
 pub overflow_cast-result : goal.overflow_cast-result
-overflow_cast-result c =
-    let e : any_number 256 c.args.text.now ≡ Some (c.in_ok-prefix_length.prefix_length, c.in_ok-prefix_length.rest.now) =
+overflow_cast-result g c =
+    let e : any_number 256 (g.T.Text.bytes c.args.text) ≡ Some (c.in_ok-prefix_length.prefix_length, (g.T.Text.bytes c.in_ok-prefix_length.rest)) =
     sym (rw c.in_ok-prefix_length.was at c.any_number.ensures) in
-    omega (arith, number_small 256 c.args.text.now c.in_ok-prefix_length.prefix_length c.in_ok-prefix_length.rest.now (omega arith) e)
+    omega (arith, number_small 256 (g.T.Text.bytes c.args.text) c.in_ok-prefix_length.prefix_length (g.T.Text.bytes c.in_ok-prefix_length.rest) (omega arith) e)

@@ -19,15 +19,16 @@ all_fit all text =
     ∙ ap (λ (t : Bool). cond t (Some (take 56 all, text)) None) (le-leb (length (take 56 all)) 0xfffb (omega (arith, size)))
 
 pub returns-in_err-node : goal.returns-in_err-node
-returns-in_err-node c =
-    absurd (none-some _ (rw c.in_err-node.was at c.with_tail.ensures.data ∙ all_fit c.in_ok-fixed.fixed c.args.text.now))
+returns-in_err-node g c =
+    absurd (none-some _ (rw c.in_err-node.was at c.with_tail.ensures.data ∙ all_fit c.in_ok-fixed.fixed (g.T.Text.bytes c.args.text)))
 
 pub returns : goal.returns
 unfolding short_ipv6 parsed_node
-returns c =
+returns g c =
     let bytes : List ℕ = take 56 c.in_ok-fixed.fixed in
     let types = (rw c.in_ok-node.was at c.with_tail.ensures.types) in
     let read = (rw c.in_ok-node.was at c.with_tail.ensures.data) in
-    let same = (some_pair (text_node_data c.in_ok-node.node, c.in_ok-node.field-0-1.now) (bytes, c.args.text.now) (read ∙ all_fit c.in_ok-fixed.fixed c.args.text.now)).0 in
+    let same = (some_pair (text_node_data c.in_ok-node.node, (g.T.Text.bytes c.in_ok-node.field-0-1))
+    (bytes, g.T.Text.bytes c.args.text) (read ∙ all_fit c.in_ok-fixed.fixed (g.T.Text.bytes c.args.text))).0 in
     c.told_fixed.ensures ∙ (λ i. told_fixed (node_with (types.0 i) (types.1 i) (same i)))
     ∙ ap (λ (o : Option (List ℕ)). option_and_then (λ (content : List ℕ). told_fixed (node_with 3 13 content)) o) (rw c.in_ok-fixed.was at c.call_data.ensures)

@@ -23,13 +23,13 @@ abbrev in_form : Node → Option Form → Option Node
 in_form node o = option_and_then (λ (form : Form). cond (is_fixed form.tail && tells form node) (Some node) None) o
 
 pub returns-in_err-row : goal.returns-in_err-row
-returns-in_err-row c =
+returns-in_err-row g c =
     let node : Node = parsed_node c.args.node in
     rw c.from_residual.ensures (ap (in_form node) (form_by node c.types-kind.result.0 c.types-kind.result.1 c.head.result.now None
     c.types-kind.ensures.device_type c.types-kind.ensures.sub_type c.head.ensures (rw c.in_err-row.was at c.form_of.ensures)))
 
 pub returns-then-not-is_fixed : goal.returns-then-not-is_fixed
-returns-then-not-is_fixed c =
+returns-then-not-is_fixed g c =
     let node : Node = parsed_node c.args.node in
     let form : Form = as_form c.in_ok-row.row.now in
     let found : Some form ≡ find_form (prints node) forms =
@@ -44,7 +44,7 @@ returns-then-not-is_fixed c =
     ap (λ (t : Bool). cond t (Some node) None) no ∙ ap (in_form node) found
 
 pub returns : goal.returns
-returns c =
+returns g c =
     let node : Node = parsed_node c.args.node in
     let form : Form = as_form c.in_ok-row.row.now in
     let found : Some form ≡ find_form (prints node) forms =

@@ -5,4 +5,4 @@ use Rattle.uefi_node_table.specs.Table.{forms}
 use Rattle.uefi_node_reader.proofs.table_reader.read_group.Given as goal
 
 abbrev pub invariant-loop-place : goal.invariant-loop-place
-invariant-loop-place l = forms_read forms (l.before + l.place) (map as_form (drop l.place l.rows)) l.text ≡ forms_read forms l.before (map as_form l.rows) l.text
+invariant-loop-place g l = forms_read forms (l.before + l.place) (map as_form (drop l.place l.rows)) (g.T.Text.bytes l.text) ≡ forms_read forms l.before (map as_form l.rows) (g.T.Text.bytes l.text)

@@ -5,5 +5,5 @@ use Rattle.uefi_node_reader.proofs.FirstLetters.{none_read}
 use Rattle.uefi_node_reader.proofs.table_reader.read_letters.Goals as goal
 
 pub returns-then-not-begins_in : goal.returns-then-not-begins_in
-returns-then-not-begins_in c = sym (none_read c.args.letters forms c.args.before (map as_form c.args.rows.now) c.args.text.now c.requires.letters
+returns-then-not-begins_in g c = sym (none_read c.args.letters forms c.args.before (map as_form c.args.rows.now) (g.T.Text.bytes c.args.text) c.requires.letters
     (sym c.begins_in.ensures ∙ c.if-not-begins_in.true))

@@ -15,19 +15,19 @@ use Rattle.uefi_node_reader.proofs.ToldForms.{empty_is}
 use Rattle.uefi_node_reader.proofs.text_calls.uid_told.Goals as goal
 
 pub returns-in_default : goal.returns-in_default
-returns-in_default c =
+returns-in_default g c =
     let form : Form = as_form c.args.row.now in
-    let words : List ℕ = c.args.words.now in
+    let words : List ℕ = (g.T.Text.bytes c.args.words) in
     let fixed : List ℕ = take form.least c.args.fixed in
     let content : List ℕ → List ℕ = λ close. fixed ++ as_ids [] [] (clear_run (first_of close) words).0 in
     let stop = c.first_of-stop.ensures ∙ ap first_of c.as_bytes.ensures.value in
     let ends : true ≡ is_empty (clear_run (first_of form.close) words).1 =
-    sym c.if-not-is_empty.false ∙ empty_is c.cut_clear.result.1.now c.is_empty.result c.is_empty.ensures
-    ∙ ap (λ (x : List ℕ × List ℕ). is_empty x.1) c.cut_clear.ensures ∙ ap (λ (s : ℕ). is_empty (clear_run s words).1) stop in
+    sym c.if-not-is_empty.false ∙ c.is_empty.ensures ∙ ap is_empty c.past_clear-rest.ensures ∙ ap (λ (s : ℕ). is_empty (clear_run s words).1) stop in
+    let left : g.T.Text.bytes c.past_clear-rest.result ≡ [] = empty_is _ (sym c.if-not-is_empty.false ∙ c.is_empty.ensures) in
     let none = unfit form (content form.close) [] []
     ((rw c.in_default.is at c.with_uid.ensures.data)
     ∙ ap (λ (l : List ℕ). option_map (λ (x : List ℕ × List ℕ). x.0) (fitting (Some (content l, [])))) c.as_str.ensures) in
     let told : Option Node → Result Node Stop = λ o. ok_or o (stop_before [] expected.Untold) in
-    ap (λ (s : Stop). Err s) c.stop_before-in_default.ensures ∙ ap told none
+    ap (λ (s : Stop). Err s) (c.stop_before-in_default.ensures ∙ ap (λ (l : List ℕ). stop_before l expected.Untold) left) ∙ ap told none
     ∙ ap (λ (t : Bool). cond t (told (told_in form (Some (content form.close, []))))
     (Err (stop_before (clear_run (first_of form.close) words).1 (expected.Byte (first_of form.close))))) ends
