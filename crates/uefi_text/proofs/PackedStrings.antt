@@ -6,7 +6,7 @@ use Rattle.std.proofs.lemmas.Grind.{common_steps}
 use Rattle.std.proofs.lemmas.List.{get_or-take, length-take-le, take_more}
 use Rattle.std.proofs.lemmas.List.Elements.{All-from_get_or, All-head, All-tail}
 use Rattle.std.proofs.lemmas.List.Quantifiers.{position-Some}
-use Rattle.uefi_text.proofs.Packing.{length-packed_items}
+use Rattle.uefi_text.proofs.Packing.{length-packed_items, packed_items-take}
 use Rattle.uefi_text.proofs.Texts.{without_nul-nul_terminated}
 use Rattle.uefi_text.proofs.UnitBytes.{units_front}
 use Rattle.uefi_text.specs.Packed.{little_endian, packed_items}
@@ -68,6 +68,17 @@ front_units (suc n) (suc count) (b ∷ c ∷ bytes) few fits =
     let double : suc n * 2 ≡ suc (suc (n * 2)) = omega arith in
     let others = front_units n count bytes (omega arith) (omega arith) in
     ap (λ k. packed_items 2 (suc n) (take k (b ∷ c ∷ bytes))) double ∙ ap (λ us. little_endian (b ∷ c ∷ []) ∷ us) others
+
+-- and so they are the units of these bytes
+pub units_of_front : (count : ℕ) (bytes : List ℕ) → count * 2 ≤ length bytes → units_of_bytes (take (2 * count) bytes) ≡ packed_items 2 count bytes
+units_of_front count bytes fits =
+    let long : length (take (2 * count) bytes) ≡ 2 * count = length-take-le (2 * count) bytes (omega (arith, fits)) in
+    let half : length (take (2 * count) bytes) / 2 ≡ count = omega (arith, long) in
+    let twice : 2 * count ≡ count * 2 = omega arith in
+    ap (λ k. packed_items 2 k (take (2 * count) bytes)) half
+    ∙ ap (λ k. packed_items 2 count (take k bytes)) twice
+    ∙ front_units count count bytes (omega arith) fits
+    ∙ packed_items-take 2 count count bytes (omega arith)
 
 -- units up to and with their first NUL
 pub IsNulTerminated-front : (units : List ℕ) (i : ℕ) → position is_nul units ≡ Some i → IsNulTerminated (take (i + 1) units)

@@ -1,7 +1,11 @@
 -- Items that lie packed in bytes, place by place.
 use Rattle.std.specs.Prelude.{slice_get, slice_range}
-use Rattle.std.proofs.Common.{◌≡◌, ℕ, zero, suc, ◌+◌, ◌-◌, ◌*◌, ◌<◌, ◌≤◌, sym, ◌∷◌, List, length, take, drop, get_or, Some, refl, ap, ◌∙◌, arith}
+use Rattle.std.specs.List.{position, position_or_len}
+use Rattle.std.specs.Simd.{first_chunks}
+use Rattle.std.proofs.Common.{Bool, inl, inr, ◌≡◌, ℕ, zero, suc, ◌+◌, ◌-◌, ◌*◌, ◌<◌, ◌≤◌, sym, ◌∷◌, List, length, take, drop, get_or, Some, refl, ap, ◌∙◌, arith}
 use Rattle.std.proofs.Math.Nat.{add-mul, mul-le-mul_right, suc-mul, zero-mul, add_comm}
+use Rattle.std.proofs.lemmas.Bool.{cases_Bool}
+use Rattle.std.proofs.lemmas.Grind.{common_steps}
 use Rattle.std.proofs.lemmas.List.{drop-drop}
 use Rattle.std.proofs.lemmas.Option.{slice_get-get_or, slice_get_past}
 use Rattle.uefi_text.specs.Packed.{little_endian, packed_items}
@@ -28,7 +32,7 @@ slice_get-packed_items size count bytes i within =
     slice_get-get_or (packed_items size count bytes) i 0 inside ∙ rw (get_or-packed_items size count bytes i within, long) refl
 
 -- the first items are those of fewer blocks
-packed_items-take : (size n count : ℕ) (bytes : List ℕ) → n ≤ count → take n (packed_items size count bytes) ≡ packed_items size n bytes
+pub packed_items-take : (size n count : ℕ) (bytes : List ℕ) → n ≤ count → take n (packed_items size count bytes) ≡ packed_items size n bytes
 packed_items-take size zero count bytes within = refl
 packed_items-take size (suc n) zero bytes within = absurd (omega arith)
 packed_items-take size (suc n) (suc count) bytes within =
@@ -57,5 +61,23 @@ part-fits size start end count room ordered within fits =
     let sum : (end - start) * size + start * size ≡ end * size = sym (add-mul (end - start) start size) ∙ ap (λ n. n * size) whole in
     let below : end * size ≤ count * size = mul-le-mul_right size within in
     omega arith
+
+-- an item is the number of its chunk, so a search among the chunks finds what a search among the items does
+length-first_chunks : (size count : ℕ) (bytes : List ℕ) → length (first_chunks size count bytes) ≡ count
+length-first_chunks size zero bytes = refl
+length-first_chunks size (suc count) bytes = ap suc (length-first_chunks size count (drop size bytes))
+
+position_or_len-chunks : (p : ℕ → Bool) (size count : ℕ) (bytes : List ℕ)
+    → position_or_len (λ chunk. p (little_endian chunk)) (first_chunks size count bytes) ≡ position_or_len p (packed_items size count bytes)
+position_or_len-chunks p size zero bytes = refl
+position_or_len-chunks p size (suc count) bytes = elim (cases_Bool (p (little_endian (take size bytes)))) [
+  | inl passes ↦ grind (arith, common_steps)
+  | inr fails ↦ let rest = position_or_len-chunks p size count (drop size bytes) in grind (arith, common_steps)
+]
+
+pub position-chunks : (p : ℕ → Bool) (size count : ℕ) (bytes : List ℕ)
+    → position (λ chunk. p (little_endian chunk)) (first_chunks size count bytes) ≡ position p (packed_items size count bytes)
+position-chunks p size count bytes =
+    rw (position_or_len-chunks p size count bytes, length-first_chunks size count bytes, length-packed_items size count bytes) refl
 
 pub ruleset packing = (length-packed_items, get_or-packed_items, slice_get-packed_items, slice_get-get_or, slice_get_past)

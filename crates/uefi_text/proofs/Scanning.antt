@@ -1,6 +1,6 @@
 -- Passes that test or count a block of elements at a time.
-use Rattle.std.proofs.Common.{inl, inr, ◌≡◌, ◌↔◌, ◌≢◌, ◌||◌, ◌+◌, ◌-◌, ◌<◌, ◌≤◌, ◌∙◌, ℕ, zero, suc, Bool, true, false, not, All, IsTrue, List, [], ◌∷◌, Some, None, Option, ap, get_or, sym, subst, refl, drop, length, take, arith, position}
-use Rattle.std.specs.List.{list_any, position_or_len, slice_range}
+use Rattle.std.proofs.Common.{inl, inr, ◌≡◌, ◌↔◌, ◌≢◌, ◌||◌, ◌+◌, ◌<◌, ◌≤◌, ◌∙◌, ℕ, zero, suc, Bool, true, false, not, All, IsTrue, List, [], ◌∷◌, Some, None, Option, ap, get_or, sym, refl, drop, length, take, arith, position}
+use Rattle.std.specs.List.{list_any, position_or_len}
 use Rattle.std.specs.Option.{is_some}
 use Rattle.std.specs.Str.{IsAscii}
 use Rattle.std.proofs.Math.Seq.{take-add}
@@ -9,7 +9,6 @@ use Rattle.std.proofs.lemmas.Grind.{common_steps}
 use Rattle.std.proofs.lemmas.List.{take-append-drop}
 use Rattle.std.proofs.lemmas.List.Folds.{list_any-append, list_any_at, list_any_none}
 use Rattle.std.proofs.lemmas.List.Sums.{position_or_len_is}
-use Rattle.std.proofs.lemmas.Simd.{get_or-chunk}
 use Rattle.uefi_text.specs.Scans.{is_beyond_ascii}
 use Rattle.uefi_text.specs.Units.{is_nul}
 
@@ -109,31 +108,3 @@ pub position-nowhere : (p : ℕ → Bool) (us : List ℕ) → ((k : ℕ) → k <
 position-nowhere p us none =
     let e : position_or_len p us ≡ length us = position_or_len_is p us (length us) 0 (omega arith) none (λ h. absurd (omega (arith, h))) in
     grind (arith, common_steps)
-
--- what holds of the elements before a block, and of those in it, holds up to its end
-pub each_in_blocks : (P : ℕ → Type 0) (us : List ℕ) (start end : ℕ) → start ≤ end → end ≤ length us
-    → ((k : ℕ) → k < start → P (get_or us k 0)) → ((k : ℕ) → k < end - start → P (get_or (slice_range us start end) k 0))
-    → (k : ℕ) → k < end → P (get_or us k 0)
-each_in_blocks P us start end ordered inside before in_block k below =
-    elim (cases_lt k start) [
-      | inl low ↦ before k low
-      | inr high ↦
-          let at : start + (k - start) ≡ k = omega arith in
-          let same : get_or (slice_range us start end) (k - start) 0 ≡ get_or us k 0 =
-          get_or-chunk start (end - start) us (k - start) 0 (omega arith) ∙ ap (λ j. get_or us j 0) at in
-          subst P same (in_block (k - start) (omega arith))
-    ]
-
--- a search that finds a place among the first elements finds it among all
-found_first : {X : Type 0} (p : X → Bool) (n : ℕ) (xs : List X) → position_or_len p (take n xs) < length (take n xs)
-    → (position_or_len p (take n xs) < n) × (position_or_len p (take n xs) ≡ position_or_len p xs) × (position_or_len p xs < length xs)
-found_first p zero xs found = absurd (omega (arith, found))
-found_first p (suc n) [] found = absurd (omega (arith, found))
-found_first p (suc n) (x ∷ xs) found = elim (cases_Bool (p x)) [
-  | inl passes ↦ grind (arith, common_steps)
-  | inr fails ↦ let rest = found_first p n xs (grind (arith, common_steps)) in grind (arith, common_steps)
-]
-
-pub position-in_first : {X : Type 0} (p : X → Bool) (n : ℕ) (xs : List X) (place : ℕ) → Some place ≡ position p (take n xs)
-    → (place < n) × (Some place ≡ position p xs)
-position-in_first p n xs place found = let first = found_first p n xs (grind (arith, common_steps)) in grind (arith, common_steps)

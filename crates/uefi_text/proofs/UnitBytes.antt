@@ -103,7 +103,7 @@ encoded_accepted bytes text spells =
     rw (ended, units_of_bytes-encoded bytes text spells) accepted
 
 -- units of two bytes are code units
-small_items : (count : ℕ) (bs : List ℕ) → All IsByte bs → (k : ℕ) → get_or (packed_items 2 count bs) k 0 < 2 ^ 16
+pub small_items : (count : ℕ) (bs : List ℕ) → All IsByte bs → (k : ℕ) → get_or (packed_items 2 count bs) k 0 < 2 ^ 16
 small_items zero bs are_bytes k = omega arith
 small_items (suc count) [] are_bytes zero = omega arith
 small_items (suc count) (b ∷ []) are_bytes zero =

@@ -3,14 +3,17 @@
 //! so that callers see nothing of the form.
 //!
 //! A pass looks for a [`Class`] of elements. All classes share one pass, and one proof.
-ghost use Rattle.std.specs.Prelude.{IsTrue, ◌≡◌, ◌↔◌, ◌||◌, ◌+◌, ◌-◌, ◌*◌, ◌<◌, ◌≤◌, ◌++◌, All, Bool, Option, None, count_by, length, take, drop, map, position, true, false};
+ghost use Rattle.std.specs.Prelude.{IsTrue, ℕ, ◌^◌, slice_index, ◌≡◌, ◌↔◌, ◌||◌, ◌+◌, ◌-◌, ◌*◌, ◌<◌, ◌≤◌, ◌++◌, All, Bool, Option, None, count_by, length, take, drop, map, position, true, false};
 ghost use Rattle.std.specs.Fmt.{is_char_start};
 ghost use Rattle.std.specs.List.{list_any};
 ghost use Rattle.std.specs.Option.{SomeIff};
 ghost use Rattle.std.specs.Str.{IsAscii};
 ghost use Rattle.uefi_text.specs.Scans.{IsAsciiTextByte, is_beyond_ascii, is_beyond_latin1_byte, is_deciding_byte, is_no_ascii_text, is_of_three_bytes};
-ghost use Rattle.uefi_text.specs.UnitBytes.{unit_bytes};
+ghost use Rattle.uefi_text.specs.Packed.{little_endian};
+ghost use Rattle.uefi_text.specs.UnitBytes.{unit_bytes, units_of_bytes};
 ghost use Rattle.uefi_text.specs.Units.{is_deciding, is_nul, deciding_place, replaced};
+
+use std::marker::PhantomData;
 
 /// The number of elements that are tested together: without an early exit among them they become
 /// vectors.
@@ -82,6 +85,31 @@ pub(crate) fn find_first<T: Copy, C: Class<T>>(elements: &[T]) -> Option<usize>
         None => None,
         Some(place) => Some(start + place),
     }
+}
+
+/// Pairs of bytes that encode a unit of another class, the low byte first.
+struct Pair<C> {
+    class: PhantomData<C>,
+}
+
+impl<C: Class<u16>> Class<[u8; 2]> for Pair<C> {
+    ghost holds = { λ pair. C.holds (little_endian pair) };
+
+    #[inline(always)]
+    fn holds(pair: [u8; 2]) -> bool {
+        C::holds(u16::from_le_bytes(pair))
+    }
+}
+
+/// Returns the index of the first unit in the class, among the units that bytes at any address
+/// encode. Copies no units.
+#[inline(always)]
+pub(crate) fn find_first_packed<C: Class<u16>>(bytes: &[u8]) -> Option<usize>
+    ensures place { result ≡ position C.holds (units_of_bytes bytes.now) }
+    ensures units { (k : ℕ) → slice_index (units_of_bytes bytes.now) k < 2 ^ 16 }
+{
+    let (pairs, _) = bytes.as_chunks::<2>();
+    find_first::<[u8; 2], Pair<C>>(pairs)
 }
 
 /// Returns whether an element is in the class.

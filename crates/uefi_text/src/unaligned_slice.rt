@@ -39,14 +39,11 @@ ghost use Rattle.uefi_text.specs.PackedStrings.{SplitsUntilNul};
 
 use crate::owned_strs::CString16;
 pub use crate::packed_numbers::Packed;
-use crate::scan::{Class, Deciding, Nul, find_first};
+use crate::scan::{Class, Deciding, Nul, find_first_packed};
 use crate::strs::{CStr16, FromSliceWithNulError, UnalignedCStr16Error, check_deciding_unit};
 use std::alloc::{AllocError, Allocator};
 use std::fmt;
 use std::marker::PhantomData;
-
-/// The number of units that are copied out and tested at a time.
-const TESTED: usize = 64;
 
 /// The number of items that are copied at a time. They pass through a separate block, which nothing
 /// else shares, so that the compiler makes one call of `memmove` for each block, and omits the
@@ -268,18 +265,6 @@ impl<'a, T: Packed> UnalignedSlice<'a, T> {
         self.len == 0
     }
 
-    /// Returns the items from index `start` up to, but not including, index `end`.
-    fn part(&self, start: usize, end: usize) -> Self
-        requires { (start ≤ end) × (end ≤ length (items_of self.now)) }
-        ensures { items_of result ≡ slice_range (items_of self.now) start end }
-    {
-        UnalignedSlice {
-            bytes: &self.bytes[start * T::SIZE..],
-            len: end - start,
-            items: PhantomData,
-        }
-    }
-
     /// Returns the item at an index, which must exist.
     fn item(&self, place: usize) -> T
         requires { place < length (items_of self.now) }
@@ -333,17 +318,6 @@ impl<'a, T: Packed> UnalignedSlice<'a, T> {
         ensures runs { GivesEach T.number items_left result }
     {
         UnalignedSliceIter { rest: *self }
-    }
-
-    /// Writes the items into `dest` in order, for few items, for which a call of `memmove` gains
-    /// nothing. A separate function, because in a caller with a block of its own the compiler would
-    /// make a call of `memcpy`, which the exports to C can't have.
-    #[inline(never)]
-    fn copy_each_to(&self, dest: &mut [T])
-        requires { length dest.old ≡ length (items_of self.now) }
-        ensures { map T.number dest.new ≡ items_of self.now }
-    {
-        read_items(self.bytes, dest);
     }
 
     /// Writes the items to `dest`, which must have as many places as there are items.
@@ -530,37 +504,12 @@ impl<'a> UnalignedSlice<'a, u16> {
         }
     }
 
-    /// Returns the index of the first item in a class among the items from index `start` up to, but
-    /// not including, index `end`, counted from `start`. The items are copied to a block, where
-    /// they are aligned.
-    fn find_first_in_block<C: Class<u16>>(&self, start: usize, end: usize) -> Option<usize>
-        requires range { (start ≤ end) × (end ≤ length (items_of self.now)) }
-        requires block { end ≤ start + 64 }
-        ensures place { result ≡ position C.holds (slice_range (items_of self.now) start end) }
-        ensures units { (k : ℕ) → slice_index (slice_range (items_of self.now) start end) k < 2 ^ 16 }
-    {
-        let mut block = [0; TESTED];
-        let units = &mut block[..end - start];
-        self.part(start, end).copy_each_to(units);
-        find_first::<u16, C>(units)
-    }
-
     /// Returns the index of the first item in a class.
     fn find_first<C: Class<u16>>(&self) -> Option<usize>
         ensures place { result ≡ position C.holds (items_of self.now) }
-        ensures units { IfSome result (λ place.
-            (k : ℕ) → k < place → slice_index (items_of self.now) k < 2 ^ 16) }
+        ensures units { (k : ℕ) → slice_index (items_of self.now) k < 2 ^ 16 }
     {
-        let len = self.len();
-        let mut start = 0;
-        while start < len {
-            let end = start + TESTED.min(len - start);
-            if let Some(place) = self.find_first_in_block::<C>(start, end) {
-                return Some(start + place);
-            }
-            start = end;
-        }
-        None
+        find_first_packed::<C>(&self.bytes[..2 * self.len])
     }
 
     /// Returns the units at the start of the bytes up to and including their first NUL, and the
@@ -581,8 +530,7 @@ impl<'a> UnalignedSlice<'a, u16> {
         ensures accepts { IsSome result
             ↔ ((units : List ℕ) × (rest : List ℕ) × SplitsUntilNul bytes.now units rest) }
     {
-        let Some(place) = UnalignedSlice::<u16>::new(bytes, bytes.len() / 2).find_first::<Nul>()
-        else {
+        let Some(place) = find_first_packed::<Nul>(bytes) else {
             return None;
         };
         let (string, rest) = bytes.split_at(2 * place + 2);

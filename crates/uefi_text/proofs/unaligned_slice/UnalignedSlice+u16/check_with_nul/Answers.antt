@@ -1,7 +1,6 @@
 -- Items of which the last alone is a NUL are a string.
-use Rattle.std.proofs.Common.{◌≡◌, ℕ, ◌+◌, ◌<◌, ◌^◌, None, Ok, Err, Result, get_or, length, arith, inl, inr, refl}
+use Rattle.std.proofs.Common.{◌≡◌, None, Ok, Err, Result, arith, refl}
 use Rattle.std.specs.Result.{OnOk, result_err}
-use Rattle.std.proofs.lemmas.Bool.{cases_lt}
 use Rattle.std.proofs.lemmas.Grind.{common_steps}
 use Rattle.uefi_text.specs.Units.{IsString}
 use Rattle.uefi_text.specs.Views.{items_of}
@@ -22,11 +21,4 @@ returns-clause-accepted c = on_ok c.check_deciding_unit.result string
         let items = items_of c.args.self.now in
         let place = c.in-Some.place in
         let accepted : with_nul_refusal items ≡ None = grind (arith, common_steps) in
-        let zero : get_or items place 0 ≡ 0 = grind (arith, common_steps) in
-        let last : place + 1 ≡ length items = grind (arith, common_steps) in
-        let small : (k : ℕ) → get_or items k 0 < 2 ^ 16 =
-        λ k. elim (cases_lt k place) [
-          | inl before ↦ c.in-Some.ensures.units k before
-          | inr after ↦ grind (arith, common_steps)
-        ] in
-        IsString-accepted items small accepted
+        IsString-accepted items c.in-Some.ensures.units accepted
