@@ -6,7 +6,7 @@ use Rattle.std.specs.Str.{IsAscii}
 use Rattle.std.proofs.Math.Seq.{take-add}
 use Rattle.std.proofs.lemmas.Bool.{cases_Bool, cases_lt, false≢true}
 use Rattle.std.proofs.lemmas.Grind.{common_steps}
-use Rattle.std.proofs.lemmas.List.{take-append-drop}
+use Rattle.std.proofs.lemmas.List.{length-take-le, take-append-drop, take-take}
 use Rattle.std.proofs.lemmas.List.Folds.{list_any-append, list_any_at, list_any_none}
 use Rattle.std.proofs.lemmas.List.Sums.{position_or_len_is}
 use Rattle.uefi_text.specs.Scans.{is_beyond_ascii}
@@ -37,6 +37,13 @@ position-from_none p xs start inside clear none = let from = search_from p xs st
 pub position-from_some : {X : Type 0} (p : X → Bool) (xs : List X) (start place : ℕ) → start ≤ length xs → list_any p (take start xs) ≡ false
     → Some place ≡ position p (drop start xs) → Some (start + place) ≡ position p xs
 position-from_some p xs start place inside clear some = let from = search_from p xs start inside clear in grind (arith, common_steps)
+
+-- where a search among the first elements has come to a place, none before it passes among all
+pub clear_front : {X : Type 0} (p : X → Bool) (xs : List X) (start few : ℕ) → few ≤ length xs → start ≤ length (take few xs)
+    → list_any p (take start (take few xs)) ≡ false → (start ≤ length xs) × (list_any p (take start xs) ≡ false)
+clear_front p xs start few fits inside clear =
+    let long : length (take few xs) ≡ few = length-take-le few xs fits in
+    (omega arith, ap (list_any p) (sym (take-take start few xs (omega (arith, inside)))) ∙ clear)
 
 -- a search finds a place exactly where an element passes
 pub is_some-position : {X : Type 0} (p : X → Bool) (xs : List X) → is_some (position p xs) ≡ list_any p xs

@@ -87,6 +87,26 @@ pub(crate) fn find_first<T: Copy, C: Class<T>>(elements: &[T]) -> Option<usize>
     }
 }
 
+/// Does what [`find_first`] does, but tests the first elements in small blocks. This is faster if one
+/// of them is in the class and many elements follow it.
+#[inline(always)]
+fn find_first_soon<T: Copy, C: Class<T>>(elements: &[T]) -> Option<usize>
+    ensures { result ≡ position C.holds elements.now }
+{
+    let few = BLOCK.min(elements.len());
+    let start = clear_blocks_end::<T, C>(&elements[..few], 0, SMALL_BLOCK);
+    let rest = &elements[start..];
+    let place = if SMALL_BLOCK <= few - start {
+        find_one_by_one::<T, C>(rest)
+    } else {
+        find_first::<T, C>(rest)
+    };
+    match place {
+        None => None,
+        Some(place) => Some(start + place),
+    }
+}
+
 /// Pairs of bytes that encode a unit of another class, the low byte first.
 struct Pair<C> {
     class: PhantomData<C>,
@@ -109,7 +129,7 @@ pub(crate) fn find_first_packed<C: Class<u16>>(bytes: &[u8]) -> Option<usize>
     ensures units { (k : ℕ) → slice_index (units_of_bytes bytes.now) k < 2 ^ 16 }
 {
     let (pairs, _) = bytes.as_chunks::<2>();
-    find_first::<[u8; 2], Pair<C>>(pairs)
+    find_first_soon::<[u8; 2], Pair<C>>(pairs)
 }
 
 /// Returns whether an element is in the class.

@@ -10,7 +10,7 @@ pub returns-clause-place : goal.returns-clause-place
 returns-clause-place g c =
     let p = g.C.Class.holds in
     let bytes = c.args.bytes.now in
-    c.find_first.ensures ∙ ap (position (λ pair. p (little_endian pair))) c.as_chunks.ensures.front ∙ position-chunks p 2 (length bytes / 2) bytes
+    c.find_first_soon.ensures ∙ ap (position (λ pair. p (little_endian pair))) c.as_chunks.ensures.front ∙ position-chunks p 2 (length bytes / 2) bytes
 
 pub returns-clause-units : goal.returns-clause-units
 returns-clause-units g c k =
