@@ -10,15 +10,28 @@ use crate::parts::{Bytes, Pieces, Text};
 use crate::rows::{Item, ItemOf, Items, Mode, Piece, PieceOf, Row, RowOf, Shape, Tail};
 use crate::words::{Word, WordOf, Words};
 
-/// Fields: the shape, the place, the width, and the number of the text that stands after it.
+/// Fields: the shape of one field or more, and for each of them the place, the width, and the number of the text
+/// that stands after it.
 macro_rules! pieces {
-    ($($shape:ident $(($words:ident))? $place:literal $width:literal $ending:literal),*) => {
-        [$(PieceOf {
+    ($($shape:ident: $($(($words:ident))? $place:literal $width:literal $ending:literal),+);+) => {
+        [$($(PieceOf {
             shape: Shape::$shape $((Words::$words))?,
             place: $place,
             width: $width,
             ending: Text { number: $ending },
-        }),*]
+        }),+),+]
+    };
+}
+
+/// Lists of bytes: the 16 bytes of a GUID at the places from 0 on, if the list begins with them, and then each
+/// place and its byte.
+macro_rules! bytes {
+    ($($([$b0:literal $b1:literal $b2:literal $b3:literal $b4:literal $b5:literal $b6:literal $b7:literal
+        $b8:literal $b9:literal $b10:literal $b11:literal $b12:literal $b13:literal $b14:literal
+        $b15:literal])? $($place:literal $byte:literal),*);+) => {
+        [$($((0, $b0), (1, $b1), (2, $b2), (3, $b3), (4, $b4), (5, $b5), (6, $b6), (7, $b7), (8, $b8),
+            (9, $b9), (10, $b10), (11, $b11), (12, $b12), (13, $b13), (14, $b14), (15, $b15),)?
+            $(($place, $byte),)*)+]
     };
 }
 
@@ -33,12 +46,13 @@ macro_rules! item {
     };
 }
 
-/// Rows: the type, the sub-type, the mode, the least length and what follows it, and then in the order of
-/// [`RowOf`] the tail, and the numbers of the parts.
+/// Rows: what one row or more of a kind share, which is the type, the sub-type, the mode, the least length and
+/// what follows it, the numbers of the close and the rest, and the tail; and for each of them the numbers of the
+/// other parts, in the order of [`RowOf`].
 macro_rules! rows {
-    ($($kind:literal $sub_kind:literal $mode:ident $least:literal $more:literal $when:literal $also:literal
-        $start:literal $pieces:literal $tail:ident $(($items:ident))? $close:literal $rest:literal),*) => {
-        [$(RowOf {
+    ($($kind:literal $sub_kind:literal $mode:ident $least:literal $more:literal $close:literal $rest:literal
+        $tail:expr => $($when:literal $also:literal $start:literal $pieces:literal),+);+) => {
+        [$($(RowOf {
             kind: $kind,
             sub_kind: $sub_kind,
             mode: Mode::$mode,
@@ -48,10 +62,10 @@ macro_rules! rows {
             also: Bytes { number: $also },
             start: Text { number: $start },
             pieces: Pieces { number: $pieces },
-            tail: Tail::$tail $((Items::$items))?,
+            tail: $tail,
             close: Text { number: $close },
             rest: Pieces { number: $rest },
-        }),*]
+        }),+),+]
     };
 }
 
@@ -109,156 +123,97 @@ pub const TEXT_STARTS: [u16; 189] = [
 /// The fields.
 #[rattlefmt::skip]
 pub const PIECES: [Piece; 909] = pieces!(
-    Hexadecimal 0 4 0, Decimal 0 1 3, Decimal 1 1 3, Decimal 2 1 3, Decimal 3 1 0, Forth 0 2 4,
-    Forth 2 2 4, Forth 4 2 4, Forth 6 2 4, Forth 8 2 4, Forth 10 2 4, Forth 12 2 4, Forth 14 2 0,
-    Hexadecimal 1 1 1, Hexadecimal 0 1 6, Hexadecimal 0 1 6, Hexadecimal 0 4 1, Hexadecimal 4 8 1,
-    Hexadecimal 12 8 6, Back 0 4 10, Back 4 2 10, Back 6 2 10, Forth 8 2 10, Forth 10 6 0,
-    Hexadecimal 0 4 6, Hexadecimal 0 1 1, Hexadecimal 1 8 6, Hexadecimal 4 4 6, Back 2 2 1,
-    Hexadecimal 4 4 6, Eisa 0 4 2, Eisa 8 4 1, Hexadecimal 4 4 2, Back 0 4 1, Hexadecimal 4 4 6,
-    Hexadecimal 20 8 1, Hexadecimal 28 8 1, Hexadecimal 38 2 24, Hexadecimal 16 4 6, Hexadecimal 20 8 1,
-    Hexadecimal 28 8 1, Hexadecimal 38 2 25, Hexadecimal 16 4 6, Hexadecimal 20 8 1, Hexadecimal 28 8 1,
-    Hexadecimal 38 2 26, Hexadecimal 16 4 6, Hexadecimal 20 8 1, Hexadecimal 28 8 1,
-    Hexadecimal 38 2 27, Hexadecimal 16 4 6, Hexadecimal 20 8 1, Hexadecimal 28 8 1,
-    Hexadecimal 38 2 28, Hexadecimal 16 4 6, Hexadecimal 20 8 1, Hexadecimal 28 8 1,
-    Hexadecimal 38 2 29, Hexadecimal 16 4 6, Hexadecimal 20 8 1, Hexadecimal 28 8 1,
-    Hexadecimal 38 2 30, Hexadecimal 16 4 6, Hexadecimal 20 8 1, Hexadecimal 28 8 1,
-    Hexadecimal 38 2 31, Hexadecimal 16 4 6, Hexadecimal 20 8 1, Hexadecimal 28 8 1,
-    Hexadecimal 38 2 32, Hexadecimal 16 4 6, Hexadecimal 20 8 1, Hexadecimal 28 8 1,
-    Hexadecimal 38 2 33, Next 37 1 1, Hexadecimal 16 4 6, Hexadecimal 20 8 1, Hexadecimal 28 8 1,
-    Hexadecimal 38 2 34, Next 37 1 1, Hexadecimal 16 4 6, Hexadecimal 20 8 1, Hexadecimal 28 8 1,
-    Hexadecimal 38 2 35, Next 37 1 1, Hexadecimal 16 4 6, Hexadecimal 20 8 1, Hexadecimal 28 8 1,
-    Hexadecimal 38 2 36, Next 37 1 1, Hexadecimal 16 4 6, Hexadecimal 20 8 1, Hexadecimal 28 8 1,
-    Hexadecimal 38 2 37, Next 37 1 1, Hexadecimal 16 4 6, Hexadecimal 20 8 1, Hexadecimal 28 8 1,
-    Hexadecimal 38 2 38, Next 37 1 1, Hexadecimal 16 4 6, Hexadecimal 20 8 1, Hexadecimal 28 8 1,
-    Hexadecimal 38 2 39, Next 37 1 1, Hexadecimal 16 4 6, Hexadecimal 20 8 1, Hexadecimal 28 8 1,
-    Hexadecimal 38 2 40, Next 37 1 1, Hexadecimal 16 4 6, Hexadecimal 20 8 1, Hexadecimal 28 8 1,
-    Hexadecimal 38 2 1, Hexadecimal 36 2 41, Hexadecimal 16 4 6, Forth 0 8 1, Forth 8 8 1,
-    Hexadecimal 18 2 43, Forth 0 8 1, Forth 8 8 1, Hexadecimal 18 2 44, Forth 0 8 1, Forth 8 8 1,
-    Hexadecimal 18 2 45, Forth 0 8 1, Forth 8 8 1, Hexadecimal 18 2 46, Forth 0 8 1, Forth 8 8 1,
-    Hexadecimal 18 2 47, Forth 0 8 1, Forth 8 8 1, Hexadecimal 18 2 48, Forth 0 8 1, Forth 8 8 1,
-    Hexadecimal 18 2 49, Forth 0 8 1, Forth 8 8 1, Hexadecimal 18 2 50, Forth 0 8 1, Forth 8 8 1,
-    Hexadecimal 18 2 51, Forth 0 8 1, Forth 8 8 1, Hexadecimal 18 2 33, Next 17 1 6, Forth 0 8 1,
-    Forth 8 8 1, Hexadecimal 18 2 34, Next 17 1 6, Forth 0 8 1, Forth 8 8 1, Hexadecimal 18 2 35,
-    Next 17 1 6, Forth 0 8 1, Forth 8 8 1, Hexadecimal 18 2 36, Next 17 1 6, Forth 0 8 1, Forth 8 8 1,
-    Hexadecimal 18 2 37, Next 17 1 6, Forth 0 8 1, Forth 8 8 1, Hexadecimal 18 2 38, Next 17 1 6,
-    Forth 0 8 1, Forth 8 8 1, Hexadecimal 18 2 39, Next 17 1 6, Forth 0 8 1, Forth 8 8 1,
-    Hexadecimal 18 2 40, Next 17 1 6, Forth 0 8 1, Forth 8 8 1, Hexadecimal 18 2 1, Hexadecimal 16 2 52,
-    Hexadecimal 2 2 6, Hexadecimal 0 2 1, Hexadecimal 2 2 6, Hexadecimal 4 8 1, Hexadecimal 12 8 6,
-    Back 4 8 6, Hexadecimal 0 1 1, Hexadecimal 1 1 6, Hexadecimal 0 4 2, Back 4 4 10, Back 8 2 10,
-    Back 10 2 10, Forth 12 2 10, Forth 14 6 1, Hexadecimal 20 8 1, Hexadecimal 28 8 1,
-    Hexadecimal 36 8 6, Forth 0 6 69, Forth 0 6 70, Forth 0 32 1, Hexadecimal 32 1 6, OrDefault 4 8 2,
-    OrDefault 12 1 2, Word(Parity) 13 1 0, Word(StopBits) 14 1 0, Hexadecimal 2 2 1, Hexadecimal 4 2 1,
-    Hexadecimal 0 2 73, Decimal 1 1 3, Decimal 2 1 3, Decimal 3 1 3, Decimal 4 1 0, Forth 1 2 4,
-    Forth 3 2 4, Forth 5 2 4, Forth 7 2 4, Forth 9 2 4, Forth 11 2 4, Forth 13 2 4, Forth 15 2 0,
-    Hexadecimal 0 2 1, Hexadecimal 2 2 1, Hexadecimal 4 2 6, Decimal 0 2 6, Forth 4 8 1, Forth 12 8 6,
-    Hexadecimal 0 4 2, Dashed 4 8 6, Hexadecimal 12 2 1, Forth 4 8 2, Word(Digests) 2 1 0,
-    Word(Login) 3 1 0, Word(Protocol) 0 2 0, Forth 0 6 6, Forth 0 6 1, Forth 6 1 6, Decimal 4 1 3,
-    Decimal 5 1 3, Decimal 6 1 3, Decimal 7 1 6, Decimal 4 1 3, Decimal 5 1 3, Decimal 6 1 3,
-    Decimal 7 1 90, Decimal 0 1 3, Decimal 1 1 3, Decimal 2 1 3, Decimal 3 1 2, Decimal 15 1 3,
-    Decimal 16 1 3, Decimal 17 1 3, Decimal 18 1 2, Decimal 19 1 3, Decimal 20 1 3, Decimal 21 1 3,
-    Decimal 22 1 6, Decimal 4 1 3, Decimal 5 1 3, Decimal 6 1 3, Decimal 7 1 91, Decimal 0 1 3,
-    Decimal 1 1 3, Decimal 2 1 3, Decimal 3 1 2, Decimal 15 1 3, Decimal 16 1 3, Decimal 17 1 3,
-    Decimal 18 1 2, Decimal 19 1 3, Decimal 20 1 3, Decimal 21 1 3, Decimal 22 1 6, Decimal 4 1 3,
-    Decimal 5 1 3, Decimal 6 1 3, Decimal 7 1 92, Decimal 0 1 3, Decimal 1 1 3, Decimal 2 1 3,
-    Decimal 3 1 2, Decimal 15 1 3, Decimal 16 1 3, Decimal 17 1 3, Decimal 18 1 2, Decimal 19 1 3,
-    Decimal 20 1 3, Decimal 21 1 3, Decimal 22 1 6, Decimal 4 1 3, Decimal 5 1 3, Decimal 6 1 3,
-    Decimal 7 1 93, Decimal 0 1 3, Decimal 1 1 3, Decimal 2 1 3, Decimal 3 1 2, Decimal 15 1 3,
-    Decimal 16 1 3, Decimal 17 1 3, Decimal 18 1 2, Decimal 19 1 3, Decimal 20 1 3, Decimal 21 1 3,
-    Decimal 22 1 6, Decimal 4 1 3, Decimal 5 1 3, Decimal 6 1 3, Decimal 7 1 1, Hexadecimal 12 2 94,
-    Decimal 0 1 3, Decimal 1 1 3, Decimal 2 1 3, Decimal 3 1 2, Decimal 15 1 3, Decimal 16 1 3,
-    Decimal 17 1 3, Decimal 18 1 2, Decimal 19 1 3, Decimal 20 1 3, Decimal 21 1 3, Decimal 22 1 6,
-    Decimal 4 1 3, Decimal 5 1 3, Decimal 6 1 3, Decimal 7 1 1, Hexadecimal 12 2 95, Decimal 0 1 3,
-    Decimal 1 1 3, Decimal 2 1 3, Decimal 3 1 2, Decimal 15 1 3, Decimal 16 1 3, Decimal 17 1 3,
-    Decimal 18 1 2, Decimal 19 1 3, Decimal 20 1 3, Decimal 21 1 3, Decimal 22 1 6, Decimal 4 1 3,
-    Decimal 5 1 3, Decimal 6 1 3, Decimal 7 1 90, Decimal 0 1 3, Decimal 1 1 3, Decimal 2 1 3,
-    Decimal 3 1 6, Decimal 4 1 3, Decimal 5 1 3, Decimal 6 1 3, Decimal 7 1 91, Decimal 0 1 3,
-    Decimal 1 1 3, Decimal 2 1 3, Decimal 3 1 6, Decimal 4 1 3, Decimal 5 1 3, Decimal 6 1 3,
-    Decimal 7 1 92, Decimal 0 1 3, Decimal 1 1 3, Decimal 2 1 3, Decimal 3 1 6, Decimal 4 1 3,
-    Decimal 5 1 3, Decimal 6 1 3, Decimal 7 1 93, Decimal 0 1 3, Decimal 1 1 3, Decimal 2 1 3,
-    Decimal 3 1 6, Decimal 4 1 3, Decimal 5 1 3, Decimal 6 1 3, Decimal 7 1 1, Hexadecimal 12 2 94,
-    Decimal 0 1 3, Decimal 1 1 3, Decimal 2 1 3, Decimal 3 1 6, Decimal 4 1 3, Decimal 5 1 3,
-    Decimal 6 1 3, Decimal 7 1 1, Hexadecimal 12 2 95, Decimal 0 1 3, Decimal 1 1 3, Decimal 2 1 3,
-    Decimal 3 1 6, Forth 16 2 4, Forth 18 2 4, Forth 20 2 4, Forth 22 2 4, Forth 24 2 4, Forth 26 2 4,
-    Forth 28 2 4, Forth 30 2 6, Forth 16 2 4, Forth 18 2 4, Forth 20 2 4, Forth 22 2 4, Forth 24 2 4,
-    Forth 26 2 4, Forth 28 2 4, Forth 30 2 91, Forth 0 2 4, Forth 2 2 4, Forth 4 2 4, Forth 6 2 4,
-    Forth 8 2 4, Forth 10 2 4, Forth 12 2 4, Forth 14 2 1, Hexadecimal 39 1 2, Forth 40 2 4,
-    Forth 42 2 4, Forth 44 2 4, Forth 46 2 4, Forth 48 2 4, Forth 50 2 4, Forth 52 2 4, Forth 54 2 6,
-    Forth 16 2 4, Forth 18 2 4, Forth 20 2 4, Forth 22 2 4, Forth 24 2 4, Forth 26 2 4, Forth 28 2 4,
-    Forth 30 2 97, Forth 0 2 4, Forth 2 2 4, Forth 4 2 4, Forth 6 2 4, Forth 8 2 4, Forth 10 2 4,
-    Forth 12 2 4, Forth 14 2 1, Hexadecimal 39 1 2, Forth 40 2 4, Forth 42 2 4, Forth 44 2 4,
-    Forth 46 2 4, Forth 48 2 4, Forth 50 2 4, Forth 52 2 4, Forth 54 2 6, Forth 16 2 4, Forth 18 2 4,
-    Forth 20 2 4, Forth 22 2 4, Forth 24 2 4, Forth 26 2 4, Forth 28 2 4, Forth 30 2 98, Forth 0 2 4,
-    Forth 2 2 4, Forth 4 2 4, Forth 6 2 4, Forth 8 2 4, Forth 10 2 4, Forth 12 2 4, Forth 14 2 1,
-    Hexadecimal 39 1 2, Forth 40 2 4, Forth 42 2 4, Forth 44 2 4, Forth 46 2 4, Forth 48 2 4,
-    Forth 50 2 4, Forth 52 2 4, Forth 54 2 6, Forth 16 2 4, Forth 18 2 4, Forth 20 2 4, Forth 22 2 4,
-    Forth 24 2 4, Forth 26 2 4, Forth 28 2 4, Forth 30 2 93, Forth 0 2 4, Forth 2 2 4, Forth 4 2 4,
-    Forth 6 2 4, Forth 8 2 4, Forth 10 2 4, Forth 12 2 4, Forth 14 2 1, Hexadecimal 39 1 2,
-    Forth 40 2 4, Forth 42 2 4, Forth 44 2 4, Forth 46 2 4, Forth 48 2 4, Forth 50 2 4, Forth 52 2 4,
-    Forth 54 2 6, Forth 16 2 4, Forth 18 2 4, Forth 20 2 4, Forth 22 2 4, Forth 24 2 4, Forth 26 2 4,
-    Forth 28 2 4, Forth 30 2 99, Forth 0 2 4, Forth 2 2 4, Forth 4 2 4, Forth 6 2 4, Forth 8 2 4,
-    Forth 10 2 4, Forth 12 2 4, Forth 14 2 1, Hexadecimal 39 1 2, Forth 40 2 4, Forth 42 2 4,
-    Forth 44 2 4, Forth 46 2 4, Forth 48 2 4, Forth 50 2 4, Forth 52 2 4, Forth 54 2 6, Forth 16 2 4,
-    Forth 18 2 4, Forth 20 2 4, Forth 22 2 4, Forth 24 2 4, Forth 26 2 4, Forth 28 2 4, Forth 30 2 100,
-    Forth 0 2 4, Forth 2 2 4, Forth 4 2 4, Forth 6 2 4, Forth 8 2 4, Forth 10 2 4, Forth 12 2 4,
-    Forth 14 2 1, Hexadecimal 39 1 2, Forth 40 2 4, Forth 42 2 4, Forth 44 2 4, Forth 46 2 4,
-    Forth 48 2 4, Forth 50 2 4, Forth 52 2 4, Forth 54 2 6, Forth 16 2 4, Forth 18 2 4, Forth 20 2 4,
-    Forth 22 2 4, Forth 24 2 4, Forth 26 2 4, Forth 28 2 4, Forth 30 2 1, Hexadecimal 36 2 95,
-    Forth 0 2 4, Forth 2 2 4, Forth 4 2 4, Forth 6 2 4, Forth 8 2 4, Forth 10 2 4, Forth 12 2 4,
-    Forth 14 2 1, Hexadecimal 39 1 2, Forth 40 2 4, Forth 42 2 4, Forth 44 2 4, Forth 46 2 4,
-    Forth 48 2 4, Forth 50 2 4, Forth 52 2 4, Forth 54 2 6, Forth 16 2 4, Forth 18 2 4, Forth 20 2 4,
-    Forth 22 2 4, Forth 24 2 4, Forth 26 2 4, Forth 28 2 4, Forth 30 2 1, Hexadecimal 36 2 101,
-    Forth 0 2 4, Forth 2 2 4, Forth 4 2 4, Forth 6 2 4, Forth 8 2 4, Forth 10 2 4, Forth 12 2 4,
-    Forth 14 2 1, Hexadecimal 39 1 2, Forth 40 2 4, Forth 42 2 4, Forth 44 2 4, Forth 46 2 4,
-    Forth 48 2 4, Forth 50 2 4, Forth 52 2 4, Forth 54 2 6, Forth 16 2 4, Forth 18 2 4, Forth 20 2 4,
-    Forth 22 2 4, Forth 24 2 4, Forth 26 2 4, Forth 28 2 4, Forth 30 2 1, Hexadecimal 36 2 102,
-    Forth 0 2 4, Forth 2 2 4, Forth 4 2 4, Forth 6 2 4, Forth 8 2 4, Forth 10 2 4, Forth 12 2 4,
-    Forth 14 2 1, Hexadecimal 39 1 2, Forth 40 2 4, Forth 42 2 4, Forth 44 2 4, Forth 46 2 4,
-    Forth 48 2 4, Forth 50 2 4, Forth 52 2 4, Forth 54 2 6, Forth 16 2 4, Forth 18 2 4, Forth 20 2 4,
-    Forth 22 2 4, Forth 24 2 4, Forth 26 2 4, Forth 28 2 4, Forth 30 2 91, Forth 0 2 4, Forth 2 2 4,
-    Forth 4 2 4, Forth 6 2 4, Forth 8 2 4, Forth 10 2 4, Forth 12 2 4, Forth 14 2 6, Forth 16 2 4,
-    Forth 18 2 4, Forth 20 2 4, Forth 22 2 4, Forth 24 2 4, Forth 26 2 4, Forth 28 2 4, Forth 30 2 97,
-    Forth 0 2 4, Forth 2 2 4, Forth 4 2 4, Forth 6 2 4, Forth 8 2 4, Forth 10 2 4, Forth 12 2 4,
-    Forth 14 2 6, Forth 16 2 4, Forth 18 2 4, Forth 20 2 4, Forth 22 2 4, Forth 24 2 4, Forth 26 2 4,
-    Forth 28 2 4, Forth 30 2 98, Forth 0 2 4, Forth 2 2 4, Forth 4 2 4, Forth 6 2 4, Forth 8 2 4,
-    Forth 10 2 4, Forth 12 2 4, Forth 14 2 6, Forth 16 2 4, Forth 18 2 4, Forth 20 2 4, Forth 22 2 4,
-    Forth 24 2 4, Forth 26 2 4, Forth 28 2 4, Forth 30 2 93, Forth 0 2 4, Forth 2 2 4, Forth 4 2 4,
-    Forth 6 2 4, Forth 8 2 4, Forth 10 2 4, Forth 12 2 4, Forth 14 2 6, Forth 16 2 4, Forth 18 2 4,
-    Forth 20 2 4, Forth 22 2 4, Forth 24 2 4, Forth 26 2 4, Forth 28 2 4, Forth 30 2 99, Forth 0 2 4,
-    Forth 2 2 4, Forth 4 2 4, Forth 6 2 4, Forth 8 2 4, Forth 10 2 4, Forth 12 2 4, Forth 14 2 6,
-    Forth 16 2 4, Forth 18 2 4, Forth 20 2 4, Forth 22 2 4, Forth 24 2 4, Forth 26 2 4, Forth 28 2 4,
-    Forth 30 2 100, Forth 0 2 4, Forth 2 2 4, Forth 4 2 4, Forth 6 2 4, Forth 8 2 4, Forth 10 2 4,
-    Forth 12 2 4, Forth 14 2 6, Forth 16 2 4, Forth 18 2 4, Forth 20 2 4, Forth 22 2 4, Forth 24 2 4,
-    Forth 26 2 4, Forth 28 2 4, Forth 30 2 1, Hexadecimal 36 2 95, Forth 0 2 4, Forth 2 2 4,
-    Forth 4 2 4, Forth 6 2 4, Forth 8 2 4, Forth 10 2 4, Forth 12 2 4, Forth 14 2 6, Forth 16 2 4,
-    Forth 18 2 4, Forth 20 2 4, Forth 22 2 4, Forth 24 2 4, Forth 26 2 4, Forth 28 2 4, Forth 30 2 1,
-    Hexadecimal 36 2 101, Forth 0 2 4, Forth 2 2 4, Forth 4 2 4, Forth 6 2 4, Forth 8 2 4, Forth 10 2 4,
-    Forth 12 2 4, Forth 14 2 6, Forth 16 2 4, Forth 18 2 4, Forth 20 2 4, Forth 22 2 4, Forth 24 2 4,
-    Forth 26 2 4, Forth 28 2 4, Forth 30 2 1, Hexadecimal 36 2 102, Forth 0 2 4, Forth 2 2 4,
-    Forth 4 2 4, Forth 6 2 4, Forth 8 2 4, Forth 10 2 4, Forth 12 2 4, Forth 14 2 6, Hexadecimal 0 2 1,
-    Hexadecimal 2 2 1, Hexadecimal 5 1 1, Hexadecimal 6 1 6, Hexadecimal 0 2 1, Hexadecimal 2 2 1,
-    Hexadecimal 6 1 6, Hexadecimal 0 2 1, Hexadecimal 2 2 1, Hexadecimal 4 1 1, Hexadecimal 5 1 1,
-    Hexadecimal 6 1 6, Decimal 0 4 120, Back 20 4 1, Hexadecimal 4 8 1, Hexadecimal 12 8 6,
-    Decimal 0 4 121, Back 20 4 10, Back 24 2 10, Back 26 2 10, Forth 28 2 10, Forth 30 6 1,
-    Hexadecimal 4 8 1, Hexadecimal 12 8 6, Decimal 0 4 2, Decimal 37 1 122, Hexadecimal 4 8 1,
-    Hexadecimal 12 8 6, Back 0 4 10, Back 4 2 10, Back 6 2 10, Forth 8 2 10, Forth 10 6 6,
-    Hexadecimal 0 8 1, Hexadecimal 8 8 2, Decimal 32 2 6, Hexadecimal 0 8 1, Hexadecimal 8 8 2,
-    Decimal 32 2 2, Back 16 4 10, Back 20 2 10, Back 22 2 10, Forth 24 2 10, Forth 26 6 6,
-    Hexadecimal 0 2 2, Decimal 0 1 2, Decimal 1 1 2, Decimal 2 2 6, Hexadecimal 0 4 2, Forth 4 1 10,
-    Forth 5 1 10, Forth 6 1 10, Forth 7 1 10, Forth 8 1 10, Forth 9 1 10, Forth 10 1 10, Forth 11 1 6,
-    Hexadecimal 20 8 1, Hexadecimal 28 8 1, Hexadecimal 38 2 6, Hexadecimal 20 8 1, Hexadecimal 28 8 1,
-    Hexadecimal 38 2 172, Forth 0 8 6, Forth 0 6 1, Hexadecimal 32 1 6, Forth 0 1 4, Forth 1 1 4,
-    Forth 2 1 4, Forth 3 1 4, Forth 4 1 4, Forth 5 1 1, Hexadecimal 32 1 6, Forth 0 1 10, Forth 1 1 10,
-    Forth 2 1 10, Forth 3 1 10, Forth 4 1 10, Forth 5 1 1, Hexadecimal 32 1 6, Decimal 4 1 3,
-    Decimal 5 1 3, Decimal 6 1 3, Decimal 7 1 178, Decimal 4 1 3, Decimal 5 1 3, Decimal 6 1 3,
-    Decimal 7 1 179, Decimal 4 1 3, Decimal 5 1 3, Decimal 6 1 3, Decimal 7 1 180, Decimal 4 1 3,
-    Decimal 5 1 3, Decimal 6 1 3, Decimal 7 1 181, Decimal 4 1 3, Decimal 5 1 3, Decimal 6 1 3,
-    Decimal 7 1 182, Decimal 4 1 3, Decimal 5 1 3, Decimal 6 1 3, Decimal 7 1 183, Forth 4 8 69,
-    Forth 0 1 4, Forth 1 1 4, Forth 2 1 4, Forth 3 1 4, Forth 4 1 4, Forth 5 1 6, Forth 0 1 10,
-    Forth 1 1 10, Forth 2 1 10, Forth 3 1 10, Forth 4 1 10, Forth 5 1 6, Forth 0 6 1, Hexadecimal 6 1 6,
-    Forth 0 1 10, Forth 1 1 10, Forth 2 1 10, Forth 3 1 10, Forth 4 1 10, Forth 5 1 1,
-    Hexadecimal 6 1 6, Forth 0 1 4, Forth 1 1 4, Forth 2 1 4, Forth 3 1 4, Forth 4 1 4, Forth 5 1 1,
-    Hexadecimal 6 1 6, Decimal 0 4 120, Hexadecimal 20 4 1, Hexadecimal 4 8 1, Hexadecimal 12 8 6,
-    Eisa 0 4 2, Eisa 8 4 2
+    Hexadecimal: 0 4 0; Decimal: 0 1 3, 1 1 3, 2 1 3, 3 1 0; Forth: 0 2 4, 2 2 4, 4 2 4, 6 2 4, 8 2 4,
+    10 2 4, 12 2 4, 14 2 0; Hexadecimal: 1 1 1, 0 1 6, 0 1 6, 0 4 1, 4 8 1, 12 8 6; Back: 0 4 10,
+    4 2 10, 6 2 10; Forth: 8 2 10, 10 6 0; Hexadecimal: 0 4 6, 0 1 1, 1 8 6, 4 4 6; Back: 2 2 1;
+    Hexadecimal: 4 4 6; Eisa: 0 4 2, 8 4 1; Hexadecimal: 4 4 2; Back: 0 4 1; Hexadecimal: 4 4 6, 20 8 1,
+    28 8 1, 38 2 24, 16 4 6, 20 8 1, 28 8 1, 38 2 25, 16 4 6, 20 8 1, 28 8 1, 38 2 26, 16 4 6, 20 8 1,
+    28 8 1, 38 2 27, 16 4 6, 20 8 1, 28 8 1, 38 2 28, 16 4 6, 20 8 1, 28 8 1, 38 2 29, 16 4 6, 20 8 1,
+    28 8 1, 38 2 30, 16 4 6, 20 8 1, 28 8 1, 38 2 31, 16 4 6, 20 8 1, 28 8 1, 38 2 32, 16 4 6, 20 8 1,
+    28 8 1, 38 2 33; Next: 37 1 1; Hexadecimal: 16 4 6, 20 8 1, 28 8 1, 38 2 34; Next: 37 1 1;
+    Hexadecimal: 16 4 6, 20 8 1, 28 8 1, 38 2 35; Next: 37 1 1; Hexadecimal: 16 4 6, 20 8 1, 28 8 1,
+    38 2 36; Next: 37 1 1; Hexadecimal: 16 4 6, 20 8 1, 28 8 1, 38 2 37; Next: 37 1 1;
+    Hexadecimal: 16 4 6, 20 8 1, 28 8 1, 38 2 38; Next: 37 1 1; Hexadecimal: 16 4 6, 20 8 1, 28 8 1,
+    38 2 39; Next: 37 1 1; Hexadecimal: 16 4 6, 20 8 1, 28 8 1, 38 2 40; Next: 37 1 1;
+    Hexadecimal: 16 4 6, 20 8 1, 28 8 1, 38 2 1, 36 2 41, 16 4 6; Forth: 0 8 1, 8 8 1;
+    Hexadecimal: 18 2 43; Forth: 0 8 1, 8 8 1; Hexadecimal: 18 2 44; Forth: 0 8 1, 8 8 1;
+    Hexadecimal: 18 2 45; Forth: 0 8 1, 8 8 1; Hexadecimal: 18 2 46; Forth: 0 8 1, 8 8 1;
+    Hexadecimal: 18 2 47; Forth: 0 8 1, 8 8 1; Hexadecimal: 18 2 48; Forth: 0 8 1, 8 8 1;
+    Hexadecimal: 18 2 49; Forth: 0 8 1, 8 8 1; Hexadecimal: 18 2 50; Forth: 0 8 1, 8 8 1;
+    Hexadecimal: 18 2 51; Forth: 0 8 1, 8 8 1; Hexadecimal: 18 2 33; Next: 17 1 6; Forth: 0 8 1, 8 8 1;
+    Hexadecimal: 18 2 34; Next: 17 1 6; Forth: 0 8 1, 8 8 1; Hexadecimal: 18 2 35; Next: 17 1 6;
+    Forth: 0 8 1, 8 8 1; Hexadecimal: 18 2 36; Next: 17 1 6; Forth: 0 8 1, 8 8 1; Hexadecimal: 18 2 37;
+    Next: 17 1 6; Forth: 0 8 1, 8 8 1; Hexadecimal: 18 2 38; Next: 17 1 6; Forth: 0 8 1, 8 8 1;
+    Hexadecimal: 18 2 39; Next: 17 1 6; Forth: 0 8 1, 8 8 1; Hexadecimal: 18 2 40; Next: 17 1 6;
+    Forth: 0 8 1, 8 8 1; Hexadecimal: 18 2 1, 16 2 52, 2 2 6, 0 2 1, 2 2 6, 4 8 1, 12 8 6; Back: 4 8 6;
+    Hexadecimal: 0 1 1, 1 1 6, 0 4 2; Back: 4 4 10, 8 2 10, 10 2 10; Forth: 12 2 10, 14 6 1;
+    Hexadecimal: 20 8 1, 28 8 1, 36 8 6; Forth: 0 6 69, 0 6 70, 0 32 1; Hexadecimal: 32 1 6;
+    OrDefault: 4 8 2, 12 1 2; Word: (Parity) 13 1 0, (StopBits) 14 1 0; Hexadecimal: 2 2 1, 4 2 1,
+    0 2 73; Decimal: 1 1 3, 2 1 3, 3 1 3, 4 1 0; Forth: 1 2 4, 3 2 4, 5 2 4, 7 2 4, 9 2 4, 11 2 4,
+    13 2 4, 15 2 0; Hexadecimal: 0 2 1, 2 2 1, 4 2 6; Decimal: 0 2 6; Forth: 4 8 1, 12 8 6;
+    Hexadecimal: 0 4 2; Dashed: 4 8 6; Hexadecimal: 12 2 1; Forth: 4 8 2; Word: (Digests) 2 1 0,
+    (Login) 3 1 0, (Protocol) 0 2 0; Forth: 0 6 6, 0 6 1, 6 1 6; Decimal: 4 1 3, 5 1 3, 6 1 3, 7 1 6,
+    4 1 3, 5 1 3, 6 1 3, 7 1 90, 0 1 3, 1 1 3, 2 1 3, 3 1 2, 15 1 3, 16 1 3, 17 1 3, 18 1 2, 19 1 3,
+    20 1 3, 21 1 3, 22 1 6, 4 1 3, 5 1 3, 6 1 3, 7 1 91, 0 1 3, 1 1 3, 2 1 3, 3 1 2, 15 1 3, 16 1 3,
+    17 1 3, 18 1 2, 19 1 3, 20 1 3, 21 1 3, 22 1 6, 4 1 3, 5 1 3, 6 1 3, 7 1 92, 0 1 3, 1 1 3, 2 1 3,
+    3 1 2, 15 1 3, 16 1 3, 17 1 3, 18 1 2, 19 1 3, 20 1 3, 21 1 3, 22 1 6, 4 1 3, 5 1 3, 6 1 3, 7 1 93,
+    0 1 3, 1 1 3, 2 1 3, 3 1 2, 15 1 3, 16 1 3, 17 1 3, 18 1 2, 19 1 3, 20 1 3, 21 1 3, 22 1 6, 4 1 3,
+    5 1 3, 6 1 3, 7 1 1; Hexadecimal: 12 2 94; Decimal: 0 1 3, 1 1 3, 2 1 3, 3 1 2, 15 1 3, 16 1 3,
+    17 1 3, 18 1 2, 19 1 3, 20 1 3, 21 1 3, 22 1 6, 4 1 3, 5 1 3, 6 1 3, 7 1 1; Hexadecimal: 12 2 95;
+    Decimal: 0 1 3, 1 1 3, 2 1 3, 3 1 2, 15 1 3, 16 1 3, 17 1 3, 18 1 2, 19 1 3, 20 1 3, 21 1 3, 22 1 6,
+    4 1 3, 5 1 3, 6 1 3, 7 1 90, 0 1 3, 1 1 3, 2 1 3, 3 1 6, 4 1 3, 5 1 3, 6 1 3, 7 1 91, 0 1 3, 1 1 3,
+    2 1 3, 3 1 6, 4 1 3, 5 1 3, 6 1 3, 7 1 92, 0 1 3, 1 1 3, 2 1 3, 3 1 6, 4 1 3, 5 1 3, 6 1 3, 7 1 93,
+    0 1 3, 1 1 3, 2 1 3, 3 1 6, 4 1 3, 5 1 3, 6 1 3, 7 1 1; Hexadecimal: 12 2 94; Decimal: 0 1 3, 1 1 3,
+    2 1 3, 3 1 6, 4 1 3, 5 1 3, 6 1 3, 7 1 1; Hexadecimal: 12 2 95; Decimal: 0 1 3, 1 1 3, 2 1 3, 3 1 6;
+    Forth: 16 2 4, 18 2 4, 20 2 4, 22 2 4, 24 2 4, 26 2 4, 28 2 4, 30 2 6, 16 2 4, 18 2 4, 20 2 4,
+    22 2 4, 24 2 4, 26 2 4, 28 2 4, 30 2 91, 0 2 4, 2 2 4, 4 2 4, 6 2 4, 8 2 4, 10 2 4, 12 2 4, 14 2 1;
+    Hexadecimal: 39 1 2; Forth: 40 2 4, 42 2 4, 44 2 4, 46 2 4, 48 2 4, 50 2 4, 52 2 4, 54 2 6, 16 2 4,
+    18 2 4, 20 2 4, 22 2 4, 24 2 4, 26 2 4, 28 2 4, 30 2 97, 0 2 4, 2 2 4, 4 2 4, 6 2 4, 8 2 4, 10 2 4,
+    12 2 4, 14 2 1; Hexadecimal: 39 1 2; Forth: 40 2 4, 42 2 4, 44 2 4, 46 2 4, 48 2 4, 50 2 4, 52 2 4,
+    54 2 6, 16 2 4, 18 2 4, 20 2 4, 22 2 4, 24 2 4, 26 2 4, 28 2 4, 30 2 98, 0 2 4, 2 2 4, 4 2 4, 6 2 4,
+    8 2 4, 10 2 4, 12 2 4, 14 2 1; Hexadecimal: 39 1 2; Forth: 40 2 4, 42 2 4, 44 2 4, 46 2 4, 48 2 4,
+    50 2 4, 52 2 4, 54 2 6, 16 2 4, 18 2 4, 20 2 4, 22 2 4, 24 2 4, 26 2 4, 28 2 4, 30 2 93, 0 2 4,
+    2 2 4, 4 2 4, 6 2 4, 8 2 4, 10 2 4, 12 2 4, 14 2 1; Hexadecimal: 39 1 2; Forth: 40 2 4, 42 2 4,
+    44 2 4, 46 2 4, 48 2 4, 50 2 4, 52 2 4, 54 2 6, 16 2 4, 18 2 4, 20 2 4, 22 2 4, 24 2 4, 26 2 4,
+    28 2 4, 30 2 99, 0 2 4, 2 2 4, 4 2 4, 6 2 4, 8 2 4, 10 2 4, 12 2 4, 14 2 1; Hexadecimal: 39 1 2;
+    Forth: 40 2 4, 42 2 4, 44 2 4, 46 2 4, 48 2 4, 50 2 4, 52 2 4, 54 2 6, 16 2 4, 18 2 4, 20 2 4,
+    22 2 4, 24 2 4, 26 2 4, 28 2 4, 30 2 100, 0 2 4, 2 2 4, 4 2 4, 6 2 4, 8 2 4, 10 2 4, 12 2 4, 14 2 1;
+    Hexadecimal: 39 1 2; Forth: 40 2 4, 42 2 4, 44 2 4, 46 2 4, 48 2 4, 50 2 4, 52 2 4, 54 2 6, 16 2 4,
+    18 2 4, 20 2 4, 22 2 4, 24 2 4, 26 2 4, 28 2 4, 30 2 1; Hexadecimal: 36 2 95; Forth: 0 2 4, 2 2 4,
+    4 2 4, 6 2 4, 8 2 4, 10 2 4, 12 2 4, 14 2 1; Hexadecimal: 39 1 2; Forth: 40 2 4, 42 2 4, 44 2 4,
+    46 2 4, 48 2 4, 50 2 4, 52 2 4, 54 2 6, 16 2 4, 18 2 4, 20 2 4, 22 2 4, 24 2 4, 26 2 4, 28 2 4,
+    30 2 1; Hexadecimal: 36 2 101; Forth: 0 2 4, 2 2 4, 4 2 4, 6 2 4, 8 2 4, 10 2 4, 12 2 4, 14 2 1;
+    Hexadecimal: 39 1 2; Forth: 40 2 4, 42 2 4, 44 2 4, 46 2 4, 48 2 4, 50 2 4, 52 2 4, 54 2 6, 16 2 4,
+    18 2 4, 20 2 4, 22 2 4, 24 2 4, 26 2 4, 28 2 4, 30 2 1; Hexadecimal: 36 2 102; Forth: 0 2 4, 2 2 4,
+    4 2 4, 6 2 4, 8 2 4, 10 2 4, 12 2 4, 14 2 1; Hexadecimal: 39 1 2; Forth: 40 2 4, 42 2 4, 44 2 4,
+    46 2 4, 48 2 4, 50 2 4, 52 2 4, 54 2 6, 16 2 4, 18 2 4, 20 2 4, 22 2 4, 24 2 4, 26 2 4, 28 2 4,
+    30 2 91, 0 2 4, 2 2 4, 4 2 4, 6 2 4, 8 2 4, 10 2 4, 12 2 4, 14 2 6, 16 2 4, 18 2 4, 20 2 4, 22 2 4,
+    24 2 4, 26 2 4, 28 2 4, 30 2 97, 0 2 4, 2 2 4, 4 2 4, 6 2 4, 8 2 4, 10 2 4, 12 2 4, 14 2 6, 16 2 4,
+    18 2 4, 20 2 4, 22 2 4, 24 2 4, 26 2 4, 28 2 4, 30 2 98, 0 2 4, 2 2 4, 4 2 4, 6 2 4, 8 2 4, 10 2 4,
+    12 2 4, 14 2 6, 16 2 4, 18 2 4, 20 2 4, 22 2 4, 24 2 4, 26 2 4, 28 2 4, 30 2 93, 0 2 4, 2 2 4,
+    4 2 4, 6 2 4, 8 2 4, 10 2 4, 12 2 4, 14 2 6, 16 2 4, 18 2 4, 20 2 4, 22 2 4, 24 2 4, 26 2 4, 28 2 4,
+    30 2 99, 0 2 4, 2 2 4, 4 2 4, 6 2 4, 8 2 4, 10 2 4, 12 2 4, 14 2 6, 16 2 4, 18 2 4, 20 2 4, 22 2 4,
+    24 2 4, 26 2 4, 28 2 4, 30 2 100, 0 2 4, 2 2 4, 4 2 4, 6 2 4, 8 2 4, 10 2 4, 12 2 4, 14 2 6, 16 2 4,
+    18 2 4, 20 2 4, 22 2 4, 24 2 4, 26 2 4, 28 2 4, 30 2 1; Hexadecimal: 36 2 95; Forth: 0 2 4, 2 2 4,
+    4 2 4, 6 2 4, 8 2 4, 10 2 4, 12 2 4, 14 2 6, 16 2 4, 18 2 4, 20 2 4, 22 2 4, 24 2 4, 26 2 4, 28 2 4,
+    30 2 1; Hexadecimal: 36 2 101; Forth: 0 2 4, 2 2 4, 4 2 4, 6 2 4, 8 2 4, 10 2 4, 12 2 4, 14 2 6,
+    16 2 4, 18 2 4, 20 2 4, 22 2 4, 24 2 4, 26 2 4, 28 2 4, 30 2 1; Hexadecimal: 36 2 102; Forth: 0 2 4,
+    2 2 4, 4 2 4, 6 2 4, 8 2 4, 10 2 4, 12 2 4, 14 2 6; Hexadecimal: 0 2 1, 2 2 1, 5 1 1, 6 1 6, 0 2 1,
+    2 2 1, 6 1 6, 0 2 1, 2 2 1, 4 1 1, 5 1 1, 6 1 6; Decimal: 0 4 120; Back: 20 4 1; Hexadecimal: 4 8 1,
+    12 8 6; Decimal: 0 4 121; Back: 20 4 10, 24 2 10, 26 2 10; Forth: 28 2 10, 30 6 1;
+    Hexadecimal: 4 8 1, 12 8 6; Decimal: 0 4 2, 37 1 122; Hexadecimal: 4 8 1, 12 8 6; Back: 0 4 10,
+    4 2 10, 6 2 10; Forth: 8 2 10, 10 6 6; Hexadecimal: 0 8 1, 8 8 2; Decimal: 32 2 6;
+    Hexadecimal: 0 8 1, 8 8 2; Decimal: 32 2 2; Back: 16 4 10, 20 2 10, 22 2 10; Forth: 24 2 10, 26 6 6;
+    Hexadecimal: 0 2 2; Decimal: 0 1 2, 1 1 2, 2 2 6; Hexadecimal: 0 4 2; Forth: 4 1 10, 5 1 10, 6 1 10,
+    7 1 10, 8 1 10, 9 1 10, 10 1 10, 11 1 6; Hexadecimal: 20 8 1, 28 8 1, 38 2 6, 20 8 1, 28 8 1,
+    38 2 172; Forth: 0 8 6, 0 6 1; Hexadecimal: 32 1 6; Forth: 0 1 4, 1 1 4, 2 1 4, 3 1 4, 4 1 4, 5 1 1;
+    Hexadecimal: 32 1 6; Forth: 0 1 10, 1 1 10, 2 1 10, 3 1 10, 4 1 10, 5 1 1; Hexadecimal: 32 1 6;
+    Decimal: 4 1 3, 5 1 3, 6 1 3, 7 1 178, 4 1 3, 5 1 3, 6 1 3, 7 1 179, 4 1 3, 5 1 3, 6 1 3, 7 1 180,
+    4 1 3, 5 1 3, 6 1 3, 7 1 181, 4 1 3, 5 1 3, 6 1 3, 7 1 182, 4 1 3, 5 1 3, 6 1 3, 7 1 183;
+    Forth: 4 8 69, 0 1 4, 1 1 4, 2 1 4, 3 1 4, 4 1 4, 5 1 6, 0 1 10, 1 1 10, 2 1 10, 3 1 10, 4 1 10,
+    5 1 6, 0 6 1; Hexadecimal: 6 1 6; Forth: 0 1 10, 1 1 10, 2 1 10, 3 1 10, 4 1 10, 5 1 1;
+    Hexadecimal: 6 1 6; Forth: 0 1 4, 1 1 4, 2 1 4, 3 1 4, 4 1 4, 5 1 1; Hexadecimal: 6 1 6;
+    Decimal: 0 4 120; Hexadecimal: 20 4 1, 4 8 1, 12 8 6; Eisa: 0 4 2, 8 4 2
 );
 
 /// Where each list of fields begins.
@@ -275,79 +230,41 @@ pub const PIECE_STARTS: [u16; 135] = [
 
 /// The places and the bytes.
 #[rattlefmt::skip]
-pub const BYTES: [(u8, u8); 700] = [
-    (0, 208), (1, 65), (2, 3), (3, 10), (0, 208), (1, 65), (2, 8), (3, 10), (0, 208), (1, 65), (2, 4),
-    (3, 6), (0, 208), (1, 65), (2, 1), (3, 3), (0, 208), (1, 65), (2, 1), (3, 5), (0, 208), (1, 65),
-    (2, 1), (3, 4), (0, 208), (1, 65), (0, 180), (1, 221), (2, 135), (3, 212), (4, 139), (5, 0),
-    (6, 217), (7, 17), (8, 175), (9, 220), (10, 0), (11, 16), (12, 131), (13, 255), (14, 202), (15, 77),
-    (36, 0), (37, 0), (0, 180), (1, 221), (2, 135), (3, 212), (4, 139), (5, 0), (6, 217), (7, 17),
-    (8, 175), (9, 220), (10, 0), (11, 16), (12, 131), (13, 255), (14, 202), (15, 77), (36, 1), (37, 0),
-    (0, 180), (1, 221), (2, 135), (3, 212), (4, 139), (5, 0), (6, 217), (7, 17), (8, 175), (9, 220),
-    (10, 0), (11, 16), (12, 131), (13, 255), (14, 202), (15, 77), (36, 17), (37, 0), (0, 180), (1, 221),
-    (2, 135), (3, 212), (4, 139), (5, 0), (6, 217), (7, 17), (8, 175), (9, 220), (10, 0), (11, 16),
-    (12, 131), (13, 255), (14, 202), (15, 77), (36, 33), (37, 0), (0, 180), (1, 221), (2, 135),
-    (3, 212), (4, 139), (5, 0), (6, 217), (7, 17), (8, 175), (9, 220), (10, 0), (11, 16), (12, 131),
-    (13, 255), (14, 202), (15, 77), (36, 49), (37, 0), (0, 180), (1, 221), (2, 135), (3, 212), (4, 139),
-    (5, 0), (6, 217), (7, 17), (8, 175), (9, 220), (10, 0), (11, 16), (12, 131), (13, 255), (14, 202),
-    (15, 77), (36, 65), (37, 0), (0, 180), (1, 221), (2, 135), (3, 212), (4, 139), (5, 0), (6, 217),
-    (7, 17), (8, 175), (9, 220), (10, 0), (11, 16), (12, 131), (13, 255), (14, 202), (15, 77), (36, 81),
-    (37, 0), (0, 180), (1, 221), (2, 135), (3, 212), (4, 139), (5, 0), (6, 217), (7, 17), (8, 175),
-    (9, 220), (10, 0), (11, 16), (12, 131), (13, 255), (14, 202), (15, 77), (36, 97), (37, 0), (0, 180),
-    (1, 221), (2, 135), (3, 212), (4, 139), (5, 0), (6, 217), (7, 17), (8, 175), (9, 220), (10, 0),
-    (11, 16), (12, 131), (13, 255), (14, 202), (15, 77), (36, 113), (37, 0), (0, 180), (1, 221),
-    (2, 135), (3, 212), (4, 139), (5, 0), (6, 217), (7, 17), (8, 175), (9, 220), (10, 0), (11, 16),
-    (12, 131), (13, 255), (14, 202), (15, 77), (36, 2), (0, 180), (1, 221), (2, 135), (3, 212),
-    (4, 139), (5, 0), (6, 217), (7, 17), (8, 175), (9, 220), (10, 0), (11, 16), (12, 131), (13, 255),
-    (14, 202), (15, 77), (36, 18), (0, 180), (1, 221), (2, 135), (3, 212), (4, 139), (5, 0), (6, 217),
-    (7, 17), (8, 175), (9, 220), (10, 0), (11, 16), (12, 131), (13, 255), (14, 202), (15, 77), (36, 34),
-    (0, 180), (1, 221), (2, 135), (3, 212), (4, 139), (5, 0), (6, 217), (7, 17), (8, 175), (9, 220),
-    (10, 0), (11, 16), (12, 131), (13, 255), (14, 202), (15, 77), (36, 50), (0, 180), (1, 221),
-    (2, 135), (3, 212), (4, 139), (5, 0), (6, 217), (7, 17), (8, 175), (9, 220), (10, 0), (11, 16),
-    (12, 131), (13, 255), (14, 202), (15, 77), (36, 66), (0, 180), (1, 221), (2, 135), (3, 212),
-    (4, 139), (5, 0), (6, 217), (7, 17), (8, 175), (9, 220), (10, 0), (11, 16), (12, 131), (13, 255),
-    (14, 202), (15, 77), (36, 82), (0, 180), (1, 221), (2, 135), (3, 212), (4, 139), (5, 0), (6, 217),
-    (7, 17), (8, 175), (9, 220), (10, 0), (11, 16), (12, 131), (13, 255), (14, 202), (15, 77), (36, 98),
-    (0, 180), (1, 221), (2, 135), (3, 212), (4, 139), (5, 0), (6, 217), (7, 17), (8, 175), (9, 220),
-    (10, 0), (11, 16), (12, 131), (13, 255), (14, 202), (15, 77), (36, 114), (0, 180), (1, 221),
-    (2, 135), (3, 212), (4, 139), (5, 0), (6, 217), (7, 17), (8, 175), (9, 220), (10, 0), (11, 16),
-    (12, 131), (13, 255), (14, 202), (15, 77), (16, 0), (17, 0), (16, 1), (17, 0), (16, 17), (17, 0),
-    (16, 33), (17, 0), (16, 49), (17, 0), (16, 65), (17, 0), (16, 81), (17, 0), (16, 97), (17, 0),
-    (16, 113), (17, 0), (16, 2), (16, 18), (16, 34), (16, 50), (16, 66), (16, 82), (16, 98), (16, 114),
-    (0, 1), (1, 1), (0, 1), (1, 1), (0, 157), (1, 154), (2, 73), (3, 55), (4, 47), (5, 84), (6, 137),
-    (7, 76), (8, 160), (9, 38), (10, 53), (11, 218), (12, 20), (13, 32), (14, 148), (15, 228), (16, 0),
-    (17, 0), (18, 0), (19, 0), (0, 157), (1, 154), (2, 73), (3, 55), (4, 47), (5, 84), (6, 137),
-    (7, 76), (8, 160), (9, 38), (10, 53), (11, 218), (12, 20), (13, 32), (14, 148), (15, 228), (16, 1),
-    (17, 0), (18, 0), (19, 0), (0, 157), (1, 154), (2, 73), (3, 55), (4, 47), (5, 84), (6, 137),
-    (7, 76), (8, 160), (9, 38), (10, 53), (11, 218), (12, 20), (13, 32), (14, 148), (15, 228), (16, 2),
-    (17, 0), (18, 0), (19, 0), (32, 0), (32, 1), (0, 0), (12, 6), (13, 0), (14, 0), (12, 6), (13, 0),
-    (14, 1), (12, 17), (13, 0), (14, 0), (12, 17), (13, 0), (14, 0), (36, 6), (37, 0), (38, 0), (36, 6),
-    (37, 0), (38, 1), (36, 6), (37, 0), (38, 2), (36, 17), (37, 0), (38, 0), (36, 17), (37, 0), (38, 1),
-    (36, 17), (37, 0), (38, 0), (38, 1), (4, 1), (4, 2), (4, 3), (4, 6), (4, 7), (4, 8), (4, 9),
-    (4, 10), (4, 11), (4, 14), (4, 220), (4, 224), (4, 254), (5, 1), (4, 254), (5, 2), (4, 254), (5, 3),
-    (37, 1), (36, 1), (37, 2), (36, 2), (16, 90), (17, 83), (18, 171), (19, 119), (20, 252), (21, 69),
-    (22, 75), (23, 98), (24, 85), (25, 96), (26, 247), (27, 178), (28, 129), (29, 209), (30, 249),
-    (31, 110), (16, 48), (17, 189), (18, 90), (19, 61), (20, 117), (21, 65), (22, 206), (23, 135),
-    (24, 109), (25, 100), (26, 210), (27, 173), (28, 229), (29, 35), (30, 196), (31, 187), (16, 201),
-    (17, 2), (18, 234), (19, 92), (20, 7), (21, 77), (22, 211), (23, 105), (24, 38), (25, 159),
-    (26, 68), (27, 150), (28, 251), (29, 224), (30, 150), (31, 249), (16, 136), (17, 129), (18, 1),
-    (19, 8), (20, 205), (21, 66), (22, 72), (23, 187), (24, 16), (25, 15), (26, 83), (27, 135),
-    (28, 213), (29, 61), (30, 237), (31, 61), (0, 1), (1, 0), (0, 2), (1, 0), (0, 3), (1, 0), (0, 4),
-    (1, 0), (0, 5), (1, 0), (0, 6), (1, 0), (0, 83), (1, 71), (2, 193), (3, 224), (4, 190), (5, 249),
-    (6, 210), (7, 17), (8, 154), (9, 12), (10, 0), (11, 144), (12, 39), (13, 63), (14, 193), (15, 77),
-    (0, 101), (1, 96), (2, 166), (3, 223), (4, 25), (5, 180), (6, 211), (7, 17), (8, 154), (9, 45),
-    (10, 0), (11, 144), (12, 39), (13, 63), (14, 193), (15, 77), (0, 11), (1, 199), (2, 174), (3, 123),
-    (4, 224), (5, 87), (6, 118), (7, 76), (8, 142), (9, 135), (10, 47), (11, 158), (12, 40), (13, 8),
-    (14, 131), (15, 67), (0, 214), (1, 160), (2, 21), (3, 173), (4, 236), (5, 139), (6, 207), (7, 74),
-    (8, 160), (9, 115), (10, 208), (11, 29), (12, 231), (13, 126), (14, 45), (15, 136), (0, 210),
-    (1, 232), (2, 164), (3, 235), (4, 88), (5, 56), (6, 236), (7, 65), (8, 162), (9, 129), (10, 38),
-    (11, 71), (12, 186), (13, 150), (14, 96), (15, 208), (0, 157), (1, 154), (2, 73), (3, 55), (4, 47),
-    (5, 84), (6, 137), (7, 76), (8, 160), (9, 38), (10, 53), (11, 218), (12, 20), (13, 32), (14, 148),
-    (15, 228), (0, 157), (1, 154), (2, 73), (3, 55), (4, 47), (5, 84), (6, 137), (7, 76), (8, 160),
-    (9, 38), (10, 53), (11, 218), (12, 20), (13, 32), (14, 148), (15, 228), (16, 1), (0, 157), (1, 154),
-    (2, 73), (3, 55), (4, 47), (5, 84), (6, 137), (7, 76), (8, 160), (9, 38), (10, 53), (11, 218),
-    (12, 20), (13, 32), (14, 148), (15, 228), (16, 2), (12, 6), (12, 6), (14, 1), (12, 17), (12, 17),
-    (14, 1), (36, 1), (37, 1)
-];
+pub const BYTES: [(u8, u8); 700] = bytes!(
+    0 208, 1 65, 2 3, 3 10; 0 208, 1 65, 2 8, 3 10; 0 208, 1 65, 2 4, 3 6; 0 208, 1 65, 2 1, 3 3; 0 208,
+    1 65, 2 1, 3 5; 0 208, 1 65, 2 1, 3 4; 0 208, 1 65; [180 221 135 212 139 0 217 17 175 220 0 16 131
+    255 202 77] 36 0, 37 0; [180 221 135 212 139 0 217 17 175 220 0 16 131 255 202 77] 36 1, 37 0; [180
+    221 135 212 139 0 217 17 175 220 0 16 131 255 202 77] 36 17, 37 0; [180 221 135 212 139 0 217 17 175
+    220 0 16 131 255 202 77] 36 33, 37 0; [180 221 135 212 139 0 217 17 175 220 0 16 131 255 202 77]
+    36 49, 37 0; [180 221 135 212 139 0 217 17 175 220 0 16 131 255 202 77] 36 65, 37 0; [180 221 135
+    212 139 0 217 17 175 220 0 16 131 255 202 77] 36 81, 37 0; [180 221 135 212 139 0 217 17 175 220 0
+    16 131 255 202 77] 36 97, 37 0; [180 221 135 212 139 0 217 17 175 220 0 16 131 255 202 77] 36 113,
+    37 0; [180 221 135 212 139 0 217 17 175 220 0 16 131 255 202 77] 36 2; [180 221 135 212 139 0 217 17
+    175 220 0 16 131 255 202 77] 36 18; [180 221 135 212 139 0 217 17 175 220 0 16 131 255 202 77]
+    36 34; [180 221 135 212 139 0 217 17 175 220 0 16 131 255 202 77] 36 50; [180 221 135 212 139 0 217
+    17 175 220 0 16 131 255 202 77] 36 66; [180 221 135 212 139 0 217 17 175 220 0 16 131 255 202 77]
+    36 82; [180 221 135 212 139 0 217 17 175 220 0 16 131 255 202 77] 36 98; [180 221 135 212 139 0 217
+    17 175 220 0 16 131 255 202 77] 36 114; [180 221 135 212 139 0 217 17 175 220 0 16 131 255 202 77];
+    16 0, 17 0; 16 1, 17 0; 16 17, 17 0; 16 33, 17 0; 16 49, 17 0; 16 65, 17 0; 16 81, 17 0; 16 97,
+    17 0; 16 113, 17 0; 16 2; 16 18; 16 34; 16 50; 16 66; 16 82; 16 98; 16 114; 0 1, 1 1; 0 1; 1 1; [157
+    154 73 55 47 84 137 76 160 38 53 218 20 32 148 228] 16 0, 17 0, 18 0, 19 0; [157 154 73 55 47 84 137
+    76 160 38 53 218 20 32 148 228] 16 1, 17 0, 18 0, 19 0; [157 154 73 55 47 84 137 76 160 38 53 218 20
+    32 148 228] 16 2, 17 0, 18 0, 19 0; 32 0; 32 1; 0 0; 12 6, 13 0, 14 0; 12 6, 13 0; 14 1; 12 17,
+    13 0, 14 0; 12 17, 13 0; 14 0; 36 6, 37 0, 38 0; 36 6, 37 0, 38 1; 36 6, 37 0; 38 2; 36 17, 37 0,
+    38 0; 36 17, 37 0, 38 1; 36 17, 37 0; 38 0; 38 1; 4 1; 4 2; 4 3; 4 6; 4 7; 4 8; 4 9; 4 10; 4 11;
+    4 14; 4 220; 4 224; 4 254, 5 1; 4 254, 5 2; 4 254, 5 3; 37 1; 36 1; 37 2; 36 2; 16 90, 17 83,
+    18 171, 19 119, 20 252, 21 69, 22 75, 23 98, 24 85, 25 96, 26 247, 27 178, 28 129, 29 209, 30 249,
+    31 110; 16 48, 17 189, 18 90, 19 61, 20 117, 21 65, 22 206, 23 135, 24 109, 25 100, 26 210, 27 173,
+    28 229, 29 35, 30 196, 31 187; 16 201, 17 2, 18 234, 19 92, 20 7, 21 77, 22 211, 23 105, 24 38,
+    25 159, 26 68, 27 150, 28 251, 29 224, 30 150, 31 249; 16 136, 17 129, 18 1, 19 8, 20 205, 21 66,
+    22 72, 23 187, 24 16, 25 15, 26 83, 27 135, 28 213, 29 61, 30 237, 31 61; 0 1, 1 0; 0 2, 1 0; 0 3,
+    1 0; 0 4, 1 0; 0 5, 1 0; 0 6, 1 0; [83 71 193 224 190 249 210 17 154 12 0 144 39 63 193 77]; [101 96
+    166 223 25 180 211 17 154 45 0 144 39 63 193 77]; [11 199 174 123 224 87 118 76 142 135 47 158 40 8
+    131 67]; [214 160 21 173 236 139 207 74 160 115 208 29 231 126 45 136]; [210 232 164 235 88 56 236
+    65 162 129 38 71 186 150 96 208]; [157 154 73 55 47 84 137 76 160 38 53 218 20 32 148 228]; [157 154
+    73 55 47 84 137 76 160 38 53 218 20 32 148 228] 16 1; [157 154 73 55 47 84 137 76 160 38 53 218 20
+    32 148 228] 16 2; 12 6; 12 6, 14 1; 12 17; 12 17, 14 1; 36 1, 37 1
+);
 
 /// Where each list of bytes begins.
 #[rattlefmt::skip]
@@ -363,88 +280,54 @@ pub const BYTE_STARTS: [u16; 110] = [
 /// The rows of all groups.
 #[rattlefmt::skip]
 pub const ROWS: [Row; 164] = rows!(
-    1 1 Read 2 0 0 0 5 4 Nothing 0 0, 1 2 Read 1 0 0 0 7 5 Nothing 0 0,
-    1 3 Read 20 0 0 0 8 6 Nothing 0 0, 1 4 Read 16 0 0 0 9 7 Bytes 6 0,
-    1 5 Read 4 0 0 0 11 8 Nothing 0 0, 1 6 Read 9 0 0 0 12 9 Nothing 0 0,
-    2 1 Read 8 0 1 0 13 10 Nothing 0 0, 2 1 Read 8 0 2 0 14 10 Nothing 0 0,
-    2 1 Read 8 0 3 0 15 10 Nothing 0 0, 2 1 Read 8 0 4 0 16 10 Nothing 0 0,
-    2 1 Read 8 0 5 0 17 10 Nothing 0 0, 2 1 Read 8 0 6 0 18 10 Nothing 0 0,
-    2 1 Read 8 0 7 0 19 11 Nothing 0 0, 2 2 Read 12 3 0 0 20 12 Ids 6 0,
-    2 3 Read 4 0 0 0 21 1 Repeated(Numbers) 6 0, 2 1 Read 8 0 0 0 22 13 Nothing 0 0,
-    3 10 Read 40 0 8 0 23 14 Nothing 0 0, 3 10 Read 40 0 9 0 23 15 Nothing 0 0,
-    3 10 Read 40 0 10 0 23 16 Nothing 0 0, 3 10 Read 40 0 11 0 23 17 Nothing 0 0,
-    3 10 Read 40 0 12 0 23 18 Nothing 0 0, 3 10 Read 40 0 13 0 23 19 Nothing 0 0,
-    3 10 Read 40 0 14 0 23 20 Nothing 0 0, 3 10 Read 40 0 15 0 23 21 Nothing 0 0,
-    3 10 Read 40 0 16 0 23 22 Nothing 0 0, 3 10 Read 40 0 17 0 23 23 Nothing 0 0,
-    3 10 Read 40 0 18 0 23 24 Nothing 0 0, 3 10 Read 40 0 19 0 23 25 Nothing 0 0,
-    3 10 Read 40 0 20 0 23 26 Nothing 0 0, 3 10 Read 40 0 21 0 23 27 Nothing 0 0,
-    3 10 Read 40 0 22 0 23 28 Nothing 0 0, 3 10 Read 40 0 23 0 23 29 Nothing 0 0,
-    3 10 Read 40 0 24 0 23 30 Nothing 0 0, 3 10 Read 40 0 25 0 23 31 Nothing 0 0,
-    3 22 Read 20 0 26 0 42 32 Nothing 0 0, 3 22 Read 20 0 27 0 42 33 Nothing 0 0,
-    3 22 Read 20 0 28 0 42 34 Nothing 0 0, 3 22 Read 20 0 29 0 42 35 Nothing 0 0,
-    3 22 Read 20 0 30 0 42 36 Nothing 0 0, 3 22 Read 20 0 31 0 42 37 Nothing 0 0,
-    3 22 Read 20 0 32 0 42 38 Nothing 0 0, 3 22 Read 20 0 33 0 42 39 Nothing 0 0,
-    3 22 Read 20 0 34 0 42 40 Nothing 0 0, 3 22 Read 20 0 35 0 42 41 Nothing 0 0,
-    3 22 Read 20 0 36 0 42 42 Nothing 0 0, 3 22 Read 20 0 37 0 42 43 Nothing 0 0,
-    3 22 Read 20 0 38 0 42 44 Nothing 0 0, 3 22 Read 20 0 39 0 42 45 Nothing 0 0,
-    3 22 Read 20 0 40 0 42 46 Nothing 0 0, 3 22 Read 20 0 41 0 42 47 Nothing 0 0,
-    3 22 Read 20 0 42 0 42 48 Nothing 0 0, 3 22 Read 20 0 0 0 42 49 Nothing 0 0,
-    3 1 Display 4 0 0 0 53 50 Nothing 0 0, 3 1 Read 4 0 43 0 54 50 Nothing 0 0,
-    3 1 Read 4 0 44 0 55 50 Nothing 0 0, 3 1 Read 4 0 45 0 56 50 Nothing 0 0,
-    3 1 Read 4 0 0 0 57 50 Nothing 0 0, 3 2 Read 4 0 0 0 58 51 Nothing 0 0,
-    3 3 Read 20 0 0 0 59 52 Nothing 0 0, 3 4 Read 12 0 0 0 60 53 Nothing 0 0,
-    3 5 Read 2 0 0 0 61 54 Nothing 0 0, 3 6 Read 4 0 0 0 62 8 Nothing 0 0,
-    3 9 Read 44 0 0 0 63 55 Nothing 0 0, 3 10 Read 20 0 46 0 64 0 Nothing 0 0,
-    3 10 Read 20 0 47 0 65 0 Nothing 0 0, 3 10 Read 20 0 48 0 66 0 Nothing 0 0,
-    3 10 Read 16 0 0 0 67 7 Bytes 6 0, 3 11 Read 33 0 49 0 68 56 Nothing 0 0,
-    3 11 Read 33 0 50 0 68 57 Nothing 0 0, 3 11 Printed 33 0 0 0 68 58 Nothing 0 0,
-    3 14 Read 15 0 0 0 71 59 Nothing 0 0, 3 16 Read 6 0 0 0 72 60 Utf16 74 0,
-    3 31 Read 17 0 51 0 75 61 Repeated(Ipv4) 6 0, 3 31 Read 17 0 0 44 75 62 Repeated(Ipv6) 6 0,
-    3 17 Read 1 0 0 0 76 5 Nothing 0 0, 3 18 Read 6 0 0 0 77 63 Nothing 0 0,
-    3 20 Read 2 0 0 0 78 64 Nothing 0 0, 3 21 Read 20 0 0 0 79 65 Nothing 0 0,
-    3 23 Read 12 0 0 0 80 66 Nothing 0 0, 3 19 Read 14 0 0 0 81 0 Name 1 67,
-    3 28 Read 0 32 0 0 82 0 Padded 6 0, 3 24 Read 0 0 0 0 83 0 Text 6 0,
-    3 25 Read 2 0 0 0 84 54 Nothing 0 0, 3 26 Read 1 0 0 0 85 5 Nothing 0 0,
-    3 27 Read 6 0 0 0 86 68 Nothing 0 0, 3 29 Read 1 0 0 0 87 5 Nothing 0 0,
-    3 30 Read 7 0 0 0 88 69 Nothing 0 0, 3 12 Display 15 0 0 0 89 70 Nothing 0 0,
-    3 12 Read 23 0 52 0 89 71 Nothing 0 0, 3 12 Read 23 0 53 54 89 72 Nothing 0 0,
-    3 12 Read 23 0 55 0 89 73 Nothing 0 0, 3 12 Read 23 0 56 54 89 74 Nothing 0 0,
-    3 12 Read 23 0 57 0 89 75 Nothing 0 0, 3 12 Read 23 0 0 54 89 76 Nothing 0 0,
-    3 12 Read 15 0 52 0 89 77 Nothing 0 0, 3 12 Read 15 0 53 54 89 78 Nothing 0 0,
-    3 12 Read 15 0 55 0 89 79 Nothing 0 0, 3 12 Read 15 0 56 54 89 80 Nothing 0 0,
-    3 12 Read 15 0 57 0 89 81 Nothing 0 0, 3 12 Read 15 0 0 54 89 82 Nothing 0 0,
-    3 13 Display 39 0 0 0 96 83 Nothing 0 0, 3 13 Read 56 0 58 0 96 84 Nothing 0 0,
-    3 13 Read 56 0 59 0 96 85 Nothing 0 0, 3 13 Read 56 0 60 61 96 86 Nothing 0 0,
-    3 13 Read 56 0 62 0 96 87 Nothing 0 0, 3 13 Read 56 0 63 0 96 88 Nothing 0 0,
-    3 13 Read 56 0 64 61 96 89 Nothing 0 0, 3 13 Read 56 0 65 0 96 90 Nothing 0 0,
-    3 13 Read 56 0 66 0 96 91 Nothing 0 0, 3 13 Read 56 0 0 61 96 92 Nothing 0 0,
-    3 13 Read 39 0 58 0 96 93 Nothing 0 0, 3 13 Read 39 0 59 0 96 94 Nothing 0 0,
-    3 13 Read 39 0 60 61 96 95 Nothing 0 0, 3 13 Read 39 0 62 0 96 96 Nothing 0 0,
-    3 13 Read 39 0 63 0 96 97 Nothing 0 0, 3 13 Read 39 0 64 61 96 98 Nothing 0 0,
-    3 13 Read 39 0 65 0 96 99 Nothing 0 0, 3 13 Read 39 0 66 0 96 100 Nothing 0 0,
-    3 13 Read 39 0 0 61 96 101 Nothing 0 0, 3 15 Read 7 0 67 0 103 102 Nothing 0 0,
-    3 15 Read 7 0 68 0 104 102 Nothing 0 0, 3 15 Read 7 0 69 0 105 102 Nothing 0 0,
-    3 15 Read 7 0 70 0 106 102 Nothing 0 0, 3 15 Read 7 0 71 0 107 102 Nothing 0 0,
-    3 15 Read 7 0 72 0 108 102 Nothing 0 0, 3 15 Read 7 0 73 0 109 102 Nothing 0 0,
-    3 15 Read 7 0 74 0 110 102 Nothing 0 0, 3 15 Read 7 0 75 0 111 102 Nothing 0 0,
-    3 15 Read 7 0 76 0 112 102 Nothing 0 0, 3 15 Read 7 0 77 0 113 102 Nothing 0 0,
-    3 15 Read 7 0 78 0 114 102 Nothing 0 0, 3 15 Read 7 0 79 0 115 103 Nothing 0 0,
-    3 15 Read 7 0 80 0 116 103 Nothing 0 0, 3 15 Read 7 0 81 0 117 103 Nothing 0 0,
-    3 15 Read 7 0 0 0 118 104 Nothing 0 0, 4 1 Read 38 0 82 83 119 105 Nothing 0 0,
-    4 1 Read 38 0 84 85 119 106 Nothing 0 0, 4 1 Printed 38 0 0 0 119 107 Nothing 0 0,
-    4 2 Display 20 0 0 0 123 8 Nothing 0 0, 4 2 Read 20 0 0 0 123 6 Nothing 0 0,
-    4 3 Read 16 0 0 0 124 7 Bytes 6 0, 4 5 Read 16 0 0 0 125 108 Nothing 0 0,
-    4 6 Read 16 0 0 0 126 108 Nothing 0 0, 4 7 Read 16 0 0 0 127 108 Nothing 0 0,
-    4 8 Read 20 0 0 0 128 52 Nothing 0 0, 4 9 Read 34 0 86 0 129 109 Nothing 0 0,
-    4 9 Read 34 0 87 0 130 109 Nothing 0 0, 4 9 Read 34 0 88 0 131 109 Nothing 0 0,
-    4 9 Read 34 0 89 0 132 109 Nothing 0 0, 4 9 Read 34 0 0 0 133 110 Nothing 0 0,
-    5 1 Display 4 1 90 0 134 0 Name 6 0, 5 1 Display 4 1 91 0 135 0 Name 6 0,
-    5 1 Display 4 1 92 0 136 0 Name 6 0, 5 1 Display 4 1 93 0 137 0 Name 6 0,
-    5 1 Display 4 1 94 0 138 0 Name 6 0, 5 1 Display 4 1 95 0 139 0 Name 6 0,
-    5 1 Display 4 1 0 0 140 111 Name 6 0, 5 1 Read 4 1 90 0 134 0 Name 1 50,
-    5 1 Read 4 1 91 0 135 0 Name 1 50, 5 1 Read 4 1 92 0 136 0 Name 1 50,
-    5 1 Read 4 1 93 0 137 0 Name 1 50, 5 1 Read 4 1 94 0 138 0 Name 1 50,
-    5 1 Read 4 1 95 0 139 0 Name 1 50, 5 1 Read 4 1 0 0 140 111 Name 1 50
+    1 1 Read 2 0 0 0 Tail::Nothing => 0 0 5 4; 1 2 Read 1 0 0 0 Tail::Nothing => 0 0 7 5;
+    1 3 Read 20 0 0 0 Tail::Nothing => 0 0 8 6; 1 4 Read 16 0 6 0 Tail::Bytes => 0 0 9 7;
+    1 5 Read 4 0 0 0 Tail::Nothing => 0 0 11 8; 1 6 Read 9 0 0 0 Tail::Nothing => 0 0 12 9;
+    2 1 Read 8 0 0 0 Tail::Nothing => 1 0 13 10, 2 0 14 10, 3 0 15 10, 4 0 16 10, 5 0 17 10, 6 0 18 10,
+    7 0 19 11; 2 2 Read 12 3 6 0 Tail::Ids => 0 0 20 12;
+    2 3 Read 4 0 6 0 Tail::Repeated(Items::Numbers) => 0 0 21 1;
+    2 1 Read 8 0 0 0 Tail::Nothing => 0 0 22 13; 3 10 Read 40 0 0 0 Tail::Nothing => 8 0 23 14,
+    9 0 23 15, 10 0 23 16, 11 0 23 17, 12 0 23 18, 13 0 23 19, 14 0 23 20, 15 0 23 21, 16 0 23 22,
+    17 0 23 23, 18 0 23 24, 19 0 23 25, 20 0 23 26, 21 0 23 27, 22 0 23 28, 23 0 23 29, 24 0 23 30,
+    25 0 23 31; 3 22 Read 20 0 0 0 Tail::Nothing => 26 0 42 32, 27 0 42 33, 28 0 42 34, 29 0 42 35,
+    30 0 42 36, 31 0 42 37, 32 0 42 38, 33 0 42 39, 34 0 42 40, 35 0 42 41, 36 0 42 42, 37 0 42 43,
+    38 0 42 44, 39 0 42 45, 40 0 42 46, 41 0 42 47, 42 0 42 48, 0 0 42 49;
+    3 1 Display 4 0 0 0 Tail::Nothing => 0 0 53 50; 3 1 Read 4 0 0 0 Tail::Nothing => 43 0 54 50,
+    44 0 55 50, 45 0 56 50, 0 0 57 50; 3 2 Read 4 0 0 0 Tail::Nothing => 0 0 58 51;
+    3 3 Read 20 0 0 0 Tail::Nothing => 0 0 59 52; 3 4 Read 12 0 0 0 Tail::Nothing => 0 0 60 53;
+    3 5 Read 2 0 0 0 Tail::Nothing => 0 0 61 54; 3 6 Read 4 0 0 0 Tail::Nothing => 0 0 62 8;
+    3 9 Read 44 0 0 0 Tail::Nothing => 0 0 63 55; 3 10 Read 20 0 0 0 Tail::Nothing => 46 0 64 0,
+    47 0 65 0, 48 0 66 0; 3 10 Read 16 0 6 0 Tail::Bytes => 0 0 67 7;
+    3 11 Read 33 0 0 0 Tail::Nothing => 49 0 68 56, 50 0 68 57;
+    3 11 Printed 33 0 0 0 Tail::Nothing => 0 0 68 58; 3 14 Read 15 0 0 0 Tail::Nothing => 0 0 71 59;
+    3 16 Read 6 0 74 0 Tail::Utf16 => 0 0 72 60;
+    3 31 Read 17 0 6 0 Tail::Repeated(Items::Ipv4) => 51 0 75 61;
+    3 31 Read 17 0 6 0 Tail::Repeated(Items::Ipv6) => 0 44 75 62;
+    3 17 Read 1 0 0 0 Tail::Nothing => 0 0 76 5; 3 18 Read 6 0 0 0 Tail::Nothing => 0 0 77 63;
+    3 20 Read 2 0 0 0 Tail::Nothing => 0 0 78 64; 3 21 Read 20 0 0 0 Tail::Nothing => 0 0 79 65;
+    3 23 Read 12 0 0 0 Tail::Nothing => 0 0 80 66; 3 19 Read 14 0 1 67 Tail::Name => 0 0 81 0;
+    3 28 Read 0 32 6 0 Tail::Padded => 0 0 82 0; 3 24 Read 0 0 6 0 Tail::Text => 0 0 83 0;
+    3 25 Read 2 0 0 0 Tail::Nothing => 0 0 84 54; 3 26 Read 1 0 0 0 Tail::Nothing => 0 0 85 5;
+    3 27 Read 6 0 0 0 Tail::Nothing => 0 0 86 68; 3 29 Read 1 0 0 0 Tail::Nothing => 0 0 87 5;
+    3 30 Read 7 0 0 0 Tail::Nothing => 0 0 88 69; 3 12 Display 15 0 0 0 Tail::Nothing => 0 0 89 70;
+    3 12 Read 23 0 0 0 Tail::Nothing => 52 0 89 71, 53 54 89 72, 55 0 89 73, 56 54 89 74, 57 0 89 75,
+    0 54 89 76; 3 12 Read 15 0 0 0 Tail::Nothing => 52 0 89 77, 53 54 89 78, 55 0 89 79, 56 54 89 80,
+    57 0 89 81, 0 54 89 82; 3 13 Display 39 0 0 0 Tail::Nothing => 0 0 96 83;
+    3 13 Read 56 0 0 0 Tail::Nothing => 58 0 96 84, 59 0 96 85, 60 61 96 86, 62 0 96 87, 63 0 96 88,
+    64 61 96 89, 65 0 96 90, 66 0 96 91, 0 61 96 92; 3 13 Read 39 0 0 0 Tail::Nothing => 58 0 96 93,
+    59 0 96 94, 60 61 96 95, 62 0 96 96, 63 0 96 97, 64 61 96 98, 65 0 96 99, 66 0 96 100, 0 61 96 101;
+    3 15 Read 7 0 0 0 Tail::Nothing => 67 0 103 102, 68 0 104 102, 69 0 105 102, 70 0 106 102,
+    71 0 107 102, 72 0 108 102, 73 0 109 102, 74 0 110 102, 75 0 111 102, 76 0 112 102, 77 0 113 102,
+    78 0 114 102, 79 0 115 103, 80 0 116 103, 81 0 117 103, 0 0 118 104;
+    4 1 Read 38 0 0 0 Tail::Nothing => 82 83 119 105, 84 85 119 106;
+    4 1 Printed 38 0 0 0 Tail::Nothing => 0 0 119 107; 4 2 Display 20 0 0 0 Tail::Nothing => 0 0 123 8;
+    4 2 Read 20 0 0 0 Tail::Nothing => 0 0 123 6; 4 3 Read 16 0 6 0 Tail::Bytes => 0 0 124 7;
+    4 5 Read 16 0 0 0 Tail::Nothing => 0 0 125 108; 4 6 Read 16 0 0 0 Tail::Nothing => 0 0 126 108;
+    4 7 Read 16 0 0 0 Tail::Nothing => 0 0 127 108; 4 8 Read 20 0 0 0 Tail::Nothing => 0 0 128 52;
+    4 9 Read 34 0 0 0 Tail::Nothing => 86 0 129 109, 87 0 130 109, 88 0 131 109, 89 0 132 109,
+    0 0 133 110; 5 1 Display 4 1 6 0 Tail::Name => 90 0 134 0, 91 0 135 0, 92 0 136 0, 93 0 137 0,
+    94 0 138 0, 95 0 139 0, 0 0 140 111; 5 1 Read 4 1 1 50 Tail::Name => 90 0 134 0, 91 0 135 0,
+    92 0 136 0, 93 0 137 0, 94 0 138 0, 95 0 139 0, 0 0 140 111
 );
 
 /// Where each group begins.
@@ -487,30 +370,23 @@ pub const IPV6_ADDRESSES_ITEM: Item = item!(16 2 3);
 /// `OWN`, packed.
 #[rattlefmt::skip]
 pub const OWN_ROWS: &[Row] = &rows!(
-    3 1 Read 4 0 0 0 162 112 Nothing 0 0, 3 23 Read 12 0 0 0 163 113 Nothing 0 0
+    3 1 Read 4 0 0 0 Tail::Nothing => 0 0 162 112; 3 23 Read 12 0 0 0 Tail::Nothing => 0 0 163 113
 );
 
 /// `PASTED`, packed.
 #[rattlefmt::skip]
 pub const PASTED_ROWS: &[Row] = &rows!(
-    3 10 Read 16 0 0 96 164 0 Nothing 0 0, 3 10 Read 16 0 0 97 165 0 Nothing 0 0,
-    3 10 Read 16 0 0 98 166 0 Nothing 0 0, 3 10 Read 16 0 0 99 167 0 Nothing 0 0,
-    3 10 Read 16 0 0 100 168 0 Nothing 0 0, 3 10 Read 20 0 0 101 169 0 Nothing 0 0,
-    3 10 Read 20 0 0 102 170 0 Nothing 0 0, 3 10 Read 20 0 0 103 171 0 Nothing 0 0,
-    3 10 Read 40 0 0 25 23 114 Nothing 0 0, 3 10 Read 40 0 0 25 23 115 Nothing 0 0,
-    3 22 Read 20 0 0 0 42 116 Nothing 0 0, 3 1 Read 4 0 0 0 173 0 Nothing 0 0,
-    3 1 Read 4 0 0 0 174 0 Nothing 0 0, 3 1 Read 4 0 0 45 175 0 Nothing 0 0,
-    3 1 Read 4 0 0 44 176 0 Nothing 0 0, 3 1 Read 4 0 0 43 177 0 Nothing 0 0,
-    3 11 Read 33 0 0 0 68 117 Nothing 0 0, 3 11 Read 33 0 0 0 68 118 Nothing 0 0,
-    3 11 Read 33 0 0 0 68 119 Nothing 0 0, 3 11 Read 33 0 0 0 68 58 Nothing 0 0,
-    3 12 Read 23 0 0 0 89 70 Nothing 0 0, 3 12 Read 23 0 0 104 89 120 Nothing 0 0,
-    3 12 Read 23 0 0 104 89 121 Nothing 0 0, 3 12 Read 23 0 0 105 89 122 Nothing 0 0,
-    3 12 Read 23 0 0 106 89 123 Nothing 0 0, 3 12 Read 23 0 0 106 89 124 Nothing 0 0,
-    3 12 Read 23 0 0 107 89 125 Nothing 0 0, 3 12 Read 23 0 0 0 184 0 Nothing 0 0,
-    3 13 Read 56 0 0 0 185 0 Nothing 0 0, 3 21 Read 20 0 0 0 79 126 Nothing 0 0,
-    3 13 Read 56 0 0 61 96 83 Nothing 0 0, 3 23 Read 12 0 0 0 80 8 Nothing 0 0,
-    3 27 Read 6 0 0 0 86 127 Nothing 0 0, 3 27 Read 6 0 0 0 86 128 Nothing 0 0,
-    3 30 Read 7 0 0 0 88 129 Nothing 0 0, 3 30 Read 7 0 0 0 88 130 Nothing 0 0,
-    3 30 Read 7 0 0 0 88 131 Nothing 0 0, 4 1 Read 38 0 0 108 119 132 Nothing 0 0,
-    4 7 Read 16 0 0 0 186 108 Nothing 0 0, 2 2 Read 12 0 0 0 187 133 Ids 6 0
+    3 10 Read 16 0 0 0 Tail::Nothing => 0 96 164 0, 0 97 165 0, 0 98 166 0, 0 99 167 0, 0 100 168 0;
+    3 10 Read 20 0 0 0 Tail::Nothing => 0 101 169 0, 0 102 170 0, 0 103 171 0;
+    3 10 Read 40 0 0 0 Tail::Nothing => 0 25 23 114, 0 25 23 115;
+    3 22 Read 20 0 0 0 Tail::Nothing => 0 0 42 116; 3 1 Read 4 0 0 0 Tail::Nothing => 0 0 173 0,
+    0 0 174 0, 0 45 175 0, 0 44 176 0, 0 43 177 0; 3 11 Read 33 0 0 0 Tail::Nothing => 0 0 68 117,
+    0 0 68 118, 0 0 68 119, 0 0 68 58; 3 12 Read 23 0 0 0 Tail::Nothing => 0 0 89 70, 0 104 89 120,
+    0 104 89 121, 0 105 89 122, 0 106 89 123, 0 106 89 124, 0 107 89 125, 0 0 184 0;
+    3 13 Read 56 0 0 0 Tail::Nothing => 0 0 185 0; 3 21 Read 20 0 0 0 Tail::Nothing => 0 0 79 126;
+    3 13 Read 56 0 0 0 Tail::Nothing => 0 61 96 83; 3 23 Read 12 0 0 0 Tail::Nothing => 0 0 80 8;
+    3 27 Read 6 0 0 0 Tail::Nothing => 0 0 86 127, 0 0 86 128;
+    3 30 Read 7 0 0 0 Tail::Nothing => 0 0 88 129, 0 0 88 130, 0 0 88 131;
+    4 1 Read 38 0 0 0 Tail::Nothing => 0 108 119 132; 4 7 Read 16 0 0 0 Tail::Nothing => 0 0 186 108;
+    2 2 Read 12 0 6 0 Tail::Ids => 0 0 187 133
 );
