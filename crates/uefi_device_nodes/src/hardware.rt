@@ -193,11 +193,11 @@ impl<'a> Bmc<'a> {
 
 /// The structs from which these nodes are built.
 pub mod build {
-    use crate::fields::{Fields, put, put_bytes};
-    use uefi_field_texts::guid::Guid;
+    use crate::fields::{Fields, put};
+    use crate::vendor::VendorNode;
     use uefi_node_table::layouts::{
-        BMC_BASE_ADDRESS, BMC_INTERFACE_TYPE, CONTROLLER_CONTROLLER_NUMBER,
-        HARDWARE_VENDOR_VENDOR_GUID, MEMORY_MAPPED_ENDING_ADDRESS, MEMORY_MAPPED_MEMORY_TYPE,
+        BMC_BASE_ADDRESS, BMC_INTERFACE_TYPE, CONTROLLER_CONTROLLER_NUMBER, HARDWARE_TYPE,
+        HARDWARE_VENDOR, MEMORY_MAPPED_ENDING_ADDRESS, MEMORY_MAPPED_MEMORY_TYPE,
         MEMORY_MAPPED_STARTING_ADDRESS, PCCARD_FUNCTION, PCI_DEVICE, PCI_FUNCTION,
     };
 
@@ -315,37 +315,7 @@ pub mod build {
     /// let text = format!(in rt.alloc(); "{}", path.as_device_path())?;
     /// assert_eq!(rt; text.as_str(), "VenHw(64636261-6665-6867-696A-6B6C6D6E6F70,0102)");
     /// ```
-    #[derive(Clone, Copy)]
-    pub struct Vendor<'a> {
-        /// The GUID that names the vendor.
-        pub vendor_guid: Guid,
-        /// The data that the vendor defines.
-        pub vendor_defined_data: &'a [u8],
-    }
-
-    /// Builds the node from its fields.
-    impl<'a> Fields for Vendor<'a> {
-        type Layout = super::HardwareVendor<'static>;
-
-        type Tail = &'a [u8];
-
-        ghost fields = { λ n. bytes HARDWARE_VENDOR_VENDOR_GUID n.vendor_guid ∷ [] };
-
-        ghost after = { λ n. n.vendor_defined_data.now };
-
-        fn tail(self) -> &'a [u8] {
-            let _bytes = self.vendor_guid.to_bytes();
-            self.vendor_defined_data
-        }
-
-        fn put(&self, content: &mut [u8]) {
-            put_bytes(
-                content,
-                HARDWARE_VENDOR_VENDOR_GUID,
-                &self.vendor_guid.to_bytes(),
-            );
-        }
-    }
+    pub type Vendor<'a> = VendorNode<'a, HARDWARE_TYPE, HARDWARE_VENDOR>;
 
     /// A controller.
     ///

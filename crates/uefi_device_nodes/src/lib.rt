@@ -30,6 +30,7 @@ mod storage;
 pub mod tails;
 pub mod typed_node;
 mod usb;
+mod vendor;
 mod wireless;
 
 pub use errors::{NodeConversionError, NodeError};

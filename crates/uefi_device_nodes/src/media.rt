@@ -422,15 +422,16 @@ impl<'a> RamDisk<'a> {
 pub mod build {
     use crate::fields::{Fields, put, put_bytes};
     use crate::typed_node::TypedNode;
+    use crate::vendor::VendorNode;
     use uefi_field_texts::guid::Guid;
     use uefi_node_table::layouts::{
         CD_ROM_BOOT_ENTRY, CD_ROM_PARTITION_SIZE, CD_ROM_PARTITION_START, FILE_PATH,
         FIRMWARE_FILE_FILE_NAME, FIRMWARE_VOLUME_VOLUME_NAME, HARD_DRIVE_PARTITION_FORMAT,
         HARD_DRIVE_PARTITION_NUMBER, HARD_DRIVE_PARTITION_SIGNATURE, HARD_DRIVE_PARTITION_SIZE,
-        HARD_DRIVE_PARTITION_START, HARD_DRIVE_SIGNATURE_TYPE, MEDIA_TYPE,
-        MEDIA_VENDOR_VENDOR_GUID, PROTOCOL_PROTOCOL_GUID, RAM_DISK_DISK_INSTANCE,
-        RAM_DISK_DISK_TYPE, RAM_DISK_ENDING_ADDRESS, RAM_DISK_STARTING_ADDRESS,
-        RELATIVE_OFFSET_RANGE_ENDING_OFFSET, RELATIVE_OFFSET_RANGE_STARTING_OFFSET,
+        HARD_DRIVE_PARTITION_START, HARD_DRIVE_SIGNATURE_TYPE, MEDIA_TYPE, MEDIA_VENDOR,
+        PROTOCOL_PROTOCOL_GUID, RAM_DISK_DISK_INSTANCE, RAM_DISK_DISK_TYPE,
+        RAM_DISK_ENDING_ADDRESS, RAM_DISK_STARTING_ADDRESS, RELATIVE_OFFSET_RANGE_ENDING_OFFSET,
+        RELATIVE_OFFSET_RANGE_STARTING_OFFSET,
     };
     use uefi_text::CStr16;
 
@@ -536,37 +537,7 @@ pub mod build {
     /// let text = format!(in rt.alloc(); "{}", path.as_device_path())?;
     /// assert_eq!(rt; text.as_str(), "VenMedia(64636261-6665-6867-696A-6B6C6D6E6F70,0102)");
     /// ```
-    #[derive(Clone, Copy)]
-    pub struct Vendor<'a> {
-        /// The GUID that names the vendor.
-        pub vendor_guid: Guid,
-        /// The data that the vendor defines.
-        pub vendor_defined_data: &'a [u8],
-    }
-
-    /// Builds the node from its fields.
-    impl<'a> Fields for Vendor<'a> {
-        type Layout = super::MediaVendor<'static>;
-
-        type Tail = &'a [u8];
-
-        ghost fields = { λ n. bytes MEDIA_VENDOR_VENDOR_GUID n.vendor_guid ∷ [] };
-
-        ghost after = { λ n. n.vendor_defined_data.now };
-
-        fn tail(self) -> &'a [u8] {
-            let _bytes = self.vendor_guid.to_bytes();
-            self.vendor_defined_data
-        }
-
-        fn put(&self, content: &mut [u8]) {
-            put_bytes(
-                content,
-                MEDIA_VENDOR_VENDOR_GUID,
-                &self.vendor_guid.to_bytes(),
-            );
-        }
-    }
+    pub type Vendor<'a> = VendorNode<'a, MEDIA_TYPE, MEDIA_VENDOR>;
 
     /// A file.
     ///

@@ -162,11 +162,11 @@ pub mod build {
         Atapi, DeviceLogicalUnit, FibreChannel, FibreChannelEx, SasEx, Sata, Scsi,
     };
     pub use crate::usb::build::{Usb, UsbClass, UsbWwid};
+    use crate::vendor::VendorNode;
     pub use crate::wireless::build::{Bluetooth, BluetoothLe, Wifi};
-    use uefi_field_texts::guid::Guid;
     use uefi_node_table::layouts::{
-        I2O_TARGET_ID, IEEE1394_GUID, MESSAGING_VENDOR_VENDOR_GUID, UART_BAUD_RATE, UART_DATA_BITS,
-        UART_PARITY, UART_STOP_BITS,
+        I2O_TARGET_ID, IEEE1394_GUID, MESSAGING_TYPE, MESSAGING_VENDOR, UART_BAUD_RATE,
+        UART_DATA_BITS, UART_PARITY, UART_STOP_BITS,
     };
 
     /// A FireWire device.
@@ -276,35 +276,5 @@ pub mod build {
     /// let text = format!(in rt.alloc(); "{}", path.as_device_path())?;
     /// assert_eq!(rt; text.as_str(), "VenMsg(64636261-6665-6867-696A-6B6C6D6E6F70,01)");
     /// ```
-    #[derive(Clone, Copy)]
-    pub struct Vendor<'a> {
-        /// The GUID that names the vendor.
-        pub vendor_guid: Guid,
-        /// The data that the vendor defines.
-        pub vendor_defined_data: &'a [u8],
-    }
-
-    /// Builds the node from its fields.
-    impl<'a> Fields for Vendor<'a> {
-        type Layout = super::MessagingVendor<'static>;
-
-        type Tail = &'a [u8];
-
-        ghost fields = { λ n. bytes MESSAGING_VENDOR_VENDOR_GUID n.vendor_guid ∷ [] };
-
-        ghost after = { λ n. n.vendor_defined_data.now };
-
-        fn tail(self) -> &'a [u8] {
-            let _bytes = self.vendor_guid.to_bytes();
-            self.vendor_defined_data
-        }
-
-        fn put(&self, content: &mut [u8]) {
-            put_bytes(
-                content,
-                MESSAGING_VENDOR_VENDOR_GUID,
-                &self.vendor_guid.to_bytes(),
-            );
-        }
-    }
+    pub type Vendor<'a> = VendorNode<'a, MESSAGING_TYPE, MESSAGING_VENDOR>;
 }

@@ -8,16 +8,18 @@ ghost use Rattle.uefi_device_nodes.specs.NodeViews.{node_of};
 
 use crate::errors::NodeConversionError;
 use crate::media::FilePath;
-use crate::node::{DevicePathNode, DeviceSubType, DeviceType};
+use crate::node::{DevicePathNode, DeviceType};
+use crate::typed_node::TypedNode;
 use crate::{acpi, bios_boot_spec, hardware, media, messaging};
 use uefi_node_table::layouts::{
     ACPI, ACPI_TYPE, ADR, ATAPI, BIOS_BOOT_SPEC_TYPE, BLUETOOTH, BLUETOOTH_LE, BMC,
     BOOT_SPECIFICATION, CD_ROM, CONTROLLER, DEVICE_LOGICAL_UNIT, DNS, EMMC, EXPANDED,
-    FIBRE_CHANNEL, FIBRE_CHANNEL_EX, FIRMWARE_FILE, FIRMWARE_VOLUME, HARD_DRIVE, HARDWARE_TYPE,
-    HARDWARE_VENDOR, I2O, IEEE1394, INFINIBAND, IPV4, IPV6, ISCSI, MAC_ADDRESS, MEDIA_TYPE,
-    MEDIA_VENDOR, MEMORY_MAPPED, MESSAGING_TYPE, MESSAGING_VENDOR, NVDIMM, NVDIMM_NAMESPACE,
-    NVME_NAMESPACE, NVME_OF_NAMESPACE, PCCARD, PCI, PROTOCOL, RAM_DISK, RELATIVE_OFFSET_RANGE,
-    REST_SERVICE, SAS_EX, SATA, SCSI, SD, UART, UFS, URI, USB, USB_CLASS, USB_WWID, VLAN, WIFI,
+    FIBRE_CHANNEL, FIBRE_CHANNEL_EX, FILE_PATH, FIRMWARE_FILE, FIRMWARE_VOLUME, HARD_DRIVE,
+    HARDWARE_TYPE, HARDWARE_VENDOR, I2O, IEEE1394, INFINIBAND, IPV4, IPV6, ISCSI, MAC_ADDRESS,
+    MEDIA_TYPE, MEDIA_VENDOR, MEMORY_MAPPED, MESSAGING_TYPE, MESSAGING_VENDOR, NVDIMM,
+    NVDIMM_NAMESPACE, NVME_NAMESPACE, NVME_OF_NAMESPACE, PCCARD, PCI, PROTOCOL, RAM_DISK,
+    RELATIVE_OFFSET_RANGE, REST_SERVICE, SAS_EX, SATA, SCSI, SD, UART, UFS, URI, USB, USB_CLASS,
+    USB_WWID, VLAN, WIFI,
 };
 
 /// The view of a node, by its kind. The name of a variant is the type and the kind, as in the Rust crate
@@ -130,173 +132,136 @@ pub enum DevicePathNodeEnum<'a> {
     BiosBootSpecBootSpecification(bios_boot_spec::BootSpecification<'a>),
 }
 
-/// Returns the view of a node of type Hardware.
-fn hardware_node(node: DevicePathNode<'_>) -> Result<DevicePathNodeEnum<'_>, NodeConversionError>
-    requires { (node_of node).device_type ≡ HARDWARE_TYPE }
-    ensures ok { IfOk result (λ view. IsNodeOf view (node_of node.entry)) }
-    ensures refusal { result_err result ≡ refusal_among hardware_kinds (node_of node.entry) }
-{
-    Ok(match node.sub_type().0 {
-        PCI => DevicePathNodeEnum::HardwarePci(hardware::Pci::from_node(node)?),
-        PCCARD => DevicePathNodeEnum::HardwarePccard(hardware::Pccard::from_node(node)?),
-        MEMORY_MAPPED => DevicePathNodeEnum::HardwareMemoryMapped(hardware::MemoryMapped::from_node(
-            node,
-        )?),
-        HARDWARE_VENDOR => DevicePathNodeEnum::HardwareVendor(hardware::HardwareVendor::from_node(
-            node,
-        )?),
-        CONTROLLER => DevicePathNodeEnum::HardwareController(hardware::Controller::from_node(
-            node,
-        )?),
-        BMC => DevicePathNodeEnum::HardwareBmc(hardware::Bmc::from_node(node)?),
-        _ => return Err(NodeConversionError::UnsupportedType),
-    })
-}
+impl<'a> DevicePathNodeEnum<'a> {
+    /// Returns the view of a node of type Hardware.
+    fn hardware_node(node: DevicePathNode<'a>) -> Result<Self, NodeConversionError>
+        requires { (node_of node).device_type ≡ HARDWARE_TYPE }
+        ensures ok { IfOk result (λ view. IsNodeOf view (node_of node.entry)) }
+        ensures refusal { result_err result ≡ refusal_among hardware_kinds (node_of node.entry) }
+    {
+        Ok(match node.sub_type().0 {
+            PCI => Self::HardwarePci(TypedNode::from_node(node)?),
+            PCCARD => Self::HardwarePccard(TypedNode::from_node(node)?),
+            MEMORY_MAPPED => Self::HardwareMemoryMapped(TypedNode::from_node(node)?),
+            HARDWARE_VENDOR => Self::HardwareVendor(TypedNode::from_node(node)?),
+            CONTROLLER => Self::HardwareController(TypedNode::from_node(node)?),
+            BMC => Self::HardwareBmc(TypedNode::from_node(node)?),
+            _ => return Err(NodeConversionError::UnsupportedType),
+        })
+    }
 
-/// Returns the view of a node of type ACPI.
-fn acpi_node(node: DevicePathNode<'_>) -> Result<DevicePathNodeEnum<'_>, NodeConversionError>
-    requires { (node_of node).device_type ≡ ACPI_TYPE }
-    ensures ok { IfOk result (λ view. IsNodeOf view (node_of node.entry)) }
-    ensures refusal { result_err result ≡ refusal_among acpi_kinds (node_of node.entry) }
-{
-    Ok(match node.sub_type().0 {
-        ACPI => DevicePathNodeEnum::AcpiAcpi(acpi::Acpi::from_node(node)?),
-        EXPANDED => DevicePathNodeEnum::AcpiExpanded(acpi::Expanded::from_node(node)?),
-        ADR => DevicePathNodeEnum::AcpiAdr(acpi::Adr::from_node(node)?),
-        NVDIMM => DevicePathNodeEnum::AcpiNvdimm(acpi::Nvdimm::from_node(node)?),
-        _ => return Err(NodeConversionError::UnsupportedType),
-    })
-}
+    /// Returns the view of a node of type ACPI.
+    fn acpi_node(node: DevicePathNode<'a>) -> Result<Self, NodeConversionError>
+        requires { (node_of node).device_type ≡ ACPI_TYPE }
+        ensures ok { IfOk result (λ view. IsNodeOf view (node_of node.entry)) }
+        ensures refusal { result_err result ≡ refusal_among acpi_kinds (node_of node.entry) }
+    {
+        Ok(match node.sub_type().0 {
+            ACPI => Self::AcpiAcpi(TypedNode::from_node(node)?),
+            EXPANDED => Self::AcpiExpanded(TypedNode::from_node(node)?),
+            ADR => Self::AcpiAdr(TypedNode::from_node(node)?),
+            NVDIMM => Self::AcpiNvdimm(TypedNode::from_node(node)?),
+            _ => return Err(NodeConversionError::UnsupportedType),
+        })
+    }
 
-/// Returns the view of a node of type Messaging.
-fn messaging_node(node: DevicePathNode<'_>) -> Result<DevicePathNodeEnum<'_>, NodeConversionError>
-    requires { (node_of node).device_type ≡ MESSAGING_TYPE }
-    ensures ok { IfOk result (λ view. IsNodeOf view (node_of node.entry)) }
-    ensures refusal { result_err result ≡ refusal_among messaging_kinds (node_of node.entry) }
-{
-    Ok(match node.sub_type().0 {
-        IEEE1394 => DevicePathNodeEnum::MessagingIeee1394(messaging::Ieee1394::from_node(node)?),
-        USB => DevicePathNodeEnum::MessagingUsb(messaging::Usb::from_node(node)?),
-        I2O => DevicePathNodeEnum::MessagingI2o(messaging::I2o::from_node(node)?),
-        MESSAGING_VENDOR => DevicePathNodeEnum::MessagingVendor(
-            messaging::MessagingVendor::from_node(node)?,
-        ),
-        UART => DevicePathNodeEnum::MessagingUart(messaging::Uart::from_node(node)?),
-        USB_CLASS => DevicePathNodeEnum::MessagingUsbClass(messaging::UsbClass::from_node(node)?),
-        USB_WWID => DevicePathNodeEnum::MessagingUsbWwid(messaging::UsbWwid::from_node(node)?),
-        _ => return storage_or_network_node(node),
-    })
-}
+    /// Returns the view of a node of type Messaging.
+    fn messaging_node(node: DevicePathNode<'a>) -> Result<Self, NodeConversionError>
+        requires { (node_of node).device_type ≡ MESSAGING_TYPE }
+        ensures ok { IfOk result (λ view. IsNodeOf view (node_of node.entry)) }
+        ensures refusal { result_err result ≡ refusal_among messaging_kinds (node_of node.entry) }
+    {
+        Ok(match node.sub_type().0 {
+            IEEE1394 => Self::MessagingIeee1394(TypedNode::from_node(node)?),
+            USB => Self::MessagingUsb(TypedNode::from_node(node)?),
+            I2O => Self::MessagingI2o(TypedNode::from_node(node)?),
+            MESSAGING_VENDOR => Self::MessagingVendor(TypedNode::from_node(node)?),
+            UART => Self::MessagingUart(TypedNode::from_node(node)?),
+            USB_CLASS => Self::MessagingUsbClass(TypedNode::from_node(node)?),
+            USB_WWID => Self::MessagingUsbWwid(TypedNode::from_node(node)?),
+            _ => return Self::storage_or_network_node(node),
+        })
+    }
 
-/// Returns the view of a node of type Messaging, for storage and networks.
-fn storage_or_network_node(
-    node: DevicePathNode<'_>,
-) -> Result<DevicePathNodeEnum<'_>, NodeConversionError>
-    requires { (node_of node).device_type ≡ MESSAGING_TYPE }
-    ensures ok { IfOk result (λ view. IsNodeOf view (node_of node.entry)) }
-    ensures refusal { result_err result
-        ≡ refusal_among (storage_kinds ++ network_kinds) (node_of node.entry) }
-{
-    Ok(match node.sub_type().0 {
-        ATAPI => DevicePathNodeEnum::MessagingAtapi(messaging::Atapi::from_node(node)?),
-        SCSI => DevicePathNodeEnum::MessagingScsi(messaging::Scsi::from_node(node)?),
-        FIBRE_CHANNEL => DevicePathNodeEnum::MessagingFibreChannel(
-            messaging::FibreChannel::from_node(node)?,
-        ),
-        DEVICE_LOGICAL_UNIT => DevicePathNodeEnum::MessagingDeviceLogicalUnit(
-            messaging::DeviceLogicalUnit::from_node(node)?,
-        ),
-        SATA => DevicePathNodeEnum::MessagingSata(messaging::Sata::from_node(node)?),
-        FIBRE_CHANNEL_EX => DevicePathNodeEnum::MessagingFibreChannelEx(
-            messaging::FibreChannelEx::from_node(node)?,
-        ),
-        SAS_EX => DevicePathNodeEnum::MessagingSasEx(messaging::SasEx::from_node(node)?),
-        NVME_NAMESPACE => DevicePathNodeEnum::MessagingNvmeNamespace(
-            messaging::NvmeNamespace::from_node(node)?,
-        ),
-        UFS => DevicePathNodeEnum::MessagingUfs(messaging::Ufs::from_node(node)?),
-        SD => DevicePathNodeEnum::MessagingSd(messaging::Sd::from_node(node)?),
-        EMMC => DevicePathNodeEnum::MessagingEmmc(messaging::Emmc::from_node(node)?),
-        NVDIMM_NAMESPACE => DevicePathNodeEnum::MessagingNvdimmNamespace(
-            messaging::NvdimmNamespace::from_node(node)?,
-        ),
-        _ => return network_node(node),
-    })
-}
+    /// Returns the view of a node of type Messaging, for storage and networks.
+    fn storage_or_network_node(node: DevicePathNode<'a>) -> Result<Self, NodeConversionError>
+        requires { (node_of node).device_type ≡ MESSAGING_TYPE }
+        ensures ok { IfOk result (λ view. IsNodeOf view (node_of node.entry)) }
+        ensures refusal { result_err result
+            ≡ refusal_among (storage_kinds ++ network_kinds) (node_of node.entry) }
+    {
+        Ok(match node.sub_type().0 {
+            ATAPI => Self::MessagingAtapi(TypedNode::from_node(node)?),
+            SCSI => Self::MessagingScsi(TypedNode::from_node(node)?),
+            FIBRE_CHANNEL => Self::MessagingFibreChannel(TypedNode::from_node(node)?),
+            DEVICE_LOGICAL_UNIT => Self::MessagingDeviceLogicalUnit(TypedNode::from_node(node)?),
+            SATA => Self::MessagingSata(TypedNode::from_node(node)?),
+            FIBRE_CHANNEL_EX => Self::MessagingFibreChannelEx(TypedNode::from_node(node)?),
+            SAS_EX => Self::MessagingSasEx(TypedNode::from_node(node)?),
+            NVME_NAMESPACE => Self::MessagingNvmeNamespace(TypedNode::from_node(node)?),
+            UFS => Self::MessagingUfs(TypedNode::from_node(node)?),
+            SD => Self::MessagingSd(TypedNode::from_node(node)?),
+            EMMC => Self::MessagingEmmc(TypedNode::from_node(node)?),
+            NVDIMM_NAMESPACE => Self::MessagingNvdimmNamespace(TypedNode::from_node(node)?),
+            _ => return Self::network_node(node),
+        })
+    }
 
-/// Returns the view of a node of type Messaging, for networks and what is reached over them.
-fn network_node(node: DevicePathNode<'_>) -> Result<DevicePathNodeEnum<'_>, NodeConversionError>
-    requires { (node_of node).device_type ≡ MESSAGING_TYPE }
-    ensures ok { IfOk result (λ view. IsNodeOf view (node_of node.entry)) }
-    ensures refusal { result_err result ≡ refusal_among network_kinds (node_of node.entry) }
-{
-    Ok(match node.sub_type().0 {
-        INFINIBAND => DevicePathNodeEnum::MessagingInfiniband(messaging::Infiniband::from_node(
-            node,
-        )?),
-        MAC_ADDRESS => DevicePathNodeEnum::MessagingMacAddress(messaging::MacAddress::from_node(
-            node,
-        )?),
-        IPV4 => DevicePathNodeEnum::MessagingIpv4(messaging::Ipv4::from_node(node)?),
-        IPV6 => DevicePathNodeEnum::MessagingIpv6(messaging::Ipv6::from_node(node)?),
-        ISCSI => DevicePathNodeEnum::MessagingIscsi(messaging::Iscsi::from_node(node)?),
-        VLAN => DevicePathNodeEnum::MessagingVlan(messaging::Vlan::from_node(node)?),
-        URI => DevicePathNodeEnum::MessagingUri(messaging::Uri::from_node(node)?),
-        BLUETOOTH => DevicePathNodeEnum::MessagingBluetooth(messaging::Bluetooth::from_node(node)?),
-        WIFI => DevicePathNodeEnum::MessagingWifi(messaging::Wifi::from_node(node)?),
-        BLUETOOTH_LE => DevicePathNodeEnum::MessagingBluetoothLe(messaging::BluetoothLe::from_node(
-            node,
-        )?),
-        DNS => DevicePathNodeEnum::MessagingDns(messaging::Dns::from_node(node)?),
-        REST_SERVICE => DevicePathNodeEnum::MessagingRestService(messaging::RestService::from_node(
-            node,
-        )?),
-        NVME_OF_NAMESPACE => DevicePathNodeEnum::MessagingNvmeOfNamespace(
-            messaging::NvmeOfNamespace::from_node(node)?,
-        ),
-        _ => return Err(NodeConversionError::UnsupportedType),
-    })
-}
+    /// Returns the view of a node of type Messaging, for networks and what is reached over them.
+    fn network_node(node: DevicePathNode<'a>) -> Result<Self, NodeConversionError>
+        requires { (node_of node).device_type ≡ MESSAGING_TYPE }
+        ensures ok { IfOk result (λ view. IsNodeOf view (node_of node.entry)) }
+        ensures refusal { result_err result ≡ refusal_among network_kinds (node_of node.entry) }
+    {
+        Ok(match node.sub_type().0 {
+            INFINIBAND => Self::MessagingInfiniband(TypedNode::from_node(node)?),
+            MAC_ADDRESS => Self::MessagingMacAddress(TypedNode::from_node(node)?),
+            IPV4 => Self::MessagingIpv4(TypedNode::from_node(node)?),
+            IPV6 => Self::MessagingIpv6(TypedNode::from_node(node)?),
+            ISCSI => Self::MessagingIscsi(TypedNode::from_node(node)?),
+            VLAN => Self::MessagingVlan(TypedNode::from_node(node)?),
+            URI => Self::MessagingUri(TypedNode::from_node(node)?),
+            BLUETOOTH => Self::MessagingBluetooth(TypedNode::from_node(node)?),
+            WIFI => Self::MessagingWifi(TypedNode::from_node(node)?),
+            BLUETOOTH_LE => Self::MessagingBluetoothLe(TypedNode::from_node(node)?),
+            DNS => Self::MessagingDns(TypedNode::from_node(node)?),
+            REST_SERVICE => Self::MessagingRestService(TypedNode::from_node(node)?),
+            NVME_OF_NAMESPACE => Self::MessagingNvmeOfNamespace(TypedNode::from_node(node)?),
+            _ => return Err(NodeConversionError::UnsupportedType),
+        })
+    }
 
-/// Returns the view of a node of type Media, except a node that names a file.
-fn media_node(node: DevicePathNode<'_>) -> Result<DevicePathNodeEnum<'_>, NodeConversionError>
-    requires { (node_of node).device_type ≡ MEDIA_TYPE }
-    ensures ok { IfOk result (λ view. IsNodeOf view (node_of node.entry)) }
-    ensures refusal { result_err result ≡ refusal_among media_kinds (node_of node.entry) }
-{
-    Ok(match node.sub_type().0 {
-        HARD_DRIVE => DevicePathNodeEnum::MediaHardDrive(media::HardDrive::from_node(node)?),
-        CD_ROM => DevicePathNodeEnum::MediaCdRom(media::CdRom::from_node(node)?),
-        MEDIA_VENDOR => DevicePathNodeEnum::MediaVendor(media::MediaVendor::from_node(node)?),
-        PROTOCOL => DevicePathNodeEnum::MediaProtocol(media::Protocol::from_node(node)?),
-        FIRMWARE_FILE => DevicePathNodeEnum::MediaPiwgFirmwareFile(media::FirmwareFile::from_node(
-            node,
-        )?),
-        FIRMWARE_VOLUME => DevicePathNodeEnum::MediaPiwgFirmwareVolume(
-            media::FirmwareVolume::from_node(node)?,
-        ),
-        RELATIVE_OFFSET_RANGE => DevicePathNodeEnum::MediaRelativeOffsetRange(
-            media::RelativeOffsetRange::from_node(node)?,
-        ),
-        RAM_DISK => DevicePathNodeEnum::MediaRamDisk(media::RamDisk::from_node(node)?),
-        _ => return Err(NodeConversionError::UnsupportedType),
-    })
-}
+    /// Returns the view of a node of type Media.
+    fn media_node(node: DevicePathNode<'a>) -> Result<Self, NodeConversionError>
+        requires { (node_of node).device_type ≡ MEDIA_TYPE }
+        ensures ok { IfOk result (λ view. IsNodeOf view (node_of node.entry)) }
+        ensures refusal { result_err result ≡ enum_refusal (node_of node.entry) }
+    {
+        Ok(match node.sub_type().0 {
+            HARD_DRIVE => Self::MediaHardDrive(TypedNode::from_node(node)?),
+            CD_ROM => Self::MediaCdRom(TypedNode::from_node(node)?),
+            MEDIA_VENDOR => Self::MediaVendor(TypedNode::from_node(node)?),
+            FILE_PATH => Self::MediaFilePath(FilePath::from_node(node)?),
+            PROTOCOL => Self::MediaProtocol(TypedNode::from_node(node)?),
+            FIRMWARE_FILE => Self::MediaPiwgFirmwareFile(TypedNode::from_node(node)?),
+            FIRMWARE_VOLUME => Self::MediaPiwgFirmwareVolume(TypedNode::from_node(node)?),
+            RELATIVE_OFFSET_RANGE => Self::MediaRelativeOffsetRange(TypedNode::from_node(node)?),
+            RAM_DISK => Self::MediaRamDisk(TypedNode::from_node(node)?),
+            _ => return Err(NodeConversionError::UnsupportedType),
+        })
+    }
 
-/// Returns the view of a node of type BIOS Boot Specification.
-fn bios_boot_spec_node(
-    node: DevicePathNode<'_>,
-) -> Result<DevicePathNodeEnum<'_>, NodeConversionError>
-    requires { (node_of node).device_type ≡ BIOS_BOOT_SPEC_TYPE }
-    ensures ok { IfOk result (λ view. IsNodeOf view (node_of node.entry)) }
-    ensures refusal { result_err result ≡ refusal_among bios_boot_spec_kinds (node_of node.entry) }
-{
-    Ok(match node.sub_type().0 {
-        BOOT_SPECIFICATION => DevicePathNodeEnum::BiosBootSpecBootSpecification(
-            bios_boot_spec::BootSpecification::from_node(node)?,
-        ),
-        _ => return Err(NodeConversionError::UnsupportedType),
-    })
+    /// Returns the view of a node of type BIOS Boot Specification.
+    fn bios_boot_spec_node(node: DevicePathNode<'a>) -> Result<Self, NodeConversionError>
+        requires { (node_of node).device_type ≡ BIOS_BOOT_SPEC_TYPE }
+        ensures ok { IfOk result (λ view. IsNodeOf view (node_of node.entry)) }
+        ensures refusal { result_err result ≡ refusal_among bios_boot_spec_kinds (node_of node.entry) }
+    {
+        Ok(match node.sub_type().0 {
+            BOOT_SPECIFICATION => Self::BiosBootSpecBootSpecification(TypedNode::from_node(node)?),
+            _ => return Err(NodeConversionError::UnsupportedType),
+        })
+    }
 }
 
 impl<'a> DevicePathNode<'a> {
@@ -315,16 +280,11 @@ impl<'a> DevicePathNode<'a> {
         ensures refusal { result_err result ≡ enum_refusal (node_of self.now) }
     {
         match self.device_type() {
-            DeviceType::HARDWARE => hardware_node(*self),
-            DeviceType::ACPI => acpi_node(*self),
-            DeviceType::MESSAGING => messaging_node(*self),
-            DeviceType::MEDIA => {
-                if self.sub_type() == DeviceSubType::MEDIA_FILE_PATH {
-                    return Ok(DevicePathNodeEnum::MediaFilePath(FilePath::from_node(*self)?));
-                }
-                media_node(*self)
-            }
-            DeviceType::BIOS_BOOT_SPEC => bios_boot_spec_node(*self),
+            DeviceType::HARDWARE => DevicePathNodeEnum::hardware_node(*self),
+            DeviceType::ACPI => DevicePathNodeEnum::acpi_node(*self),
+            DeviceType::MESSAGING => DevicePathNodeEnum::messaging_node(*self),
+            DeviceType::MEDIA => DevicePathNodeEnum::media_node(*self),
+            DeviceType::BIOS_BOOT_SPEC => DevicePathNodeEnum::bios_boot_spec_node(*self),
             _ => Err(NodeConversionError::UnsupportedType),
         }
     }

@@ -150,13 +150,19 @@ macro_rules! row {
     };
 }
 
-/// Makes a form of USB devices of a class: vendor, product, sub-class and protocol.
+/// Makes a form of USB devices of a class, of a sub-class of the class 0xFE, or of any class: vendor, product,
+/// the class and the sub-class where the start of the text does not name them, and protocol.
 macro_rules! usb_class {
     ($class:literal $start:literal) => {
-        row!(MESSAGING_TYPE USB_CLASS Read USB_CLASS_LEAST [USB_CLASS_DEVICE_CLASS = $class] [] $start
+        usb_class!([USB_CLASS_DEVICE_CLASS = $class] $start [Hexadecimal USB_CLASS_DEVICE_SUBCLASS ",0x"])
+    };
+    (0xfe $sub_class:literal $start:literal) => {
+        usb_class!([USB_CLASS_DEVICE_CLASS = 0xfe, USB_CLASS_DEVICE_SUBCLASS = $sub_class] $start)
+    };
+    ([$($when:tt)*] $start:literal $([$($more:tt)*])*) => {
+        row!(MESSAGING_TYPE USB_CLASS Read USB_CLASS_LEAST [$($when)*] [] $start
             [Hexadecimal USB_CLASS_VENDOR_ID ",0x"] [Hexadecimal USB_CLASS_PRODUCT_ID ",0x"]
-            [Hexadecimal USB_CLASS_DEVICE_SUBCLASS ",0x"] [Hexadecimal USB_CLASS_DEVICE_PROTOCOL ")"]
-            Nothing "")
+            $([$($more)*])* [Hexadecimal USB_CLASS_DEVICE_PROTOCOL ")"] Nothing "")
     };
 }
 
@@ -506,24 +512,11 @@ const USB_CLASSES: &[WrittenRow] = &[
     usb_class!(0x0e "UsbVideo(0x"),
     usb_class!(0xdc "UsbDiagnostic(0x"),
     usb_class!(0xe0 "UsbWireless(0x"),
-    row!(MESSAGING_TYPE USB_CLASS Read USB_CLASS_LEAST
-        [USB_CLASS_DEVICE_CLASS = 0xfe, USB_CLASS_DEVICE_SUBCLASS = 0x01] []
-        "UsbDeviceFirmwareUpdate(0x" [Hexadecimal USB_CLASS_VENDOR_ID ",0x"]
-        [Hexadecimal USB_CLASS_PRODUCT_ID ",0x"] [Hexadecimal USB_CLASS_DEVICE_PROTOCOL ")"] Nothing
-        ""),
-    row!(MESSAGING_TYPE USB_CLASS Read USB_CLASS_LEAST
-        [USB_CLASS_DEVICE_CLASS = 0xfe, USB_CLASS_DEVICE_SUBCLASS = 0x02] [] "UsbIrdaBridge(0x"
-        [Hexadecimal USB_CLASS_VENDOR_ID ",0x"] [Hexadecimal USB_CLASS_PRODUCT_ID ",0x"]
-        [Hexadecimal USB_CLASS_DEVICE_PROTOCOL ")"] Nothing ""),
-    row!(MESSAGING_TYPE USB_CLASS Read USB_CLASS_LEAST
-        [USB_CLASS_DEVICE_CLASS = 0xfe, USB_CLASS_DEVICE_SUBCLASS = 0x03] []
-        "UsbTestAndMeasurement(0x" [Hexadecimal USB_CLASS_VENDOR_ID ",0x"]
-        [Hexadecimal USB_CLASS_PRODUCT_ID ",0x"] [Hexadecimal USB_CLASS_DEVICE_PROTOCOL ")"] Nothing
-        ""),
-    row!(MESSAGING_TYPE USB_CLASS Read USB_CLASS_LEAST [] [] "UsbClass(0x"
-        [Hexadecimal USB_CLASS_VENDOR_ID ",0x"] [Hexadecimal USB_CLASS_PRODUCT_ID ",0x"]
-        [Hexadecimal USB_CLASS_DEVICE_CLASS ",0x"] [Hexadecimal USB_CLASS_DEVICE_SUBCLASS ",0x"]
-        [Hexadecimal USB_CLASS_DEVICE_PROTOCOL ")"] Nothing ""),
+    usb_class!(0xfe 0x01 "UsbDeviceFirmwareUpdate(0x"),
+    usb_class!(0xfe 0x02 "UsbIrdaBridge(0x"),
+    usb_class!(0xfe 0x03 "UsbTestAndMeasurement(0x"),
+    usb_class!([] "UsbClass(0x" [Hexadecimal USB_CLASS_DEVICE_CLASS ",0x"]
+        [Hexadecimal USB_CLASS_DEVICE_SUBCLASS ",0x"]),
 ];
 
 /// Nodes of type Media, except nodes that name files.

@@ -38,7 +38,7 @@ pub fn suits(word: &Word, number: u64) -> bool
 }
 
 /// Returns the word for a number, or an empty text if no word suits it.
-pub fn word_for(words: &[Word], number: u64) -> &'static str
+pub(crate) fn word_for(words: &[Word], number: u64) -> &'static str
     ensures { result.now ≡ word_text (map as_word words.now) number }
 {
     for word in words {
