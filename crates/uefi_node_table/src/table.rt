@@ -20,11 +20,8 @@ use crate::{layouts, packed};
 
 /// Makes a field from its shape, its offset, its width and its ending.
 macro_rules! field {
-    (Word($words:ident), $place:expr, $width:expr, $ending:expr) => {
-        PieceOf { shape: Shape::Word(Words::$words), place: $place, width: $width, ending: $ending }
-    };
-    ($shape:ident, $place:expr, $width:expr, $ending:expr) => {
-        PieceOf { shape: Shape::$shape, place: $place, width: $width, ending: $ending }
+    ($shape:ident $(($words:ident))?, $place:expr, $width:expr, $ending:expr) => {
+        PieceOf { shape: Shape::$shape $((Words::$words))?, place: $place, width: $width, ending: $ending }
     };
 }
 
@@ -67,18 +64,14 @@ macro_rules! fields {
             field!(Forth, place!($at) + 8, 2, ":"), field!(Forth, place!($at) + 10, 2, ":"),
             field!(Forth, place!($at) + 12, 2, ":"), field!(Forth, place!($at) + 14, 2, $ending)] $($rest)*)
     };
-    ([$($done:expr),*] [Word $words:ident $at:ident] $($rest:tt)*) => {
-        fields!([$($done,)* field!(Word($words), layouts::$at.place, layouts::$at.width, "")] $($rest)*)
+    ([$($done:expr),*] [$shape:ident $(($words:ident))? $at:ident $ending:literal] $($rest:tt)*) => {
+        fields!([$($done,)* field!($shape $(($words))?, layouts::$at.place, layouts::$at.width, $ending)]
+            $($rest)*)
     };
-    ([$($done:expr),*] [Word $words:ident $at:ident + $part:literal $width:literal] $($rest:tt)*) => {
-        fields!([$($done,)* field!(Word($words), layouts::$at.place + $part, $width, "")] $($rest)*)
-    };
-    ([$($done:expr),*] [$shape:ident $at:ident $ending:literal] $($rest:tt)*) => {
-        fields!([$($done,)* field!($shape, layouts::$at.place, layouts::$at.width, $ending)] $($rest)*)
-    };
-    ([$($done:expr),*] [$shape:ident $at:ident + $part:literal $width:literal $ending:literal]
-        $($rest:tt)*) => {
-        fields!([$($done,)* field!($shape, layouts::$at.place + $part, $width, $ending)] $($rest)*)
+    ([$($done:expr),*] [$shape:ident $(($words:ident))? $at:ident + $part:literal $width:literal
+        $ending:literal] $($rest:tt)*) => {
+        fields!([$($done,)* field!($shape $(($words))?, layouts::$at.place + $part, $width, $ending)]
+            $($rest)*)
     };
     ([$($done:expr),*] [$shape:ident $at:literal $width:literal $ending:literal] $($rest:tt)*) => {
         fields!([$($done,)* field!($shape, $at, $width, $ending)] $($rest)*)
@@ -220,6 +213,30 @@ macro_rules! ipv6 {
     };
 }
 
+/// Makes the forms of IPv6 connections, after further forms.
+macro_rules! ipv6_forms {
+    ($size:ident $($first:tt)*) => {
+        &[
+            $($first)*
+            ipv6!($size [IPV6_PROTOCOL = [0x06 0x00], IPV6_IP_ADDRESS_ORIGIN = 0x00] [] ",TCP,Static,"),
+            ipv6!($size [IPV6_PROTOCOL = [0x06 0x00], IPV6_IP_ADDRESS_ORIGIN = 0x01] []
+                ",TCP,StatelessAutoConfigure,"),
+            ipv6!($size [IPV6_PROTOCOL = [0x06 0x00]] [IPV6_IP_ADDRESS_ORIGIN = 0x02]
+                ",TCP,StatefulAutoConfigure,"),
+            ipv6!($size [IPV6_PROTOCOL = [0x11 0x00], IPV6_IP_ADDRESS_ORIGIN = 0x00] [] ",UDP,Static,"),
+            ipv6!($size [IPV6_PROTOCOL = [0x11 0x00], IPV6_IP_ADDRESS_ORIGIN = 0x01] []
+                ",UDP,StatelessAutoConfigure,"),
+            ipv6!($size [IPV6_PROTOCOL = [0x11 0x00]] [IPV6_IP_ADDRESS_ORIGIN = 0x02]
+                ",UDP,StatefulAutoConfigure,"),
+            ipv6!($size [IPV6_IP_ADDRESS_ORIGIN = 0x00] [] ",0x" [Hexadecimal IPV6_PROTOCOL ",Static,"]),
+            ipv6!($size [IPV6_IP_ADDRESS_ORIGIN = 0x01] [] ",0x"
+                [Hexadecimal IPV6_PROTOCOL ",StatelessAutoConfigure,"]),
+            ipv6!($size [] [IPV6_IP_ADDRESS_ORIGIN = 0x02] ",0x"
+                [Hexadecimal IPV6_PROTOCOL ",StatefulAutoConfigure,"]),
+        ]
+    };
+}
+
 /// Makes a form of RAM disks of one type.
 macro_rules! virtual_disk {
     ([$($guid:literal)*] $start:literal) => {
@@ -229,16 +246,16 @@ macro_rules! virtual_disk {
     };
 }
 
-/// Makes a form of devices of one type that a legacy BIOS can boot. The form for display omits the flags.
-macro_rules! boot {
-    (Display $device:literal $start:literal) => {
-        row!(BIOS_BOOT_SPEC_TYPE BOOT_SPECIFICATION Display BOOT_SPECIFICATION_FIXED + 1
-            [BOOT_SPECIFICATION_DEVICE_TYPE = [$device 0x00]] [] $start Name ")")
-    };
-    (Read $device:literal $start:literal) => {
-        row!(BIOS_BOOT_SPEC_TYPE BOOT_SPECIFICATION Read BOOT_SPECIFICATION_FIXED + 1
-            [BOOT_SPECIFICATION_DEVICE_TYPE = [$device 0x00]] [] $start Name ",0x"
-            [Hexadecimal BOOT_SPECIFICATION_STATUS_FLAG ")"])
+/// Makes the forms of devices that a legacy BIOS can boot, from the bytes, the start and the fields of each:
+/// first for display, where the flags are omitted, and then with the flags.
+macro_rules! boot_forms {
+    ($([$($when:tt)*] $start:literal $([$($field:tt)*])*,)*) => {
+        &[
+            $(row!(BIOS_BOOT_SPEC_TYPE BOOT_SPECIFICATION Display BOOT_SPECIFICATION_FIXED + 1 [$($when)*] []
+                $start $([$($field)*])* Name ")"),)*
+            $(row!(BIOS_BOOT_SPEC_TYPE BOOT_SPECIFICATION Read BOOT_SPECIFICATION_FIXED + 1 [$($when)*] []
+                $start $([$($field)*])* Name ",0x" [Hexadecimal BOOT_SPECIFICATION_STATUS_FLAG ")"]),)*
+        ]
     };
 }
 
@@ -398,7 +415,7 @@ const MESSAGING: &[WrittenRow] = &[
         [Forth MAC_ADDRESS_MAC_ADDRESS ",0x"] [Hexadecimal MAC_ADDRESS_INTERFACE_TYPE ")"] Nothing
         ""),
     row!(MESSAGING_TYPE UART Read UART_LEAST [] [] "Uart(" [OrDefault UART_BAUD_RATE ","]
-        [OrDefault UART_DATA_BITS ","] [Word Parity UART_PARITY] [Word StopBits UART_STOP_BITS]
+        [OrDefault UART_DATA_BITS ","] [Word(Parity) UART_PARITY ""] [Word(StopBits) UART_STOP_BITS ""]
         Nothing ""),
     row!(MESSAGING_TYPE USB_WWID Read USB_WWID_LEAST [] [] "UsbWwid(0x"
         [Hexadecimal USB_WWID_DEVICE_VENDOR_ID ",0x"] [Hexadecimal USB_WWID_DEVICE_PRODUCT_ID ",0x"]
@@ -422,8 +439,8 @@ const MESSAGING: &[WrittenRow] = &[
         [Dashed NVME_NAMESPACE_IEEE_EXTENDED_UNIQUE_IDENTIFIER ")"] Nothing ""),
     row!(MESSAGING_TYPE ISCSI Read ISCSI_LEAST [] [] "iSCSI(" Name ",0x"
         [Hexadecimal ISCSI_TARGET_PORTAL_GROUP_TAG ",0x"] [Forth ISCSI_LOGICAL_UNIT_NUMBER ","]
-        [Word Digests ISCSI_OPTIONS + 0 1] [Word Login ISCSI_OPTIONS + 1 1]
-        [Word Protocol ISCSI_PROTOCOL]),
+        [Word(Digests) ISCSI_OPTIONS + 0 1 ""] [Word(Login) ISCSI_OPTIONS + 1 1 ""]
+        [Word(Protocol) ISCSI_PROTOCOL ""]),
     row!(MESSAGING_TYPE WIFI Read 0 + WIFI_LEAST [] [] "Wi-Fi(" Padded ")"),
     row!(MESSAGING_TYPE URI Read URI_LEAST [] [] "Uri(" Text ")"),
     row!(MESSAGING_TYPE UFS Read UFS_LEAST [] [] "UFS(0x" [Hexadecimal UFS_TARGET_ID ",0x"]
@@ -458,44 +475,12 @@ const IPV4: &[WrittenRow] = &[
 
 /// IPv6 connections, with a prefix and a gateway.
 #[rattlefmt::skip]
-const IPV6: &[WrittenRow] = &[
+const IPV6: &[WrittenRow] = ipv6_forms!(whole
     row!(MESSAGING_TYPE IPV6 Display 39 [] [] "IPv6(" [Ipv6 IPV6_REMOTE_IP_ADDRESS ")"] Nothing ""),
-    ipv6!(whole [IPV6_PROTOCOL = [0x06 0x00], IPV6_IP_ADDRESS_ORIGIN = 0x00] [] ",TCP,Static,"),
-    ipv6!(whole [IPV6_PROTOCOL = [0x06 0x00], IPV6_IP_ADDRESS_ORIGIN = 0x01] []
-        ",TCP,StatelessAutoConfigure,"),
-    ipv6!(whole [IPV6_PROTOCOL = [0x06 0x00]] [IPV6_IP_ADDRESS_ORIGIN = 0x02]
-        ",TCP,StatefulAutoConfigure,"),
-    ipv6!(whole [IPV6_PROTOCOL = [0x11 0x00], IPV6_IP_ADDRESS_ORIGIN = 0x00] [] ",UDP,Static,"),
-    ipv6!(whole [IPV6_PROTOCOL = [0x11 0x00], IPV6_IP_ADDRESS_ORIGIN = 0x01] []
-        ",UDP,StatelessAutoConfigure,"),
-    ipv6!(whole [IPV6_PROTOCOL = [0x11 0x00]] [IPV6_IP_ADDRESS_ORIGIN = 0x02]
-        ",UDP,StatefulAutoConfigure,"),
-    ipv6!(whole [IPV6_IP_ADDRESS_ORIGIN = 0x00] [] ",0x" [Hexadecimal IPV6_PROTOCOL ",Static,"]),
-    ipv6!(whole [IPV6_IP_ADDRESS_ORIGIN = 0x01] [] ",0x"
-        [Hexadecimal IPV6_PROTOCOL ",StatelessAutoConfigure,"]),
-    ipv6!(whole [] [IPV6_IP_ADDRESS_ORIGIN = 0x02] ",0x"
-        [Hexadecimal IPV6_PROTOCOL ",StatefulAutoConfigure,"]),
-];
+);
 
 /// IPv6 connections of older nodes, without a prefix and a gateway.
-#[rattlefmt::skip]
-const IPV6_SHORT: &[WrittenRow] = &[
-    ipv6!(short [IPV6_PROTOCOL = [0x06 0x00], IPV6_IP_ADDRESS_ORIGIN = 0x00] [] ",TCP,Static,"),
-    ipv6!(short [IPV6_PROTOCOL = [0x06 0x00], IPV6_IP_ADDRESS_ORIGIN = 0x01] []
-        ",TCP,StatelessAutoConfigure,"),
-    ipv6!(short [IPV6_PROTOCOL = [0x06 0x00]] [IPV6_IP_ADDRESS_ORIGIN = 0x02]
-        ",TCP,StatefulAutoConfigure,"),
-    ipv6!(short [IPV6_PROTOCOL = [0x11 0x00], IPV6_IP_ADDRESS_ORIGIN = 0x00] [] ",UDP,Static,"),
-    ipv6!(short [IPV6_PROTOCOL = [0x11 0x00], IPV6_IP_ADDRESS_ORIGIN = 0x01] []
-        ",UDP,StatelessAutoConfigure,"),
-    ipv6!(short [IPV6_PROTOCOL = [0x11 0x00]] [IPV6_IP_ADDRESS_ORIGIN = 0x02]
-        ",UDP,StatefulAutoConfigure,"),
-    ipv6!(short [IPV6_IP_ADDRESS_ORIGIN = 0x00] [] ",0x" [Hexadecimal IPV6_PROTOCOL ",Static,"]),
-    ipv6!(short [IPV6_IP_ADDRESS_ORIGIN = 0x01] [] ",0x"
-        [Hexadecimal IPV6_PROTOCOL ",StatelessAutoConfigure,"]),
-    ipv6!(short [] [IPV6_IP_ADDRESS_ORIGIN = 0x02] ",0x"
-        [Hexadecimal IPV6_PROTOCOL ",StatefulAutoConfigure,"]),
-];
+const IPV6_SHORT: &[WrittenRow] = ipv6_forms!(short);
 
 /// Classes of USB devices.
 #[rattlefmt::skip]
@@ -564,28 +549,17 @@ const MEDIA: &[WrittenRow] = &[
         [Decimal RAM_DISK_DISK_INSTANCE ","] [Guid RAM_DISK_DISK_TYPE ")"] Nothing ""),
 ];
 
-/// Devices that a legacy BIOS can boot, by their types (BIOS Boot Specification). Texts for display omit
-/// their flags.
+/// Devices that a legacy BIOS can boot, by their types (BIOS Boot Specification).
 #[rattlefmt::skip]
-const BOOT: &[WrittenRow] = &[
-    boot!(Display 0x01 "BBS(Floppy,"),
-    boot!(Display 0x02 "BBS(HD,"),
-    boot!(Display 0x03 "BBS(CDROM,"),
-    boot!(Display 0x04 "BBS(PCMCIA,"),
-    boot!(Display 0x05 "BBS(USB,"),
-    boot!(Display 0x06 "BBS(Network,"),
-    row!(BIOS_BOOT_SPEC_TYPE BOOT_SPECIFICATION Display BOOT_SPECIFICATION_FIXED + 1 [] [] "BBS(0x"
-        [Hexadecimal BOOT_SPECIFICATION_DEVICE_TYPE ","] Name ")"),
-    boot!(Read 0x01 "BBS(Floppy,"),
-    boot!(Read 0x02 "BBS(HD,"),
-    boot!(Read 0x03 "BBS(CDROM,"),
-    boot!(Read 0x04 "BBS(PCMCIA,"),
-    boot!(Read 0x05 "BBS(USB,"),
-    boot!(Read 0x06 "BBS(Network,"),
-    row!(BIOS_BOOT_SPEC_TYPE BOOT_SPECIFICATION Read BOOT_SPECIFICATION_FIXED + 1 [] [] "BBS(0x"
-        [Hexadecimal BOOT_SPECIFICATION_DEVICE_TYPE ","] Name ",0x"
-        [Hexadecimal BOOT_SPECIFICATION_STATUS_FLAG ")"]),
-];
+const BOOT: &[WrittenRow] = boot_forms!(
+    [BOOT_SPECIFICATION_DEVICE_TYPE = [0x01 0x00]] "BBS(Floppy,",
+    [BOOT_SPECIFICATION_DEVICE_TYPE = [0x02 0x00]] "BBS(HD,",
+    [BOOT_SPECIFICATION_DEVICE_TYPE = [0x03 0x00]] "BBS(CDROM,",
+    [BOOT_SPECIFICATION_DEVICE_TYPE = [0x04 0x00]] "BBS(PCMCIA,",
+    [BOOT_SPECIFICATION_DEVICE_TYPE = [0x05 0x00]] "BBS(USB,",
+    [BOOT_SPECIFICATION_DEVICE_TYPE = [0x06 0x00]] "BBS(Network,",
+    [] "BBS(0x" [Hexadecimal BOOT_SPECIFICATION_DEVICE_TYPE ","],
+);
 
 /// Returns the item of a list.
 #[tactic(auto, unfolding(crate::specs::Parts::packed_pieces, crate::specs::Parts::packed_text, crate::specs::Rows::item_of))]
