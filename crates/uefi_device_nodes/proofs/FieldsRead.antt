@@ -4,18 +4,13 @@ use Rattle.std.specs.Prelude.{◌&&◌, nat_le}
 use Rattle.std.specs.Int.{bytes_low_first, byte_at, to_le_bytes, w32}
 use Rattle.std.specs.List.{flat_map}
 use Rattle.std.proofs.Math.Nat.{div-div-eq-div-mul, div-one}
-use Rattle.std.proofs.lemmas.Bool.{leb-true}
+use Rattle.std.proofs.lemmas.Bool.{and_parts, leb-true}
 use Rattle.std.proofs.lemmas.List.{length-take, drop_at}
 use Rattle.std.proofs.lemmas.Slice.{between_is, between-put_mid, drop-put_mid, take-put_mid_below}
 use Rattle.uefi_text.specs.Packed.{little_endian}
 use Rattle.uefi_device_nodes.specs.TypedNodes.{bytes_in}
 use Rattle.uefi_device_nodes.specs.NodeFields.{FieldValue, number, bytes, field_of, bytes_of_value, FitsField, HasValue, with_value, with_values, lie_apart, content_of, AllFit, HasValues}
 use Rattle.std.proofs.Math.ListN.{replicate, length-replicate}
-
--- both of two tests
-both : (a b : Bool) → a && b ≡ true → (a ≡ true) × (b ≡ true)
-both true b e = (refl, e)
-both false b e = absurd (cc e)
 
 -- the power of one more
 power : (k : ℕ) → 256 ^ suc k ≡ 256 ^ k * 256
@@ -28,12 +23,6 @@ byte_is : (i n : ℕ) → byte_at i n ≡ n / 256 ^ i % 256
 byte_is zero n = ap (λ m. m % 256) (sym (div-one n))
 byte_is (suc i) n = refl
 
-less : (m p : ℕ) → m < p * 256 → m / 256 < p
-less m p h = omega arith
-
-whole : (m b r : ℕ) → b ≡ m % 256 → r ≡ m / 256 → b + 256 * r ≡ m
-whole m b r p q = omega arith
-
 -- the number that its bytes encode
 pub encoded : (k i n : ℕ) → n / 256 ^ i < 256 ^ k → little_endian (bytes_low_first i k n) ≡ n / 256 ^ i
 encoded zero i n small = omega (arith, small)
@@ -41,10 +30,8 @@ encoded (suc k) i n small =
     let q = power k in
     let within : n / 256 ^ i < 256 ^ k * 256 = omega (arith, small, q) in
     let d = div_step i n in
-    let l = less (n / 256 ^ i) (256 ^ k) within in
-    let lower : n / 256 ^ suc i < 256 ^ k = omega (arith, d, l) in
-    whole (n / 256 ^ i) (byte_at i n) (little_endian (bytes_low_first (suc i) k n)) (byte_is i n)
-    (encoded k (suc i) n lower ∙ d)
+    let lower : n / 256 ^ suc i < 256 ^ k = omega (arith, d, within) in
+    omega (arith, byte_is i n, encoded k (suc i) n lower ∙ d)
 
 -- and of all its bytes
 pub encoded_all : (k n : ℕ) → n < 256 ^ k → little_endian (bytes_low_first 0 k n) ≡ n
@@ -70,7 +57,7 @@ says (bytes field bs) content fit e = e
 pub ends : (from len : ℕ) (fs : List FieldValue) → lie_apart from fs len ≡ true → from ≤ len
 ends from len [] a = leb-true from len a
 ends from len (f ∷ fs) a =
-    let (first, rest) = both (nat_le from (field_of f).place) (lie_apart ((field_of f).place + (field_of f).width) fs len) a in
+    let (first, rest) = and_parts (nat_le from (field_of f).place) (lie_apart ((field_of f).place + (field_of f).width) fs len) a in
     let h = leb-true from (field_of f).place first in
     let e = ends ((field_of f).place + (field_of f).width) len fs rest in omega (arith, h, e)
 
@@ -91,7 +78,7 @@ pub with_values_below : (fs : List FieldValue) (from len n : ℕ) (content : Lis
 unfolding with_value
 with_values_below [] from len n content h a l fits = refl
 with_values_below (f ∷ fs) from len n content h a l (fit, fits) =
-    let (first, rest) = both (nat_le from (field_of f).place) (lie_apart ((field_of f).place + (field_of f).width) fs len) a in
+    let (first, rest) = and_parts (nat_le from (field_of f).place) (lie_apart ((field_of f).place + (field_of f).width) fs len) a in
     let p = leb-true from (field_of f).place first in
     let e = ends ((field_of f).place + (field_of f).width) len fs rest in
     let s = length-with_value f content fit (omega arith) in
@@ -104,7 +91,7 @@ pub with_values_above : (fs : List FieldValue) (from len : ℕ) (content : List 
 unfolding with_value
 with_values_above [] from len content a l fits = refl
 with_values_above (f ∷ fs) from len content a l (fit, fits) =
-    let (first, rest) = both (nat_le from (field_of f).place) (lie_apart ((field_of f).place + (field_of f).width) fs len) a in
+    let (first, rest) = and_parts (nat_le from (field_of f).place) (lie_apart ((field_of f).place + (field_of f).width) fs len) a in
     let e = ends ((field_of f).place + (field_of f).width) len fs rest in
     let s = length-with_value f content fit (omega arith) in
     with_values_above fs ((field_of f).place + (field_of f).width) len (with_value f content) rest (omega arith) fits
@@ -114,7 +101,7 @@ pub length-with_values : (fs : List FieldValue) (from len : ℕ) (content : List
     → len ≤ length content → AllFit fs → length (with_values fs content) ≡ length content
 length-with_values [] from len content a l fits = refl
 length-with_values (f ∷ fs) from len content a l (fit, fits) =
-    let (first, rest) = both (nat_le from (field_of f).place) (lie_apart ((field_of f).place + (field_of f).width) fs len) a in
+    let (first, rest) = and_parts (nat_le from (field_of f).place) (lie_apart ((field_of f).place + (field_of f).width) fs len) a in
     let e = ends ((field_of f).place + (field_of f).width) len fs rest in
     let s = length-with_value f content fit (omega arith) in
     length-with_values fs ((field_of f).place + (field_of f).width) len (with_value f content) rest (omega arith) fits ∙ s
@@ -125,7 +112,7 @@ pub held : (fs : List FieldValue) (from len : ℕ) (content after : List ℕ) �
 unfolding with_value
 held [] from len content after is a l fits = fits
 held (f ∷ fs) from len content after is a l (fit, fits) =
-    let (first, rest) = both (nat_le from (field_of f).place) (lie_apart ((field_of f).place + (field_of f).width) fs len) a in
+    let (first, rest) = and_parts (nat_le from (field_of f).place) (lie_apart ((field_of f).place + (field_of f).width) fs len) a in
     let end : ℕ = (field_of f).place + (field_of f).width in
     let e = ends end len fs rest in
     let s = length-with_value f content fit (omega arith) in

@@ -31,39 +31,26 @@ module _ (joined : JoinedShown) (ascii : AsciiShown) (numbers : NumbersShown) (b
   row [] each = none
   row (part ∷ parts) each = joined part (concat parts) each.0 (row parts each.1)
 
-  text : (bytes : List ℕ) → IsShown (shown_bytes bytes)
-  text bytes = (bytes_are bytes).4
+  comma : IsShown (codes ",")
+  comma = ascii (codes ",") refl
+
+  end : Each (codes ")" ∷ [])
+  end = (ascii (codes ")") refl, tt)
 
   expanded : (content : List ℕ) → IsShown (expanded_text content)
   expanded content =
       let uid : List ℕ = uid_string (bytes_from EXPANDED_ID_STRINGS content) in
       let hid_id : List ℕ = eisa_text (number_in EXPANDED_HID content) in
       let cid_id : List ℕ = eisa_text (number_in EXPANDED_CID content) in
-      let comma = ascii (codes ",") refl in
-      row (codes "AcpiExp(" ∷ hid_id ∷ codes "," ∷ cid_id ∷ codes "," ∷ shown_bytes uid ∷ codes ")" ∷ []) (
-        ascii (codes "AcpiExp(") refl,
-        (
-          (names (number_in EXPANDED_HID content) 0).0,
-          (comma, ((names (number_in EXPANDED_CID content) 0).0, (comma, (text uid, (ascii (codes ")") refl, tt))))),
-        ),
-      )
+      let id : (n : ℕ) → IsShown (eisa_text n) = λ n. (names n 0).0 in
+      row (codes "AcpiExp(" ∷ hid_id ∷ codes "," ∷ cid_id ∷ codes "," ∷ shown_bytes uid ∷ codes ")" ∷ [])
+      (ascii (codes "AcpiExp(") refl, (id _, (comma, (id _, (comma, ((bytes_are uid).4, end))))))
 
   unknown : (node : Node) → IsShown (unknown_text node)
   unfolding unknown_text
   unknown node =
-      row (codes "Path(" ∷ decimal node.device_type ∷ codes "," ∷ decimal node.sub_type ∷ comma_bytes node.content ∷ codes ")" ∷ []) (
-        ascii (codes "Path(") refl,
-        (
-          (numbers node.device_type).1,
-          (
-            ascii (codes ",") refl,
-            (
-              (numbers node.sub_type).1,
-              ((bytes_are node.content).3, (ascii (codes ")") refl, tt)),
-            ),
-          ),
-        ),
-      )
+      row (codes "Path(" ∷ decimal node.device_type ∷ codes "," ∷ decimal node.sub_type ∷ comma_bytes node.content ∷ codes ")" ∷ [])
+      (ascii (codes "Path(") refl, ((numbers node.device_type).1, (comma, ((numbers node.sub_type).1, ((bytes_are node.content).3, end)))))
 
   short : (node : Node) → IsShown (short_name node)
   short node =
