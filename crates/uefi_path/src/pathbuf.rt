@@ -28,7 +28,7 @@ use crate::file_names::stem_len;
 use crate::path::Path;
 use crate::path_units::{last_component, needs_separator, others_end};
 use crate::push_blocks::{add_block, copy_units};
-use crate::rooms::{copy_places, copy_string, room_for_both};
+use crate::rooms::{copy_places, copy_string, room_for_both, room_if_short};
 use crate::separators::{add_places, count_separators, cut_last};
 use crate::written::{parent_len, sink_parent};
 use std::alloc::{AllocError, Allocator, Global};
@@ -152,8 +152,9 @@ impl<'a> Path<'a> {
     }
 
     /// Creates an owned path: this path with another pushed after it, as [`PathBuf::push`] does.
-    /// The slashes of both are replaced. Allocates exactly what the text of both and the indices of
-    /// their separators need. Returns `AllocError` if memory runs out.
+    /// The slashes of both are replaced. Allocates once for the text of both. If that contains
+    /// separators, allocates once more, or for the separators as they come if the other path is
+    /// long. Returns `AllocError` if memory runs out.
     ///
     /// ```rust
     /// let base = CString16::try_from_str(rt.alloc(), r"\efi")?;
@@ -170,7 +171,10 @@ impl<'a> Path<'a> {
             joined ≡ pushed (with_separators (path_text self.now)) (path_text path.entry)) }
     {
         let string = copy_string(alloc, self.to_cstr16(), room_for_both(*self, path))?;
-        PathBuf::from_string(alloc, string)?.with_pushed(path)
+        let Ok(first) = PathBuf::with_room(alloc, string, room_if_short(*self, path)) else {
+            return Err(AllocError);
+        };
+        first.with_pushed(path)
     }
 
     /// Creates the parent, with each slash replaced. Returns `AllocError` if memory runs out.
@@ -265,12 +269,20 @@ impl<A: Allocator + Copy> PathBuf<A> {
     /// let path = PathBuf::new_from_cstring16(rt.alloc(), text);
     /// assert_eq!(rt; path.map(|it| it.components().count()), Ok(2));
     /// ```
-    pub fn new_from_cstring16(alloc: A, mut string: CString16<A>) -> Result<Self, CString16<A>>
+    pub fn new_from_cstring16(alloc: A, string: CString16<A>) -> Result<Self, CString16<A>>
+        ensures ok { IfOk result (λ path. path ≡ with_separators string) }
+        ensures err { IfErr result (λ kept. kept ≡ string) }
+    {
+        PathBuf::with_room(alloc, string, 0)
+    }
+
+    /// Does what [`PathBuf::new_from_cstring16`] does, with room for this many more separators.
+    fn with_room(alloc: A, mut string: CString16<A>, more: usize) -> Result<Self, CString16<A>>
         ensures ok { IfOk result (λ path. path ≡ with_separators string) }
         ensures err { IfErr result (λ kept. kept ≡ string) }
     {
         let (count, has_slash) = count_separators(string.as_cstr16().to_u16_slice());
-        let Ok(mut places) = Vec::with_capacity(alloc, count) else {
+        let Ok(mut places) = Vec::with_capacity(alloc, count.saturating_add(more)) else {
             return Err(string);
         };
         replace_slashes(&mut string, has_slash);
