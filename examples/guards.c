@@ -96,10 +96,10 @@ FINDS(string_with_nul) FINDS(string_until_nul) FINDS(packed_until_nul) FINDS(pat
 FINDS(device_path_check) FINDS(lenient_text_extent) FINDS(libefivar_text_extent)
 CHANGES(string_make_uppercase) CHANGES(string_make_lowercase) CHANGES(device_path_begin)
 ADDS(path_push) ADDS(device_path_append) ADDS(device_path_push_text) ADDS(device_path_push_lenient_text)
-ADDS(device_path_push_libefivar_text)
+ADDS(device_path_push_libefivar_text) ADDS(device_path_push_units) ADDS(device_path_push_lenient_units)
 WRITES(units_from_bytes) WRITES(string_from_utf8) WRITES(utf8_from_string) WRITES(path_parent) WRITES(fat_from_string)
 WRITES(fat_from_units) WRITES(string_from_fat) WRITES(device_path_file_path) WRITES(device_path_libefivar_text) WRITES(utf8_from_units_lossy)
-WRITES(lenient_text_fault) WRITES(libefivar_text_fault)
+WRITES(lenient_text_fault) WRITES(libefivar_text_fault) WRITES(lenient_units_fault)
 CALL(path_verdict, IN(0), place, JUDGED)
 CALL(path_next_component, IN(0), place, (nard_size *)buffer.at, (nard_size *)buffer.at + 1)
 CALL(device_path_needs, IN(0), place, (nard_size *)buffer.at)
@@ -403,6 +403,30 @@ static const struct row rows[] = {
     FAULT(device_path_push_libefivar_text, REFUSED, NO_NODE, 8, .before = BYTES(PCI END), .in = {BYTES("PciRoot(12)")}),
     FAULT(device_path_push_libefivar_text, REFUSED, NOT_UTF8, 1, .before = BYTES(END), .in = {BYTES("x\xc3")}),
     FAULT(device_path_push_libefivar_text, REFUSED, UNKNOWN_END, 1, .before = BYTES(UNKNOWN), .in = {BYTES("\xc3")}),
+    /* The same in UTF-16: up to a NUL or the count, a character of each number of bytes, and offsets in units. */
+    ROW(device_path_push_units, WHOLE, .before = BYTES(PCI END "x"), .in = {UNITS(u"Pci(0x1F,0x0)/\\a\0b")},
+        .out = BYTES(PCI PCI FILE_A END)),
+    ROW(device_path_push_units, WHOLE, .before = BYTES(END), .in = {OPEN(u"\\a")}, .out = BYTES(FILE_A END)),
+    ROW(device_path_push_units, WHOLE, .before = BYTES(END), .in = {OPEN(u"\\\xe9\x4e00\xd83d\xde00")},
+        .out = BYTES("\4\4\20\0\\\0\xe9\0\0\x4e\x3d\xd8\0\xde\0\0" END)),
+    ROW(device_path_push_units, WHOLE, .before = BYTES(PCI END), .in = {UNITS(u"")}, .out = BYTES(PCI END)),
+    FAULT(device_path_push_units, REFUSED, NO_NODE, 6, .before = BYTES(PCI END), .in = {UNITS(u"\\\xe9\x4e00\xd83d\xde00/Pci(0x1f,0x0)")}),
+    FAULT(device_path_push_units, REFUSED, INVALID_CHAR, 1, .before = BYTES(END), .in = {OPEN(u"x\xd83d")}),
+    FAULT(device_path_push_units, REFUSED, INVALID_CHAR, 4, .before = BYTES(END), .in = {UNITS(u"\\\xd83d\xde00\xfffd\xde00\xd83d")}),
+    FAULT(device_path_push_units, REFUSED, UNKNOWN_END, 1, .before = BYTES(UNKNOWN), .in = {UNITS(u"\xd83d")}),
+    ROW(device_path_push_lenient_units, WHOLE, .before = BYTES(PCI END "x"), .in = {UNITS(u"'/pci( 31, 0 )/File(a)' ")},
+        .out = BYTES(PCI PCI FILE_A END)),
+    ROW(device_path_push_lenient_units, WHOLE, .before = BYTES(END), .in = {OPEN(u",\\a")}, .out = BYTES("\x7f\1\4\0" FILE_A END)),
+    ROW(device_path_push_lenient_units, WHOLE, .before = BYTES(END), .in = {OPEN(u"File(\xd83d\xde00)")},
+        .out = BYTES("\4\4\14\0\\\0\x3d\xd8\0\xde\0\0" END)),
+    FAULT(device_path_push_lenient_units, REFUSED, NO_NODE, 10, .before = BYTES(PCI END),
+          .in = {UNITS(u"\\\xe9\x4e00\xd83d\xde00/Pci(0x100)")}),
+    FAULT(device_path_push_lenient_units, REFUSED, INVALID_CHAR, 1, .before = BYTES(END), .in = {UNITS(u"x\xde00\xd83d")}),
+    FAULT(device_path_push_lenient_units, REFUSED, UNKNOWN_END, 1, .before = BYTES(UNKNOWN), .in = {UNITS(u"\xd83d")}),
+    ROW(lenient_units_fault, TEXT, .in = {UNITS(u"\\\xd83d\xde00/Pci(256,0)")},
+        .out = UNITS(u"no node at offset 4: expected a number up to 0xFF at offset 8")),
+    ROW(lenient_units_fault, TEXT, .in = {UNITS(u"file(a)")}, .out = UNITS(u"")),
+    FAULT(lenient_units_fault, REFUSED, INVALID_CHAR, 1, .in = {UNITS(u"x\xd83d")}),
     ROW(libefivar_text_fault, TEXT, .in = {BYTES("PciRoot(0x0)/SAS(0x1)")},
         .out = UNITS(u"no node at offset 13: expected a shorter node, or one whose text tells all of it at offset 17")),
     ROW(libefivar_text_fault, TEXT, .in = {BYTES("file(a)")}, .out = UNITS(u"")),

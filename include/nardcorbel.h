@@ -786,6 +786,39 @@ nard_result NARD_CALL nard_device_path_push_libefivar_text(nard_byte *buffer, na
                                                            nard_size byte_count, nard_size *length);
 
 /*
+ * Adds the nodes of a text in UTF-16, as nard_device_path_text writes it without display_only and allow_shortcuts, to the device path
+ * that a buffer begins with, before its end. The text is the units before their first NUL, or all of them if there is none. It is
+ * read as nard_device_path_push_text reads the same text in UTF-8.
+ *
+ * Returns NARD_OK, or the first of these that holds
+ *   as nard_device_path_check of the buffer, with its *length
+ *   NARD_INVALID_CHAR       a surrogate without a partner is at index *length
+ *   NARD_NO_NODE            a node should begin at unit *length of the text, but does not
+ *   NARD_BUFFER_TOO_SMALL   room < *length, the size that the path would have, or SIZE_MAX if the size is larger
+ * If the call returns NARD_OK, *length is the new size of the path, and the bytes after it are unchanged. Otherwise the buffer is
+ * unchanged.
+ */
+nard_result NARD_CALL nard_device_path_push_units(nard_byte *buffer, nard_size room, const nard_unit *units, nard_size count,
+                                                  nard_size *length);
+
+/*
+ * Adds the nodes of a text in UTF-16, as people write it, to the device path that a buffer begins with, before its end. The text is
+ * the units before their first NUL, or all of them if there is none. It is read as nard_device_path_push_lenient_text reads the same
+ * text in UTF-8.
+ *
+ * Returns NARD_OK, or the first of these that holds
+ *   as nard_device_path_check of the buffer, with its *length
+ *   NARD_INVALID_CHAR       a surrogate without a partner is at index *length
+ *   NARD_NO_NODE            a node can't be read; *length is the index of the first wrong unit, or of the wrong number, digits or
+ *                           name, or the length of the text if it ends too early
+ *   NARD_BUFFER_TOO_SMALL   room < *length, the size that the path would have, or SIZE_MAX if the size is larger
+ * If the call returns NARD_OK, *length is the new size of the path, and the bytes after it are unchanged. Otherwise the buffer is
+ * unchanged.
+ */
+nard_result NARD_CALL nard_device_path_push_lenient_units(nard_byte *buffer, nard_size room, const nard_unit *units, nard_size count,
+                                                          nard_size *length);
+
+/*
  * Finds the end of the path at the start of a text. Other data may follow the path: efibootmgr -v prints optional data directly
  * after it, for example
  *     HD(1,GPT,12345678-9abc-def0-1234-56789abcdef0,0x800,0x100000)/File(\EFI\debian\shimx64.efi)RC
@@ -825,6 +858,19 @@ nard_result NARD_CALL nard_lenient_text_fault(const nard_byte *bytes, nard_size 
  */
 nard_result NARD_CALL nard_libefivar_text_fault(const nard_byte *bytes, nard_size byte_count, nard_unit *buffer, nard_size room,
                                                 nard_size *length);
+
+/*
+ * Writes in words why a text in UTF-16 is refused. The words say why nard_device_path_push_lenient_units returns NARD_NO_NODE, as
+ * nard_lenient_text_fault says it for a text in UTF-8. Offsets in the words count units.
+ *
+ * Returns NARD_OK, or the first of these that holds
+ *   NARD_INVALID_CHAR       a surrogate without a partner is at index *length
+ *   NARD_BUFFER_TOO_SMALL   room <= *length, the length of the words in units without their NUL
+ * If the call returns NARD_OK, the words and a NUL were written, *length is their length without it, and the rest of the buffer is
+ * unchanged. Otherwise the buffer is unchanged.
+ */
+nard_result NARD_CALL nard_lenient_units_fault(const nard_unit *units, nard_size count, nard_unit *buffer, nard_size room,
+                                               nard_size *length);
 
 /*
  * Writes a load option of one device path, the value of a variable Boot####.
@@ -1358,6 +1404,20 @@ static inline NARD_MUST_USE nard_result NARD_CALL nard_call_device_path_push_lib
 }
 #define nard_device_path_push_libefivar_text nard_call_device_path_push_libefivar_text
 
+static inline NARD_MUST_USE nard_result NARD_CALL nard_call_device_path_push_units(nard_byte *buffer, nard_size room,
+        const nard_unit *units, nard_size count, nard_size *length)
+{
+    return nard_device_path_push_units(nard_given_byte_room(buffer), room, nard_given_units(units), count, length);
+}
+#define nard_device_path_push_units nard_call_device_path_push_units
+
+static inline NARD_MUST_USE nard_result NARD_CALL nard_call_device_path_push_lenient_units(nard_byte *buffer, nard_size room,
+        const nard_unit *units, nard_size count, nard_size *length)
+{
+    return nard_device_path_push_lenient_units(nard_given_byte_room(buffer), room, nard_given_units(units), count, length);
+}
+#define nard_device_path_push_lenient_units nard_call_device_path_push_lenient_units
+
 static inline NARD_MUST_USE nard_result NARD_CALL nard_call_lenient_text_extent(const nard_byte *bytes, nard_size byte_count,
         nard_size *length)
 {
@@ -1385,6 +1445,13 @@ static inline NARD_MUST_USE nard_result NARD_CALL nard_call_libefivar_text_fault
     return nard_libefivar_text_fault(nard_given_bytes(bytes), byte_count, nard_given_unit_room(buffer), room, length);
 }
 #define nard_libefivar_text_fault nard_call_libefivar_text_fault
+
+static inline NARD_MUST_USE nard_result NARD_CALL nard_call_lenient_units_fault(const nard_unit *units, nard_size count,
+        nard_unit *buffer, nard_size room, nard_size *length)
+{
+    return nard_lenient_units_fault(nard_given_units(units), count, nard_given_unit_room(buffer), room, length);
+}
+#define nard_lenient_units_fault nard_call_lenient_units_fault
 
 static inline NARD_MUST_USE nard_result NARD_CALL nard_call_load_option_write(nard_size attributes,
         const nard_unit *description, nard_size count, const nard_byte *bytes, nard_size byte_count, const nard_byte *optional,

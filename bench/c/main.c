@@ -38,6 +38,18 @@ static void our_strict(void)
     kept += nard_device_path_push_text(path, sizeof path, (const nard_byte *)text, count, &place);
 }
 
+static void our_lenient_units(void)
+{
+    start_path();
+    kept += nard_device_path_push_lenient_units(path, sizeof path, wide, count, &place);
+}
+
+static void our_strict_units(void)
+{
+    start_path();
+    kept += nard_device_path_push_units(path, sizeof path, wide, count, &place);
+}
+
 static void their_reader(void)
 {
     edk2_forget();
@@ -146,6 +158,10 @@ static void texts(const char *name, const char *of)
     compare(what, our_lenient, their_reader);
     snprintf(what, sizeof what, "%s read strictly", name);
     compare(what, our_strict, their_reader);
+    snprintf(what, sizeof what, "%s read leniently, UTF-16", name);
+    compare(what, our_lenient_units, their_reader);
+    snprintf(what, sizeof what, "%s read strictly, UTF-16", name);
+    compare(what, our_strict_units, their_reader);
     snprintf(what, sizeof what, "%s printed", name);
     compare(what, our_printer, their_printer);
 }

@@ -247,6 +247,12 @@ call!(nard_device_path_push_lenient_text(buffer: &mut [u8], bytes: &[u8], length
 call!(nard_device_path_push_libefivar_text(buffer: &mut [u8], bytes: &[u8], length: &mut usize) -> u32
     as (buffer.as_mut_ptr(), buffer.len(), bytes.as_ptr(), bytes.len(), length)
     of (*mut u8, usize, *const u8, usize, *mut usize));
+call!(nard_device_path_push_units(buffer: &mut [u8], units: &[u16], length: &mut usize) -> u32
+    as (buffer.as_mut_ptr(), buffer.len(), units.as_ptr(), units.len(), length)
+    of (*mut u8, usize, *const u16, usize, *mut usize));
+call!(nard_device_path_push_lenient_units(buffer: &mut [u8], units: &[u16], length: &mut usize) -> u32
+    as (buffer.as_mut_ptr(), buffer.len(), units.as_ptr(), units.len(), length)
+    of (*mut u8, usize, *const u16, usize, *mut usize));
 call!(nard_lenient_text_extent(bytes: &[u8], length: &mut usize) -> u32
     as (bytes.as_ptr(), bytes.len(), length)
     of (*const u8, usize, *mut usize));
@@ -259,6 +265,9 @@ call!(nard_lenient_text_fault(bytes: &[u8], buffer: &mut [u16], length: &mut usi
 call!(nard_libefivar_text_fault(bytes: &[u8], buffer: &mut [u16], length: &mut usize) -> u32
     as (bytes.as_ptr(), bytes.len(), buffer.as_mut_ptr(), buffer.len(), length)
     of (*const u8, usize, *mut u16, usize, *mut usize));
+call!(nard_lenient_units_fault(units: &[u16], buffer: &mut [u16], length: &mut usize) -> u32
+    as (units.as_ptr(), units.len(), buffer.as_mut_ptr(), buffer.len(), length)
+    of (*const u16, usize, *mut u16, usize, *mut usize));
 call!(nard_load_option_write(attributes: usize, description: &[u16], bytes: &[u8], optional: &[u8], buffer: &mut [u8], length: &mut usize) -> u32
     as (attributes, description.as_ptr(), description.len(), bytes.as_ptr(), bytes.len(), optional.as_ptr(), optional.len(), buffer.as_mut_ptr(), buffer.len(), length)
     of (usize, *const u16, usize, *const u8, usize, *const u8, usize, *mut u8, usize, *mut usize));

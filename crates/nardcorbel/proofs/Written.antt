@@ -10,15 +10,14 @@ use Rattle.uefi_text.specs.Units.{nul_terminated}
 use Rattle.uefi_text.specs.declared.unit_sink.BufferTooSmall.{BufferTooSmall}
 use Rattle.uefi_device_path.proofs.CheckedRuns.{reads_path, reads_refusal}
 use Rattle.uefi_device_path.proofs.Entries.{same_entry}
-use Rattle.uefi_device_path.specs.Building.{grow_refusal, len_unless, prefix_unless, room_refusal}
+use Rattle.uefi_device_path.specs.Building.{path_length, grow_refusal, len_unless, prefix_unless, room_refusal}
 use Rattle.uefi_device_path.specs.CheckedNodes.{path_of_bytes}
 use Rattle.uefi_device_path.specs.Faults.{RefusedFor}
 use Rattle.uefi_device_path.specs.LoadOptions.{Entry, entry_bytes}
 use Rattle.uefi_device_path.specs.Nodes.{Node}
 use Rattle.uefi_device_path.specs.OptionBuilding.{room_fault, written_where}
 use Rattle.uefi_device_path.specs.Paths.{BeginWithPath, path_bytes}
-use Rattle.uefi_device_path.specs.StyledReading.{IsReadAs, ReadingStopsAt, lenient_refusal, path_read}
-use Rattle.uefi_device_path.specs.TextStyle.{TextStyle}
+use Rattle.uefi_device_path.specs.StyledReading.{lenient_refusal}
 use Rattle.uefi_device_path.specs.declared.errors.BuildError.{BuildError}
 use Rattle.uefi_device_path.specs.declared.errors.BuildError.TheVariants as build
 use Rattle.uefi_device_path.specs.declared.errors.DevicePathError.{DevicePathError}
@@ -26,14 +25,16 @@ use Rattle.uefi_device_path.specs.declared.errors.GrowError.{GrowError}
 use Rattle.uefi_device_path.specs.declared.errors.GrowError.TheVariants.{Build, Path}
 use Rattle.uefi_device_path.specs.declared.errors.OptionBuildError.{OptionBuildError}
 use Rattle.uefi_device_path.specs.declared.lenient_errors.PushLenientTextError.{PushLenientTextError}
+use Rattle.uefi_device_path.specs.declared.lenient_errors.PushLenientTextError.TheVariants as push
 use Rattle.uefi_device_path.specs.declared.lenient_errors.PushLenientTextError.TheVariants.{NoNode}
 use Rattle.uefi_device_path.specs.declared.lenient_errors.TextFault.{TextFault}
 use Rattle.nardcorbel.specs.DevicePathBuffers.{entry_of_path}
-use Rattle.nardcorbel.specs.Outcomes.{Shows, ShowsNumber, when_read, unless}
+use Rattle.nardcorbel.specs.Outcomes.{Shows, ShowsNumber, refusal_at, when_read, unless}
 use Rattle.nardcorbel.specs.Outcomes.Outcome.{Content, Number, Text}
-use Rattle.nardcorbel.specs.Reading.{read_path, read_text}
-use Rattle.nardcorbel.specs.Refusals.{build_refused, fault_refusal, grow_refused, option_refused, path_refusal, room_refused, text_refused}
+use Rattle.nardcorbel.specs.Reading.{read_path}
+use Rattle.nardcorbel.specs.Refusals.{build_refused, grow_refused, option_refused, path_refusal, room_refused}
 use Rattle.nardcorbel.specs.declared.outcomes.Refusal.{Refusal}
+use Rattle.nardcorbel.specs.declared.reasons.TheConstants.{BUFFER_TOO_SMALL}
 
 -- what a call reports of what it gives
 abbrev pub Reports : {E : Type 0} → (E → Refusal) → Result ℕ E → ℕ → ℕ → ℕ → Type 0
@@ -132,48 +133,38 @@ grown_at true missing None old new content given before returned number small is
         record { reason = grind (arith, common_steps, there.reason); place = grind (arith, common_steps, there.place); buffer = wrote }
 
 -- the nodes that a text is read as were added, or why they were not
-added_by : (style : TextStyle) (old new : List ℕ) (nodes : List Node) (read : Result (List Node) TextFault) (given : Result ℕ PushLenientTextError) (before returned number : ℕ)
-    → length old < 2 ^ 63
-    → ((fault : TextFault) → read ≡ Err fault → given ≡ Err (NoNode fault))
-    → ((others : List Node) → read ≡ Ok others → result_err given ≡ lenient_refusal nodes others (length old))
-    → ((others : List Node) → read ≡ Ok others → IfOk given (λ len. len ≡ length (path_bytes (nodes ++ others))))
-    → ((others : List Node) → read ≡ Ok others → OnOk given (new ≡ with_prefix (path_bytes (nodes ++ others)) old))
-    → OnErr given (new ≡ old) → Reports (text_refused style) given before returned number
-    → Shows (when_read (result_map_both (λ ns. ns) (fault_refusal style) read) (λ others. Content (path_bytes (nodes ++ others)))) before old returned number new
-added_by style old new nodes (Err fault) given before returned number small stops refusal len_is wrote none shown =
-    let same = stops fault refl in
-    let there = subst (λ r. Reports (text_refused style) r before returned number) same shown in
-    record { reason = there.reason; place = there.place; buffer = subst (λ r. OnErr r (new ≡ old)) same none }
-added_by style old new nodes (Ok others) (Ok len) before returned number small stops refusal len_is wrote none shown =
-    let content = path_bytes (nodes ++ others) in
-    let e = refusal others refl in
-    let long = len_is others refl in
-    record {
-      reason = grind (arith, common_steps);
-      place = grind (arith, common_steps);
-      buffer = wrote others refl;
-    }
-added_by style old new nodes (Ok others) (Err error) before returned number small stops refusal len_is wrote none shown =
-    let content = path_bytes (nodes ++ others) in
-    let e = refusal others refl in
-    record {
-      reason = grind (arith, common_steps);
-      place = grind (arith, common_steps);
-      buffer = grind (arith, common_steps);
-    }
-
--- the same of a text
-pub added : (style : TextStyle) (old new text : List ℕ) (nodes : List Node) (given : Result ℕ PushLenientTextError) (before returned number : ℕ)
-    → length old < 2 ^ 63
-    → ((fault : TextFault) → ReadingStopsAt style text fault → given ≡ Err (NoNode fault))
-    → ((others : List Node) → IsReadAs style text others → result_err given ≡ lenient_refusal nodes others (length old))
-    → ((others : List Node) → IsReadAs style text others → IfOk given (λ len. len ≡ length (path_bytes (nodes ++ others))))
-    → ((others : List Node) → IsReadAs style text others → OnOk given (new ≡ with_prefix (path_bytes (nodes ++ others)) old))
-    → OnErr given (new ≡ old) → Reports (text_refused style) given before returned number
-    → Shows (when_read (read_text style text) (λ others. Content (path_bytes (nodes ++ others)))) before old returned number new
-unfolding read_text
-added style old new text nodes given before returned number small stops refusal len_is wrote none shown =
-    added_by style old new nodes (path_read style text) given before returned number small stops refusal len_is wrote none shown
+module _ (refused : PushLenientTextError → Refusal) (room : (needed : ℕ) → refused (push.BufferTooSmall needed) ≡ refusal_at BUFFER_TOO_SMALL needed)
+    (old new : List ℕ) (nodes : List Node) where
+  pub added_by : (read : Result (List Node) TextFault) (given : Result ℕ PushLenientTextError) (before returned number : ℕ)
+      → length old < 2 ^ 63
+      → ((fault : TextFault) → read ≡ Err fault → given ≡ Err (NoNode fault))
+      → ((others : List Node) → read ≡ Ok others → result_err given ≡ lenient_refusal nodes others (length old))
+      → ((others : List Node) → read ≡ Ok others → IfOk given (λ len. len ≡ length (path_bytes (nodes ++ others))))
+      → ((others : List Node) → read ≡ Ok others → OnOk given (new ≡ with_prefix (path_bytes (nodes ++ others)) old))
+      → OnErr given (new ≡ old) → Reports refused given before returned number
+      → Shows (when_read (result_map_both (λ ns. ns) (λ fault. refused (NoNode fault)) read) (λ others. Content (path_bytes (nodes ++ others)))) before old returned number new
+  added_by (Err fault) given before returned number small stops refusal len_is wrote none shown =
+      let same = stops fault refl in
+      let there = subst (λ r. Reports refused r before returned number) same shown in
+      record { reason = there.reason; place = there.place; buffer = subst (λ r. OnErr r (new ≡ old)) same none }
+  added_by (Ok others) (Ok len) before returned number small stops refusal len_is wrote none shown =
+      let content = path_bytes (nodes ++ others) in
+      let e = refusal others refl in
+      let long = len_is others refl in
+      record {
+        reason = grind (arith, common_steps);
+        place = grind (arith, common_steps);
+        buffer = wrote others refl;
+      }
+  added_by (Ok others) (Err error) before returned number small stops refusal len_is wrote none shown =
+      let content = path_bytes (nodes ++ others) in
+      let e = refusal others refl in
+      let is = room (path_length (nodes ++ others)) in
+      record {
+        reason = grind (arith, common_steps);
+        place = grind (arith, common_steps);
+        buffer = grind (arith, common_steps);
+      }
 
 -- a load option that was written, or why it was not
 pub entry_by : (entry : Entry) (fault : Option OptionBuildError) (old new : List ℕ) (given : Result ℕ OptionBuildError) (before returned number : ℕ) → number < 2 ^ 64

@@ -11,3 +11,4 @@ pub mod NodeNumbers
 pub mod Paths
 pub mod FatNames
 pub mod TextFaults
+pub mod Utf16Texts

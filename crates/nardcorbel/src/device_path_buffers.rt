@@ -128,7 +128,7 @@ pub extern "C" fn nard_device_path_append(buffer: &mut [u8], bytes: &[u8], place
 
 /// Returns why the nodes of a text are not added. The place of a fault is where its node begins if
 /// the style is that of printed texts, and otherwise the byte that is wrong.
-fn text_refused(style: TextStyle, error: PushLenientTextError) -> Refusal
+pub(crate) fn text_refused(style: TextStyle, error: PushLenientTextError) -> Refusal
     ensures { result ≡ text_refused style error }
 {
     match error {

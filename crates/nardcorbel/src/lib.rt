@@ -22,5 +22,6 @@ pub mod strings;
 pub mod text_extents;
 mod text_faults;
 pub mod units;
+pub mod utf16_texts;
 pub mod utf8_texts;
 pub mod without_case;

@@ -1,12 +1,11 @@
 -- What is passed over around the nodes of a text: nothing of a text that begins as a printed one does.
-use Rattle.std.proofs.Common.{◌≡◌, ℕ, suc, ◌+◌, ◌-◌, ◌≤◌, Bool, true, false, cond, List, [], ◌∷◌, length, drop, refl, ap, sym, ◌∙◌, length-drop, arith}
+use Rattle.std.proofs.Common.{◌≡◌, ℕ, suc, ◌+◌, ◌-◌, ◌<◌, ◌≤◌, Bool, true, false, cond, List, [], ◌∷◌, length, drop, take, get_or, inl, inr, refl, ap, sym, ◌∙◌, length-drop, arith}
 use Rattle.std.specs.Prelude.{◌==◌, ◌&&◌, ◌||◌, not}
 use Rattle.std.specs.Char.{is_ascii_whitespace}
 use Rattle.std.specs.List.{prefix_len, suffix_len}
-use Rattle.std.specs.Str.{IsTrimAsciiStart}
-use Rattle.std.proofs.lemmas.Bool.{not-true, or_parts}
-use Rattle.std.proofs.lemmas.List.{length-take}
-use Rattle.std.proofs.lemmas.Str.Ascii.{trim_ascii_start_is}
+use Rattle.std.proofs.lemmas.Bool.{cases_lt, not-true, or_parts}
+use Rattle.std.proofs.lemmas.List.{drop-drop, get_or-take, length-take, take-take}
+use Rattle.std.proofs.lemmas.List.Sums.{suffix_len_is}
 use Rattle.uefi_device_path.specs.AroundNodes.{after_first, before_closing, before_last, before_spaces, first_byte, first_place, is_mark, is_quoted, is_slashed, last_byte, past_slash}
 use Rattle.uefi_node_reader.specs.NamedFiles.{is_after_node, past_spaces}
 use Rattle.uefi_node_reader.specs.TableReading.{first_of, is_empty}
@@ -27,15 +26,28 @@ past_spaces-drop (c ∷ cs) = by (is_ascii_whitespace c) (past_spaces-drop cs)
         e ∙ ap (λ (n : ℕ). drop n (c ∷ cs)) one
     by false e = refl
 
-pub past_spaces-trim : (text rest : List ℕ) → IsTrimAsciiStart text rest → rest ≡ past_spaces text
-past_spaces-trim text rest is = trim_ascii_start_is text rest is ∙ sym (past_spaces-drop text)
+-- a part of a text that it ends with
+abbrev pub Ends : List ℕ → List ℕ → Type 0
+Ends text part = (k : ℕ) × (part ≡ drop k text)
 
--- what is left lies in the text
-past_spaces-within : (text : List ℕ) → length (past_spaces text) ≤ length text
-past_spaces-within text = omega (arith, ap length (past_spaces-drop text), length-drop (prefix_len is_ascii_whitespace text) text)
+pub ends_within : (text part : List ℕ) → Ends text part → length part ≤ length text
+ends_within text part (k, is) = omega (arith, ap length is, length-drop k text)
 
-pub after_first-within : (text : List ℕ) → length (after_first text) ≤ length text
-after_first-within text = omega (arith, past_spaces-within text, length-drop 1 (past_spaces text))
+pub ends_more : (text part rest : List ℕ) (n : ℕ) → Ends text part → rest ≡ drop n part → Ends text rest
+ends_more text part rest n (k, is) e = (k + n, e ∙ ap (drop n) is ∙ drop-drop n k text)
+
+after_first-ends : (text : List ℕ) → Ends text (after_first text)
+after_first-ends text = ends_more text (past_spaces text) (after_first text) 1 (prefix_len is_ascii_whitespace text, past_spaces-drop text) refl
+
+past_slash-ends : (text : List ℕ) → Ends text (past_slash text)
+past_slash-ends text = by (is_slashed text)
+  where
+    by : (b : Bool) → Ends text (cond b (after_first text) text)
+    by true = after_first-ends text
+    by false = (0, refl)
+
+pub past_slash-within : (text : List ℕ) → length (past_slash text) ≤ length text
+past_slash-within text = ends_within text (past_slash text) (past_slash-ends text)
 
 pub before_last-within : (text : List ℕ) → length (before_last text) ≤ length text
 before_last-within text =
@@ -45,21 +57,17 @@ before_last-within text =
       length-take (length text - suffix_len is_ascii_whitespace text) text,
     )
 
-pub past_slash-within : (text : List ℕ) → length (past_slash text) ≤ length text
-past_slash-within text = by (is_slashed text)
+pub place_ends : (style : TextStyle) (text : List ℕ) → Ends (before_closing style text) (first_place style text)
+place_ends Lenient text = by (is_quoted text)
   where
-    by : (b : Bool) → length (cond b (after_first text) text) ≤ length text
-    by true = after_first-within text
-    by false = omega arith
-
-pub place_within : (style : TextStyle) (text : List ℕ) → length (first_place style text) ≤ length (before_closing style text)
-place_within Lenient text = by (is_quoted text)
-  where
-    by : (b : Bool) → length (past_slash (cond b (after_first (before_last text)) text)) ≤ length (cond b (before_last text) text)
-    by true = omega (arith, past_slash-within (after_first (before_last text)), after_first-within (before_last text))
-    by false = past_slash-within text
-place_within Printed text = omega arith
-place_within Libefivar text = omega arith
+    by : (b : Bool) → Ends (cond b (before_last text) text) (past_slash (cond b (after_first (before_last text)) text))
+    by true =
+        let inside = after_first-ends (before_last text) in
+        let rest = past_slash-ends (after_first (before_last text)) in
+        ends_more (before_last text) (after_first (before_last text)) (past_slash (after_first (before_last text))) rest.0 inside rest.1
+    by false = past_slash-ends text
+place_ends Printed text = (0, refl)
+place_ends Libefivar text = (0, refl)
 
 pub closing_within : (style : TextStyle) (text : List ℕ) → length (before_closing style text) ≤ length text
 closing_within Lenient text = by (is_quoted text)
@@ -100,3 +108,58 @@ all_is_read Lenient text e =
     )
 all_is_read Printed text e = (refl, refl)
 all_is_read Libefivar text e = (refl, refl)
+
+-- the last byte before `place` that is no blank, and its index, or 0 and 0
+pub record LastSeen (text : List ℕ) (place last end : ℕ) : Type 0 where
+  pub size : ℕ
+  pub within : size ≤ place
+  pub blank : (k : ℕ) → size ≤ k → k < place → is_ascii_whitespace (get_or text k 0) ≡ true
+  pub stops : 0 < size → is_ascii_whitespace (get_or text (size - 1) 0) ≡ false
+  pub end_is : end ≡ size - 1
+  pub last_is : last ≡ get_or (take size text) (size - 1) 0
+
+pub seen_none : (text : List ℕ) → LastSeen text 0 0 0
+seen_none text = record {
+  size = 0;
+  within = omega arith;
+  blank = λ k from to. absurd (omega (arith, to));
+  stops = λ some. absurd (omega (arith, some));
+  end_is = refl;
+  last_is = refl;
+}
+
+module _ (text : List ℕ) (place last end : ℕ) (seen : LastSeen text place last end) where
+  pub seen_blank : is_ascii_whitespace (get_or text place 0) ≡ true → LastSeen text (place + 1) last end
+  seen_blank is = record {
+    size = seen.size;
+    within = omega (arith, seen.within);
+    blank = λ k from to. elim (cases_lt k place) [
+      | inl less ↦ seen.blank k from less
+      | inr more ↦ let same : place ≡ k = omega (arith, to, more) in ap (λ (n : ℕ). is_ascii_whitespace (get_or text n 0)) (sym same) ∙ is
+    ];
+    stops = seen.stops;
+    end_is = seen.end_is;
+    last_is = seen.last_is;
+  }
+
+  pub seen_other : place < length text → is_ascii_whitespace (get_or text place 0) ≡ false → LastSeen text (place + 1) (get_or text place 0) place
+  seen_other fits other =
+      let before : place + 1 - 1 ≡ place = omega arith in record {
+        size = place + 1;
+        within = omega arith;
+        blank = λ k from to. absurd (omega (arith, from, to));
+        stops = λ some. ap (λ (n : ℕ). is_ascii_whitespace (get_or text n 0)) before ∙ other;
+        end_is = sym before;
+        last_is = sym (ap (λ (n : ℕ). get_or (take (place + 1) text) n 0) before ∙ get_or-take (place + 1) text place 0 (omega arith));
+      }
+
+pub seen_all : (text : List ℕ) (last end : ℕ) → LastSeen text (length text) last end → (last ≡ last_byte text) × (take end text ≡ before_last text)
+seen_all text last end seen =
+    let blanks = suffix_len_is is_ascii_whitespace text seen.size 0 seen.within seen.blank seen.stops in
+    let left : length text - suffix_len is_ascii_whitespace text ≡ seen.size = omega (arith, blanks, seen.within) in
+    let kept : before_spaces text ≡ take seen.size text = ap (λ (n : ℕ). take n text) left in
+    let long : length (before_spaces text) ≡ seen.size = omega (arith, ap length kept, length-take seen.size text, seen.within) in
+    let fewer : seen.size - 1 ≤ seen.size = omega arith in (
+      seen.last_is ∙ (λ i. get_or (sym kept i) (sym long i - 1) 0),
+      ap (λ (n : ℕ). take n text) seen.end_is ∙ sym (take-take (seen.size - 1) seen.size text fewer) ∙ (λ i. take (sym long i - 1) (sym kept i)),
+    )

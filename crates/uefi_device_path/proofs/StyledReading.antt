@@ -1,7 +1,8 @@
 -- A text is read in a style in one way: what the function says is what the relation says.
-use Rattle.std.proofs.Common.{◌≡◌, ◌↔◌, ℕ, zero, suc, ◌+◌, ◌<◌, ◌≤◌, Bool, true, false, cond, List, [], ◌∷◌, ◌++◌, length, drop, inl, inr, refl, ap, sym, subst, ◌∙◌, append_assoc, arith, true≢false}
-use Rattle.std.specs.Prelude.{None, Result, Ok, Err, ◌==◌, ◌||◌}
-use Rattle.std.proofs.lemmas.List.{append-nil, length-append}
+use Rattle.std.proofs.Common.{◌≡◌, ◌↔◌, ℕ, zero, suc, ◌+◌, ◌-◌, ◌<◌, ◌≤◌, Bool, true, false, cond, List, [], ◌∷◌, ◌++◌, length, drop, get_or, slice_index, inl, inr, refl, ap, sym, subst, ◌∙◌, append_assoc, arith, true≢false}
+use Rattle.std.specs.Prelude.{None, Result, Ok, Err, ◌==◌, ◌&&◌, ◌||◌}
+use Rattle.std.proofs.lemmas.Bool.{lt-ltb}
+use Rattle.std.proofs.lemmas.List.{append-nil, drop_at, get_or-drop, length-append, length-drop}
 use Rattle.std.proofs.lemmas.List.Elements.{All-head, All-nil, All-push, All-tail}
 use Rattle.std.proofs.lemmas.Result.{IfErr-at_err}
 use borrow.Author.Tests.{eqb-true}
@@ -12,7 +13,7 @@ use Rattle.uefi_device_path.specs.StyledReading.ReadsTo.{Begins, Comma, OneMore}
 use Rattle.uefi_device_path.specs.PathReading.{AreTold, end_instance, is_after_instance}
 use Rattle.uefi_device_path.specs.declared.lenient_errors.TextFault.{TextFault}
 use Rattle.uefi_device_path.specs.AroundNodes.{before_closing, first_place}
-use Rattle.uefi_device_path.proofs.AroundNodes.{all_is_read, closing_within, is_clear, place_within}
+use Rattle.uefi_device_path.proofs.AroundNodes.{Ends, all_is_read, closing_within, ends_more, ends_within, is_clear, place_ends}
 use Rattle.uefi_device_path.proofs.FirstBytes.{node_clear}
 use Rattle.uefi_device_path.proofs.PathReading.{IsToldOrEnd, path_text_is, place_is, printed, rest_text, separator}
 use Rattle.uefi_device_path.proofs.TextStops.{end_first, told_first, whole_after}
@@ -139,6 +140,18 @@ module _ (style : TextStyle) (text : List ℕ) where
     pub left_fault : (found : NodeFault) → place_read style text place ≡ Err found → left s rest ≡ Err (fault_from text place found)
     left_fault found refused = left_read (Err found) refused
 
+-- whether what is left of a text follows a comma
+pub follows_is : (text : List ℕ) (k c : ℕ) (cs : List ℕ) → drop k text ≡ c ∷ cs → follows_comma text cs ≡ (c == 44)
+follows_is text k c cs is =
+    let less : length cs < length text = omega (arith, ap length is, length-drop k text) in
+    let at : length text - length cs - 1 ≡ k = omega (arith, ap length is, length-drop k text) in
+    let byte : slice_index text (length text - length cs - 1) ≡ c =
+    ap (λ (n : ℕ). get_or text n 0) (at ∙ omega arith) ∙ sym (get_or-drop k text 0 0) ∙ ap (λ (l : List ℕ). get_or l 0 0) is in
+    (λ i. lt-ltb (length cs) (length text) less i && (byte i == 44))
+
+pub follows_first : (text : List ℕ) (k : ℕ) (cs : List ℕ) → drop k text ≡ 44 ∷ cs → true ≡ follows_comma text cs
+follows_first text k cs is = sym (follows_is text k 44 cs is)
+
 -- what a text is read as: up to the mark that closes it, from the place of the first node on
 module _ (style : TextStyle) (text : List ℕ) where
   abbrev whole : List ℕ
@@ -193,7 +206,7 @@ module _ (style : TextStyle) (text : List ℕ) where
 
   reads_within : StyledEnds → {nodes : List Node} {s : Bool} {rest : List ℕ} → ReadsTo style text nodes s rest
       → length rest ≤ length whole
-  reads_within ends Begins = place_within style text
+  reads_within ends Begins = ends_within whole first (place_ends style text)
   reads_within ends (Comma nodes s rest on) = let l = reads_within ends on in omega (arith, l)
   reads_within ends (OneMore nodes s node place rest on read) =
       omega (arith, reads_within ends on, length-append (separator s) place, after_shorter style whole ends place node rest read)
@@ -286,26 +299,41 @@ module _ (style : TextStyle) (text : List ℕ) where
   -- how far a text was read: the nodes so far, and what is left
   pub record Going (nodes : List Node) (s : Bool) (rest : List ℕ) : Type 0 where
     pub all : onto nodes (left style whole s rest) ≡ path_read style text
-    pub within : length rest ≤ length whole
+    pub ends : Ends whole rest
 
   pub going_first : Going [] true first
   unfolding path_read
-  going_first = record { all = onto_none (left style whole true first); within = place_within style text }
+  going_first = record { all = onto_none (left style whole true first); ends = place_ends style text }
 
   pub going_comma : (nodes : List Node) (s : Bool) (rest after : List ℕ) → Going nodes s rest → rest ≡ 44 ∷ after
       → Going (nodes ++ end_instance ∷ []) true after × (length after < length rest)
   going_comma nodes s rest after on is = (
     record {
       all = sym (onto_more nodes end_instance (left style whole true after)) ∙ ap (onto nodes) (sym (left_comma style whole s rest after is)) ∙ on.all;
-      within = omega (arith, on.within, ap length is);
+      ends = ends_more whole rest after 1 on.ends (ap (drop 1) (sym is));
     },
     omega (arith, ap length is),
   )
 
   module _ (nodes : List Node) (s : Bool) (rest place : List ℕ) (on : Going nodes s rest) (other : is_after_instance rest ≡ false)
       (is : place ≡ cond s rest (drop 1 rest)) where
+    place_left : (t : Bool) → place ≡ cond t rest (drop 1 rest) → Ends whole place
+    place_left true e = ends_more whole rest place 0 on.ends e
+    place_left false e = ends_more whole rest place 1 on.ends e
+
     pub place_inside : length place ≤ length whole
-    place_inside = omega (arith, on.within, ap length is, place_fits style whole s rest)
+    place_inside = ends_within whole place (place_left s is)
+
+    -- where a node begins, a comma precedes it only at the start of an instance
+    pub place_follows : 0 < length rest → (comma : Bool) → (s ≡ true → comma ≡ follows_comma whole rest) → (s ≡ false → comma ≡ false)
+        → comma ≡ follows_comma whole place
+    place_follows some comma early later = by s refl rest refl other is
+      where
+        by : (t : Bool) → s ≡ t → (r : List ℕ) → rest ≡ r → is_after_instance r ≡ false → place ≡ cond t r (drop 1 r) → comma ≡ follows_comma whole place
+        by true p r same apart e = early p ∙ ap (follows_comma whole) (same ∙ sym e)
+        by false p [] same apart e = absurd (omega (arith, some, ap length same))
+        by false p (c ∷ cs) same apart e =
+            later p ∙ sym (ap (follows_comma whole) e ∙ follows_is whole on.ends.0 c cs (sym on.ends.1 ∙ same) ∙ apart)
 
     pub going_node : StyledEnds → (node : Node) (after : List ℕ) → place_read style whole place ≡ Ok (node, after)
         → Going (nodes ++ node ∷ []) false after × (length after < length rest)
@@ -313,7 +341,9 @@ module _ (style : TextStyle) (text : List ℕ) where
         let less = shorter style whole s rest place other is ends node after read in (
           record {
             all = sym (onto_more nodes node (left style whole false after)) ∙ ap (onto nodes) (sym (left_node style whole s rest place other is ends node after read)) ∙ on.all;
-            within = omega (arith, on.within, less);
+            ends = let rest_of = (ends style (follows_comma whole place) place node after read).0 in
+                let before = rest_of.0 ∷ rest_of.1 in
+                ends_more whole place after (length before) (place_left s is) (sym (ap (drop (length before)) rest_of.2 ∙ drop_at before after (length before) refl));
           },
           less,
         )

@@ -11,6 +11,7 @@ pub use Rattle.uefi_device_nodes.specs.NodeFields
 pub use Rattle.uefi_device_nodes.specs.NodeEnums
 pub use Rattle.uefi_node_reader.specs.FaultTexts
 pub use Rattle.uefi_node_reader.specs.Styles
+pub use Rattle.uefi_node_reader.specs.Utf16Texts
 pub use Rattle.uefi_node_reader.specs.declared.styles.TextStyle
 pub use Rattle.uefi_node_reader.specs.declared.faults.Expected
 pub use Rattle.uefi_device_nodes.specs.declared.errors.NodeError

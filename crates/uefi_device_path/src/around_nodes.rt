@@ -2,47 +2,45 @@
 #![tactic(auto)]
 
 ghost use Rattle.std.specs.Prelude.{◌≡◌};
-ghost use Rattle.uefi_device_path.specs.AroundNodes.{after_first, before_closing, before_last, before_spaces, first_byte, first_place, is_mark, is_quoted, is_slashed, last_byte, past_slash};
-ghost use Rattle.uefi_node_reader.specs.NamedFiles.{past_spaces};
+ghost use Rattle.uefi_device_path.specs.AroundNodes.{after_first, before_closing, before_last, first_byte, first_place, is_mark, is_quoted, is_slashed, last_byte, past_slash};
 
+use uefi_node_reader::named_files::{is_after_node, past_spaces};
 use uefi_node_reader::styles::TextStyle;
-
-/// Returns a text without the blanks and line ends at its start.
-fn past_spaces(text: &[u8]) -> &[u8]
-    ensures { result.now ≡ past_spaces text.now }
-{
-    text.trim_ascii_start()
-}
+use uefi_node_reader::texts::{Text, is_empty};
 
 /// Returns the first byte of a text that is no blank, and the text after it; or 0 and an empty
 /// text.
-fn first_byte(text: &[u8]) -> (u8, &[u8])
-    ensures byte { result.0 ≡ first_byte text.now }
-    ensures after { result.1.now ≡ after_first text.now }
+fn first_byte<T: Text>(text: T) -> (u8, T)
+    ensures byte { result.0 ≡ first_byte (T.bytes text) }
+    ensures after { T.bytes result.1 ≡ after_first (T.bytes text) }
 {
-    match past_spaces(text) {
-        [first, rest @ ..] => (*first, rest),
-        [] => (0, &[]),
+    let rest = past_spaces(text);
+    match rest.split_first() {
+        Some(split) => split,
+        None => (0, rest),
     }
-}
-
-/// Returns a text without the blanks and line ends at its end.
-fn before_spaces(text: &[u8]) -> &[u8]
-    ensures { result.now ≡ before_spaces text.now }
-{
-    text.trim_ascii_end()
 }
 
 /// Returns the last byte of a text that is no blank, and the text before it; or 0 and an empty
 /// text.
-fn last_byte(text: &[u8]) -> (u8, &[u8])
-    ensures byte { result.0 ≡ last_byte text.now }
-    ensures before { result.1.now ≡ before_last text.now }
+fn last_byte<T: Text>(text: T) -> (u8, T)
+    ensures byte { result.0 ≡ last_byte (T.bytes text) }
+    ensures before { T.bytes result.1 ≡ before_last (T.bytes text) }
 {
-    match before_spaces(text) {
-        [rest @ .., last] => (*last, rest),
-        [] => (0, &[]),
+    let mut last = 0;
+    let mut end = 0;
+    let mut rest = text;
+    for place in 0..text.len() {
+        if let Some((byte, after)) = rest.split_first() {
+            if !byte.is_ascii_whitespace() {
+                last = byte;
+                end = place;
+            }
+            rest = after;
+        }
     }
+    let (before, _) = text.split_at(end);
+    (last, before)
 }
 
 /// Returns whether a byte is a quotation mark.
@@ -53,33 +51,30 @@ fn is_mark(byte: u8) -> bool
 }
 
 /// Returns whether a text is in quotation marks, with more than blanks between them.
-fn is_quoted(text: &[u8]) -> bool
-    ensures { result ≡ is_quoted text.now }
+fn is_quoted<T: Text>(text: T) -> bool
+    ensures { result ≡ is_quoted (T.bytes text) }
 {
     let (first, _) = first_byte(text);
+    if !is_mark(first) {
+        return false;
+    }
     let (last, before) = last_byte(text);
     let (_, inside) = first_byte(before);
-    is_mark(first) && last == first && !past_spaces(inside).is_empty()
+    last == first && !is_empty(past_spaces(inside))
 }
 
 /// Returns whether a text begins with a slash after which a node may begin.
-fn is_slashed(text: &[u8]) -> bool
-    ensures { result ≡ is_slashed text.now }
+fn is_slashed<T: Text>(text: T) -> bool
+    ensures { result ≡ is_slashed (T.bytes text) }
 {
     let (first, after) = first_byte(text);
-    if first != b'/' {
-        return false;
-    }
-    match past_spaces(after) {
-        [next, ..] => *next != b'/' && *next != b',',
-        [] => false,
-    }
+    first == b'/' && !is_after_node(past_spaces(after))
 }
 
 /// Returns the text after the slash at its start, if a node may follow the slash, or else the whole
 /// text.
-fn past_slash(text: &[u8]) -> &[u8]
-    ensures { result.now ≡ past_slash text.now }
+fn past_slash<T: Text>(text: T) -> T
+    ensures { T.bytes result ≡ past_slash (T.bytes text) }
 {
     if is_slashed(text) {
         first_byte(text).1
@@ -90,9 +85,9 @@ fn past_slash(text: &[u8]) -> &[u8]
 
 /// Removes what people write around the nodes of a text, if the style allows it. Returns the text up
 /// to the quotation mark that closes it, and its part from the first node on.
-pub(crate) fn around_nodes(style: TextStyle, text: &[u8]) -> (&[u8], &[u8])
-    ensures whole { result.0.now ≡ before_closing style text.now }
-    ensures first { result.1.now ≡ first_place style text.now }
+pub(crate) fn around_nodes<T: Text>(style: TextStyle, text: T) -> (T, T)
+    ensures whole { T.bytes result.0 ≡ before_closing style (T.bytes text) }
+    ensures first { T.bytes result.1 ≡ first_place style (T.bytes text) }
 {
     match style {
         TextStyle::Lenient if is_quoted(text) => {

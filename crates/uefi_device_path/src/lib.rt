@@ -84,7 +84,7 @@ pub use path_text::{LibefivarText, PathText, TEXT_UNITS_PER_BYTE};
 pub use text_in_buf::push_text_in_buf;
 // The C library uses this; callers in Rattle have a call for each style.
 #[doc(hidden)]
-pub use styled_text_in_buf::push_styled_text_in_buf;
+pub use styled_text_in_buf::{push_any_text_in_buf, push_styled_text_in_buf};
 // The C library uses this too.
 #[doc(hidden)]
 pub use text_extent::styled_text_extent;
@@ -101,6 +101,12 @@ pub use uefi_field_texts::shown_texts::is_escaped;
 #[doc(hidden)]
 pub use uefi_device_nodes::node::fault_place;
 #[doc(hidden)]
+pub use uefi_node_reader::named_files::NameText;
+#[doc(hidden)]
 pub use uefi_node_reader::styles::TextStyle;
+#[doc(hidden)]
+pub use uefi_node_reader::texts::Text;
+#[doc(hidden)]
+pub use uefi_node_reader::utf16_texts::{Utf16Text, units_within};
 pub use uefi_node_table::layouts;
 pub use uefi_text::unit_sink::BufferTooSmall;

@@ -20,11 +20,12 @@ use std::alloc::Allocator;
 use uefi_device_nodes::build_node::RawNode;
 use uefi_device_nodes::{DeviceSubType, DeviceType};
 use uefi_node_reader::faults::NodeFault;
+use uefi_node_reader::named_files::NameText;
 use uefi_node_reader::nodes::nodes_are_read;
-use uefi_node_reader::read_node::ReadNode;
 use uefi_node_reader::styles::{
     TextStyle, faults_lie_within, read_styled_node, styled_nodes_are_read,
 };
+use uefi_node_reader::texts::{Text, is_empty};
 
 /// Returns the node that ends an instance.
 fn instance_end() -> RawNode<'static>
@@ -38,51 +39,48 @@ fn instance_end() -> RawNode<'static>
 }
 
 /// Returns the text after a comma at the start of a text, or `None`.
-pub(crate) fn after_comma(text: &[u8]) -> Option<&[u8]>
-    requires { 0 < length text.now }
-    ensures { MatchOption result (is_after_instance text.now ≡ false) (λ rest. text.now ≡ 44 ∷ rest.now) }
+fn after_comma<T: Text>(text: T) -> Option<T>
+    requires { 0 < length (T.bytes text) }
+    ensures { MatchOption result (is_after_instance (T.bytes text) ≡ false)
+        (λ rest. T.bytes text ≡ 44 ∷ T.bytes rest) }
 {
-    match text {
-        [b',', rest @ ..] => Some(rest),
-        _ => None,
+    let (first, rest) = text.split_first()?;
+    if first != b',' {
+        return None;
     }
+    Some(rest)
 }
 
 /// Returns the text at which a node must begin: this text at the start of an instance, and
 /// otherwise the text after the slash at its start.
-pub(crate) fn node_start(at_start: bool, text: &[u8]) -> &[u8]
-    requires { 0 < length text.now }
-    ensures { result.now ≡ (if at_start then text.now else drop 1 text.now) }
+fn node_start<T: Text>(at_start: bool, text: T) -> T
+    requires { 0 < length (T.bytes text) }
+    ensures { T.bytes result ≡ (if at_start then T.bytes text else drop 1 (T.bytes text)) }
 {
-    if at_start { text } else { &text[1..] }
+    if at_start { text } else { text.split_at(1).1 }
 }
 
 /// Returns whether the rest of a text comes directly after a comma: a file's name begins with a
 /// backslash there.
-fn follows_comma(text: &[u8], rest: &[u8]) -> bool
-    ensures { result ≡ follows_comma text.now rest.now }
+fn follows_comma<T: Text>(text: T, rest: T) -> bool
+    requires { length (T.bytes rest) ≤ length (T.bytes text) }
+    ensures { result ≡ follows_comma (T.bytes text) (T.bytes rest) }
 {
-    rest.len() < text.len() && text[text.len() - rest.len() - 1] == b','
-}
-
-/// Returns the node that is read in a style at the start of this text, and the text after it, or
-/// the fault.
-pub(crate) fn first_styled_node<'a>(
-    style: TextStyle,
-    text: &'a [u8],
-    place: &'a [u8],
-) -> Result<(ReadNode<&'a [u8]>, &'a [u8]), NodeFault>
-    ensures { result_map_both (λ x. (node_from_text x.0, x.1.now)) (λ e. e) result
-        ≡ place_read style text.now place.now }
-{
-    read_styled_node(style, follows_comma(text, place), place)
+    let passed = text.len() - rest.len();
+    if passed == 0 {
+        return false;
+    }
+    match text.split_at(passed - 1).1.split_first() {
+        Some((byte, _)) => byte == b',',
+        None => false,
+    }
 }
 
 /// Returns the fault of a text, given the fault of this rest, at which no node is read.
-fn fault_at(text: &[u8], rest: &[u8], found: NodeFault) -> TextFault
-    requires rest { length rest.now ≤ length text.now }
-    requires byte { found.byte ≤ length rest.now }
-    ensures { result ≡ fault_from text.now rest.now found }
+fn fault_at<T: Text>(text: T, rest: T, found: NodeFault) -> TextFault
+    requires rest { length (T.bytes rest) ≤ length (T.bytes text) }
+    requires byte { found.byte ≤ length (T.bytes rest) }
+    ensures { result ≡ fault_from (T.bytes text) (T.bytes rest) found }
 {
     let node = text.len() - rest.len();
     TextFault {
@@ -95,16 +93,16 @@ fn fault_at(text: &[u8], rest: &[u8], found: NodeFault) -> TextFault
 /// Adds the nodes of a text before the end of the path in the first `len` bytes of a buffer. Returns the
 /// number of bytes that the path then has, as far as a `usize` counts, or the fault of the text. The
 /// contents of the buffer are unspecified afterwards if it has no room for all nodes, or if the call fails.
-pub(crate) fn put_text(
+pub(crate) fn put_text<T: NameText>(
     style: TextStyle,
     buffer: &mut [u8],
     len: usize,
-    text: &[u8],
+    text: T,
 ) -> Result<usize, TextFault>
     requires { len ≤ length buffer.now → IsPath (take len buffer.now) }
     ensures len { result
-        ≡ result_map_both (grown_length len) (λ fault. fault) (path_read style text.now) }
-    ensures put { (nodes : List Node) → IsReadAs style text.now nodes
+        ≡ result_map_both (grown_length len) (λ fault. fault) (path_read style (T.bytes text)) }
+    ensures put { (nodes : List Node) → IsReadAs style (T.bytes text) nodes
         → IfOk result (λ end. end ≤ length buffer.old
         → Holds buffer.old (nodes_up_to len buffer.old ++ nodes) buffer.new end) }
 {
@@ -114,23 +112,26 @@ pub(crate) fn put_text(
     let (whole, mut rest) = around_nodes(style, text);
     let mut end = len;
     let mut at_start = true;
-    'nodes: while !rest.is_empty() {
+    let mut at_comma = follows_comma(whole, rest);
+    'nodes: while !is_empty(rest) {
         match after_comma(rest) {
             Some(after) => {
                 let node = instance_end();
                 end = put_if_room(buffer, end, &node);
                 rest = after;
                 at_start = true;
+                at_comma = true;
             }
             None => {
                 let place = node_start(at_start, rest);
-                let (node, after) = match first_styled_node(style, whole, place) {
+                let (node, after) = match read_styled_node(style, at_comma, place) {
                     Ok(read) => read,
                     Err(found) => return Err(fault_at(whole, place, found)),
                 };
                 end = put_if_room(buffer, end, &node);
                 rest = after;
                 at_start = false;
+                at_comma = false;
             }
         }
     }
@@ -138,13 +139,13 @@ pub(crate) fn put_text(
 }
 
 /// Returns the path that a text is read as. Allocates after the text is known to be readable.
-pub(crate) fn read_styled_path<A: Allocator + Copy>(
+pub(crate) fn read_styled_path<A: Allocator + Copy, T: NameText>(
     style: TextStyle,
     alloc: A,
-    text: &[u8],
+    text: T,
 ) -> Result<DevicePathBuf<A>, LenientTextError>
-    ensures gives { GivesText result (path_read style text.now) }
-    ensures memory { result ≡ Err OutOfMemory → IsStyledText style text.now }
+    ensures gives { GivesText result (path_read style (T.bytes text)) }
+    ensures memory { result ≡ Err OutOfMemory → IsStyledText style (T.bytes text) }
 {
     let len = match put_text(style, &mut [], 4, text) {
         Ok(len) => len,

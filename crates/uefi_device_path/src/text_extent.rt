@@ -8,6 +8,7 @@ ghost use Rattle.uefi_node_reader.specs.declared.styles.TextStyle.TheVariants.{L
 use crate::laws::styled_texts;
 use crate::lenient_errors::{Expected, TextFault};
 use crate::styled_reader::put_text;
+use uefi_node_reader::named_files::NameText;
 use uefi_node_reader::styles::TextStyle;
 
 /// Returns whether the end of a node is expected.
@@ -26,8 +27,8 @@ fn is_end(expected: Expected) -> bool
 /// Hidden: the C library calls it, and it may change. Other callers use [`lenient_text_extent`] and
 /// [`libefivar_text_extent`].
 #[doc(hidden)]
-pub fn styled_text_extent(style: TextStyle, text: &[u8]) -> Result<usize, TextFault>
-    ensures { result ≡ text_extent style text.now }
+pub fn styled_text_extent<T: NameText>(style: TextStyle, text: T) -> Result<usize, TextFault>
+    ensures { result ≡ text_extent style (T.bytes text) }
 {
     // The law says that the wrong byte is in the text, or at its end.
     styled_texts();
@@ -38,7 +39,8 @@ pub fn styled_text_extent(style: TextStyle, text: &[u8]) -> Result<usize, TextFa
     if !is_end(fault.expected) {
         return Err(fault);
     }
-    match put_text(style, &mut [], 4, &text[..fault.byte]) {
+    let (path, _) = text.split_at(fault.byte);
+    match put_text(style, &mut [], 4, path) {
         Ok(_) => Ok(fault.byte),
         Err(_) => Err(fault),
     }

@@ -8,7 +8,10 @@ use for_tests::{bytes, holds, split_row};
 use std::alloc::Global;
 use std::fmt::Display;
 use std::test::Fail;
-use uefi_device_path::{DevicePathBuf, push_lenient_text_in_buf, push_text_in_buf};
+use uefi_device_path::{
+    DevicePathBuf, PushLenientTextError, TextStyle, Utf16Text, push_any_text_in_buf,
+    push_lenient_text_in_buf, push_styled_text_in_buf, push_text_in_buf, units_within,
+};
 
 /// Returns the path of a PCI device and the nodes with these bytes.
 fn path_of(alloc: Global, nodes: &[u8]) -> Result<Vec<u8>, Fail> {
@@ -116,6 +119,89 @@ fn refused(rt: HostRuntime) -> Result<(), Fail> {
             "no node at offset {node}: expected {expected} at offset {byte}"
         )?;
         assert_eq!(rt; refusal(rt.alloc(), false, text)?, Some(want), "{text}");
+    }
+    Ok(())
+}
+
+/// Returns the units of a text in UTF-16.
+fn units_of(alloc: Global, text: &str) -> Result<Vec<u16>, Fail> {
+    let mut units = Vec::new(alloc);
+    for unit in text.encode_utf16() {
+        units.push(unit)?;
+    }
+    Ok(units)
+}
+
+/// Appends the nodes of a text in UTF-8 and in UTF-16. Returns the results, and whether the buffers are
+/// the same.
+fn push_both(
+    style: TextStyle,
+    text: &str,
+    units: &[u16],
+) -> Option<
+    (
+        Result<usize, PushLenientTextError>,
+        Result<usize, PushLenientTextError>,
+        bool,
+    ),
+> {
+    let (mut bytes, mut others) = ([9; 4096], [9; 4096]);
+    bytes[..4].copy_from_slice(END);
+    others[..4].copy_from_slice(END);
+    let read = push_styled_text_in_buf(style, &mut bytes, text);
+    let wide = push_any_text_in_buf(style, &mut others, Utf16Text::new(units).ok()?);
+    Some((read, wide, bytes == others))
+}
+
+/// Returns the first line of a table whose text is read in UTF-16 otherwise than in UTF-8.
+fn find_other(alloc: Global, style: TextStyle, table: &str) -> Result<Option<&str>, Fail> {
+    for line in table.split('\n') {
+        let (_, texts) = split_row(line);
+        for text in texts.split(" | ") {
+            let units = units_of(alloc, text)?;
+            let Some((read, wide, is_same)) = push_both(style, text, &units) else {
+                return Ok(Some(line));
+            };
+            if read != wide || !is_same {
+                return Ok(Some(line));
+            }
+        }
+    }
+    Ok(None)
+}
+
+#[test]
+fn in_utf16(rt: HostRuntime) -> Result<(), Fail> {
+    for (style, table) in [
+        (TextStyle::Printed, path_reader::TEXTS),
+        (TextStyle::Printed, path_reader::REFUSED),
+        (TextStyle::Printed, REGULAR),
+        (TextStyle::Lenient, lenient_reader::BY_LIBEFIVAR),
+        (TextStyle::Lenient, lenient_reader::BY_PEOPLE),
+        (TextStyle::Lenient, lenient_reader::REFUSED),
+    ] {
+        assert_eq!(rt; find_other(rt.alloc(), style, table)?, None);
+    }
+    Ok(())
+}
+
+/// The places of a fault count units, and a part of a character counts as none of it. A surrogate without a
+/// partner is found wherever it is.
+#[test]
+fn places_in_utf16(rt: HostRuntime) -> Result<(), Fail> {
+    let units = units_of(rt.alloc(), "\\\u{e9}\u{4e00}\u{1f600}/Pci(256,0)")?;
+    let wanted = [0, 1, 1, 2, 2, 2, 3, 3, 3, 3, 5, 6];
+    for bytes in 0..wanted.len() {
+        assert_eq!(rt; units_within(&units, bytes), wanted[bytes], "{bytes}");
+    }
+    for (units, place) in [
+        ([0xd800, 0xdc00, 0xd800], 2),
+        ([0xdc00, 0xd800, 0xdc00], 0),
+        ([0xfffd, 0xdbff, 0xe000], 1),
+        ([0xd7ff, 0xe000, 0xdfff], 2),
+    ] {
+        assert_eq!(rt; Utf16Text::new(&units).err(), Some(place));
+        assert_eq!(rt; units_within(&units, 99), place);
     }
     Ok(())
 }

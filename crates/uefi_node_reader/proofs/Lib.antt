@@ -50,3 +50,4 @@ pub mod HelpedPieces
 pub mod HelpedForms
 pub mod HelpedPaths
 pub mod Helps
+pub mod Utf16Texts

@@ -27,3 +27,4 @@ pub mod Counted
 pub mod ParsedNodes
 pub mod ParsedNodeViews
 pub mod ReadNodes
+pub mod Utf16Texts

@@ -48,3 +48,5 @@ mod text_calls;
 pub mod texts;
 #[doc(hidden)]
 pub mod tidied;
+#[doc(hidden)]
+pub mod utf16_texts;

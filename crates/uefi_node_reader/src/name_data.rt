@@ -12,7 +12,7 @@ use crate::counted_bytes::push;
 
 /// Puts the bytes of a character in UTF-16 after `len` bytes, the low byte of each unit first. Returns the
 /// number of bytes then.
-fn push_char(places: &mut [u8], len: usize, c: char) -> usize
+pub(crate) fn push_char(places: &mut [u8], len: usize, c: char) -> usize
     ensures { (places.new, result) ≡ pushed_bytes (places.old, len) (unit_bytes (encode_utf16 c)) }
 {
     let mut pair = [0; 2];

@@ -44,7 +44,7 @@ pub trait NameText: Text {
 }
 
 /// Returns whether a node may end before a text: before no byte, a slash or a comma.
-pub(crate) fn is_after_node<T: Text>(text: T) -> bool
+pub fn is_after_node<T: Text>(text: T) -> bool
     ensures { result ≡ is_after_node (T.bytes text) }
 {
     match text.split_first() {
@@ -54,7 +54,7 @@ pub(crate) fn is_after_node<T: Text>(text: T) -> bool
 }
 
 /// Returns a text without the blanks and line ends at its start.
-pub(crate) fn past_spaces<T: Text>(text: T) -> T
+pub fn past_spaces<T: Text>(text: T) -> T
     ensures rest { T.bytes result ≡ past_spaces (T.bytes text) }
     ensures within { length (T.bytes result) ≤ length (T.bytes text) }
 {
@@ -112,7 +112,7 @@ fn name_len(text: &[u8]) -> usize
 }
 
 /// Returns whether a character may be in a name: texts do not escape it, and it does not end a name.
-fn is_name_char(c: char) -> bool
+pub(crate) fn is_name_char(c: char) -> bool
     ensures { result ≡ is_name_char c }
 {
     let is_shown = if c < '\u{7f}' {

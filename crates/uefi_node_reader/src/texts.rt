@@ -47,7 +47,7 @@ impl Text for &[u8] {
 }
 
 /// Returns whether a text is empty.
-pub(crate) fn is_empty<T: Text>(text: T) -> bool
+pub fn is_empty<T: Text>(text: T) -> bool
     ensures { result ≡ is_empty (T.bytes text) }
 {
     text.split_first().is_none()

@@ -10,8 +10,8 @@ use crate::parts::{Bytes, Pieces, Text};
 use crate::rows::{Item, ItemOf, Items, Mode, Piece, PieceOf, Row, RowOf, Shape, Tail};
 use crate::words::{Word, WordOf, Words};
 
-/// Fields: the shape of one field or more, and for each of them the place, the width, and the number of the text
-/// that stands after it.
+/// Fields: the shape of one field or more, and for each of them the place, the width, and the number of
+/// the text that stands after it.
 macro_rules! pieces {
     ($($shape:ident: $($(($words:ident))? $place:literal $width:literal $ending:literal),+);+) => {
         [$($(PieceOf {
@@ -23,12 +23,12 @@ macro_rules! pieces {
     };
 }
 
-/// Lists of bytes: the 16 bytes of a GUID at the places from 0 on, if the list begins with them, and then each
-/// place and its byte.
+/// Lists of bytes: the 16 bytes of a GUID at the places from 0 on, if the list begins with them, and then
+/// each place and its byte.
 macro_rules! bytes {
-    ($($([$b0:literal $b1:literal $b2:literal $b3:literal $b4:literal $b5:literal $b6:literal $b7:literal
-        $b8:literal $b9:literal $b10:literal $b11:literal $b12:literal $b13:literal $b14:literal
-        $b15:literal])? $($place:literal $byte:literal),*);+) => {
+    ($($([$b0:literal $b1:literal $b2:literal $b3:literal $b4:literal $b5:literal $b6:literal
+        $b7:literal $b8:literal $b9:literal $b10:literal $b11:literal $b12:literal $b13:literal
+        $b14:literal $b15:literal])? $($place:literal $byte:literal),*);+) => {
         [$($((0, $b0), (1, $b1), (2, $b2), (3, $b3), (4, $b4), (5, $b5), (6, $b6), (7, $b7), (8, $b8),
             (9, $b9), (10, $b10), (11, $b11), (12, $b12), (13, $b13), (14, $b14), (15, $b15),)?
             $(($place, $byte),)*)+]
@@ -46,12 +46,12 @@ macro_rules! item {
     };
 }
 
-/// Rows: what one row or more of a kind share, which is the type, the sub-type, the mode, the least length and
-/// what follows it, the numbers of the close and the rest, and the tail; and for each of them the numbers of the
-/// other parts, in the order of [`RowOf`].
+/// Rows: what one row or more of a kind share, which is the type, the sub-type, the mode, the least length
+/// and what follows it, the numbers of the close and the rest, and the tail; and for each of them the
+/// numbers of the other parts, in the order of [`RowOf`].
 macro_rules! rows {
-    ($($kind:literal $sub_kind:literal $mode:ident $least:literal $more:literal $close:literal $rest:literal
-        $tail:expr => $($when:literal $also:literal $start:literal $pieces:literal),+);+) => {
+    ($($kind:literal $sub_kind:literal $mode:ident $least:literal $more:literal $close:literal
+        $rest:literal $tail:expr => $($when:literal $also:literal $start:literal $pieces:literal),+);+) => {
         [$($(RowOf {
             kind: $kind,
             sub_kind: $sub_kind,

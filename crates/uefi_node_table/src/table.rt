@@ -143,8 +143,8 @@ macro_rules! row {
     };
 }
 
-/// Makes a form of USB devices of a class, of a sub-class of the class 0xFE, or of any class: vendor, product,
-/// the class and the sub-class where the start of the text does not name them, and protocol.
+/// Makes a form of USB devices of a class, of a sub-class of the class 0xFE, or of any class: vendor,
+/// product, the class and the sub-class where the start of the text does not name them, and protocol.
 macro_rules! usb_class {
     ($class:literal $start:literal) => {
         usb_class!([USB_CLASS_DEVICE_CLASS = $class] $start [Hexadecimal USB_CLASS_DEVICE_SUBCLASS ",0x"])

@@ -254,6 +254,32 @@ impl<'a> DevicePathBuilder<'a> {
         })
     }
 
+    /// Adds the nodes of a text in UTF-16, which [`push_text`](Self::push_text) reads in UTF-8. The text is the units before their
+    /// first NUL, or all of them if there is none.
+    ///
+    /// Fails with [`Reason::InvalidChar`] at a surrogate without a partner, and with [`Reason::NoNode`] at the unit where a node
+    /// should begin, but does not.
+    ///
+    /// ```
+    /// use nardcorbel::proto::device_path::build::DevicePathBuilder;
+    ///
+    /// let mut bytes = Vec::new();
+    /// let units: Vec<u16> = "Pci(0x1F,0x2)/\\\u{1F600}".encode_utf16().collect();
+    /// let path = DevicePathBuilder::with_vec(&mut bytes).push_units(&units)?.finalize()?;
+    /// assert_eq!(path.node_iter().count(), 2);
+    /// # Ok::<(), nardcorbel::Error>(())
+    /// ```
+    pub fn push_units(self, units: &[u16]) -> Result<Self, Error> {
+        self.add(&mut |room, length| sys::nard_device_path_push_units(room, units, length))
+    }
+
+    /// Adds the nodes of a text in UTF-16 as people write it, which [`push_lenient_text`](Self::push_lenient_text) reads in UTF-8.
+    ///
+    /// Fails as [`push_units`](Self::push_units) does, but with [`Reason::NoNode`] at the wrong unit.
+    pub fn push_lenient_units(self, units: &[u16]) -> Result<Self, Error> {
+        self.add(&mut |room, length| sys::nard_device_path_push_lenient_units(room, units, length))
+    }
+
     /// Adds the nodes of a text that libefivar and efibootmgr print. libefivar prints the identifier of an NVMe node from
     /// its first byte on, and `Ata` with three numbers; `Fibre(..)`, `SAS(..)`, `UsbClass(..)` and a `PciRoot(..)` without `0x` are
     /// refused. Other nodes are read, and the call fails, as by [`push_lenient_text`](Self::push_lenient_text).
@@ -316,6 +342,15 @@ impl<'a> DevicePathBuilder<'a> {
     pub fn lenient_text_fault<'b>(text: &str, buffer: &'b mut [u16]) -> Result<&'b [u16], Error> {
         let mut length = 0;
         let reason = sys::nard_lenient_text_fault(text.as_bytes(), buffer, &mut length);
+        crate::error::check(reason, length)?;
+        Ok(&buffer[..length])
+    }
+
+    /// Writes in words why [`push_lenient_units`](Self::push_lenient_units) fails with [`Reason::NoNode`] for a text, as
+    /// [`lenient_text_fault`](Self::lenient_text_fault) does for a text in UTF-8. Offsets in the words count units.
+    pub fn lenient_units_fault<'b>(units: &[u16], buffer: &'b mut [u16]) -> Result<&'b [u16], Error> {
+        let mut length = 0;
+        let reason = sys::nard_lenient_units_fault(units, buffer, &mut length);
         crate::error::check(reason, length)?;
         Ok(&buffer[..length])
     }

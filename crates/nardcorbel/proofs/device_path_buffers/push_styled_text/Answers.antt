@@ -1,33 +1,35 @@
 -- What is refused is the path in the buffer, then the text, and then the room.
-use Rattle.std.proofs.Common.{arith, subst}
+use Rattle.std.proofs.Common.{arith, refl, subst}
 use Rattle.std.proofs.lemmas.Grind.{common_steps}
 use Rattle.uefi_device_path.specs.Views.{nodes_of}
 use Rattle.nardcorbel.specs.Outcomes.{ShowsNumber}
+use Rattle.nardcorbel.specs.Reading.{read_text}
 use Rattle.nardcorbel.specs.Outcomes.Outcome.{Refused}
+use Rattle.nardcorbel.specs.Refusals.{text_refused}
 use Rattle.nardcorbel.specs.declared.outcomes.Refusal.{Refusal}
-use Rattle.nardcorbel.proofs.Written.{added}
+use Rattle.nardcorbel.proofs.Written.{added_by}
 use Rattle.nardcorbel.proofs.device_path_buffers.push_styled_text.Goals as goal
 
 pub returns-in-Ok-push_styled_text_in_buf : goal.returns-in-Ok-push_styled_text_in_buf
+unfolding read_text
 returns-in-Ok-push_styled_text_in_buf c =
-    let text = c.in-Ok.text.now in
     let nodes = nodes_of c.in_default.field-0 in
     let said = c.in-Ok-push_styled_text_in_buf.ensures in
     let begins = c.in_default.ensures.begins in
     rw (c.in_default.ensures.ok, c.in-Ok.ensures.ok)
-    (added c.args.style c.args.buffer.now c.push_styled_text_in_buf.new.buffer text nodes _ c.args.place.now c.report.result c.report.new.place
+    (added_by (text_refused c.args.style) (λ needed. refl) c.args.buffer.now c.push_styled_text_in_buf.new.buffer nodes _ _ c.args.place.now c.report.result c.report.new.place
     (grind (arith, common_steps)) (said.no_node nodes begins) (λ others. said.refusal nodes others begins)
     (λ others. said.len nodes others begins) (λ others. said.buffer nodes others begins) said.err c.report.ensures.shows)
 
 pub returns-in-Err-push_styled_text_in_buf : goal.returns-in-Err-push_styled_text_in_buf
+unfolding read_text
 returns-in-Err-push_styled_text_in_buf c =
-    let text = c.in-Ok.text.now in
     let nodes = nodes_of c.in_default.field-0 in
     let said = c.in-Err-push_styled_text_in_buf.ensures in
     let begins = c.in_default.ensures.begins in
     let shown = subst (λ (r : Refusal). ShowsNumber (Refused r) c.args.place.now c.refuse-in-Err-push_styled_text_in_buf.result c.refuse-in-Err-push_styled_text_in_buf.new.place)
     c.text_refused.ensures c.refuse-in-Err-push_styled_text_in_buf.ensures in
     rw (c.in_default.ensures.ok, c.in-Ok.ensures.ok)
-    (added c.args.style c.args.buffer.now c.push_styled_text_in_buf.new.buffer text nodes _ c.args.place.now _ _
+    (added_by (text_refused c.args.style) (λ needed. refl) c.args.buffer.now c.push_styled_text_in_buf.new.buffer nodes _ _ c.args.place.now _ _
     (grind (arith, common_steps)) (said.no_node nodes begins) (λ others. said.refusal nodes others begins)
     (λ others. said.len nodes others begins) (λ others. said.buffer nodes others begins) said.err shown)

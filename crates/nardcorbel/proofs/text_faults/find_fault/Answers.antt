@@ -35,9 +35,9 @@ none (Ok others) stops = refl
 none (Err fault) stops = absurd (stops fault refl)
 
 pub returns-in-Err : goal.returns-in-Err
-returns-in-Err c = c.fault_in.ensures
-    ∙ found (path_read c.args.style c.args.text.now) c.in-Err.error (λ f stop. let said = c.in-Err.ensures.no_node [] begins f stop in cc)
+returns-in-Err g c = c.fault_in.ensures
+    ∙ found (path_read c.args.style (g.T.Text.bytes c.args.text)) c.in-Err.error (λ f stop. let said = c.in-Err.ensures.no_node [] begins f stop in cc)
     (λ others reads. c.in-Err.ensures.refusal [] others begins reads)
 
 pub returns-in-Ok : goal.returns-in-Ok
-returns-in-Ok c = none (path_read c.args.style c.args.text.now) (λ f stop. cc (c.in-Ok.ensures.no_node [] begins f stop))
+returns-in-Ok g c = none (path_read c.args.style (g.T.Text.bytes c.args.text)) (λ f stop. cc (c.in-Ok.ensures.no_node [] begins f stop))

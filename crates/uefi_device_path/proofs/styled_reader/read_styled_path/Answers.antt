@@ -18,7 +18,7 @@ of_bytes-requires g c =
     let new = c.put_text-2.new.buffer in
     let whole : take bytes.len (new ++ drop (length new) bytes.items) ≡ new =
     take_at new (drop (length new) bytes.items) bytes.len (c.put_text-2.auto.buffer ∙ c.as_mut_slice.ensures.len) in
-    subst IsPath (sym whole) (path_held c.args.style c.args.text.now c.as_mut_slice.result.now new c.in-Ok.len c.in-Ok-put_text.field-0
+    subst IsPath (sym whole) (path_held c.args.style (g.T.Text.bytes c.args.text) c.as_mut_slice.result.now new c.in-Ok.len c.in-Ok-put_text.field-0
     c.in-Ok.ensures.len c.in-Ok-put_text.ensures.len (ap (take 4) c.as_mut_slice.ensures.value ∙ c.in-Ok-empty_path.ensures.begins)
     (ap length c.as_mut_slice.ensures.value ∙ c.in-Ok-empty_path.ensures.len) c.in-Ok-put_text.ensures.put).0
 
@@ -28,8 +28,8 @@ returns-in-Ok-put_text-clause-gives g c =
     let new = c.put_text-2.new.buffer in
     let whole : take bytes.len (new ++ drop (length new) bytes.items) ≡ new =
     take_at new (drop (length new) bytes.items) bytes.len (c.put_text-2.auto.buffer ∙ c.as_mut_slice.ensures.len) in
-    subst (λ (ns : List Node). IsReadAs c.args.style c.args.text.now ns)
+    subst (λ (ns : List Node). IsReadAs c.args.style (g.T.Text.bytes c.args.text) ns)
     (sym (c.of_bytes.ensures ∙ ap (λ (l : List ℕ). nodes_in (without_end l)) whole))
-    (path_held c.args.style c.args.text.now c.as_mut_slice.result.now new c.in-Ok.len c.in-Ok-put_text.field-0
+    (path_held c.args.style (g.T.Text.bytes c.args.text) c.as_mut_slice.result.now new c.in-Ok.len c.in-Ok-put_text.field-0
     c.in-Ok.ensures.len c.in-Ok-put_text.ensures.len (ap (take 4) c.as_mut_slice.ensures.value ∙ c.in-Ok-empty_path.ensures.begins)
     (ap length c.as_mut_slice.ensures.value ∙ c.in-Ok-empty_path.ensures.len) c.in-Ok-put_text.ensures.put).1

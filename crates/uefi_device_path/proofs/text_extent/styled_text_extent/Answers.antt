@@ -44,37 +44,37 @@ module _ (style : TextStyle) (text : List ℕ) where
 
 pub returns-in-Ok : goal.returns-in-Ok
 unfolding text_extent
-returns-in-Ok c =
+returns-in-Ok g c =
     let said : Counted = Ok c.in-Ok.field-0 in
-    whole c.args.style c.args.text.now (path_read c.args.style c.args.text.now) c.in-Ok.field-0 said refl c.in-Ok.ensures.len
+    ap (λ (n : ℕ). Ok n) c.len.ensures ∙ whole c.args.style (g.T.Text.bytes c.args.text) (path_read c.args.style (g.T.Text.bytes c.args.text)) c.in-Ok.field-0 said refl c.in-Ok.ensures.len
 
 pub returns-then-not-is_end : goal.returns-then-not-is_end
-returns-then-not-is_end c =
+returns-then-not-is_end g c =
     let style = c.args.style in
-    let text = c.args.text.now in
+    let text = (g.T.Text.bytes c.args.text) in
     let fault = c.in-Err.fault in
     let said : Counted = Err fault in
     let read = at_fault style text (path_read style text) fault said refl c.in-Err.ensures.len in
     by_choice style text fault false (is_ok (path_read style (take fault.byte text))) read (sym c.is_end.ensures ∙ c.if-not-is_end.true) refl
 
 pub returns-in-Ok-put_text : goal.returns-in-Ok-put_text
-returns-in-Ok-put_text c =
+returns-in-Ok-put_text g c =
     let style = c.args.style in
-    let text = c.args.text.now in
+    let text = (g.T.Text.bytes c.args.text) in
     let fault = c.in-Err.fault in
     let said : Counted = Err fault in
     let second : Counted = Ok c.in-Ok-put_text.field-0 in
     let read = at_fault style text (path_read style text) fault said refl c.in-Err.ensures.len in
     by_choice style text fault true true read (sym c.is_end.ensures ∙ c.if-not-is_end.false)
-    (is_read style text (path_read style (take fault.byte text)) second true refl c.in-Ok-put_text.ensures.len)
+    (is_read style text (path_read style (take fault.byte text)) second true refl (c.in-Ok-put_text.ensures.len ∙ ap (λ (l : List ℕ). counted (path_read style l)) c.split_at-path.ensures.front))
 
 pub returns-in-Err-put_text : goal.returns-in-Err-put_text
-returns-in-Err-put_text c =
+returns-in-Err-put_text g c =
     let style = c.args.style in
-    let text = c.args.text.now in
+    let text = (g.T.Text.bytes c.args.text) in
     let fault = c.in-Err.fault in
     let said : Counted = Err fault in
     let second : Counted = Err c.in-Err-put_text.field-0 in
     let read = at_fault style text (path_read style text) fault said refl c.in-Err.ensures.len in
     by_choice style text fault true false read (sym c.is_end.ensures ∙ c.if-not-is_end.false)
-    (is_read style text (path_read style (take fault.byte text)) second false refl c.in-Err-put_text.ensures.len)
+    (is_read style text (path_read style (take fault.byte text)) second false refl (c.in-Err-put_text.ensures.len ∙ ap (λ (l : List ℕ). counted (path_read style l)) c.split_at-path.ensures.front))

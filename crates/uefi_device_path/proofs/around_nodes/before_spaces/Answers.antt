@@ -1,5 +1,0 @@
-use Rattle.std.proofs.lemmas.Str.Ascii.{trim_ascii_end_is}
-use Rattle.uefi_device_path.proofs.around_nodes.before_spaces.Goals as goal
-
-pub returns : goal.returns
-returns c = trim_ascii_end_is c.args.text.now c.trim_ascii_end.result.now c.trim_ascii_end.ensures.value
