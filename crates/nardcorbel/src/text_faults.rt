@@ -131,7 +131,7 @@ pub extern "C" fn nard_lenient_units_fault(
         place.old buffer.old result place.new buffer.new }
 {
     let units = until_nul(units);
-    let text = match read_utf16(units) {
+    let text = match read_utf16(&units) {
         Ok(text) => text,
         Err(refusal) => return refuse(refusal, place),
     };

@@ -15,9 +15,9 @@ use uefi_device_path::{
 };
 
 /// The text of units.
-pub(crate) fn read_utf16<'a>(units: &'a [u16]) -> Result<Utf16Text<'a>, Refusal>
-    ensures ok { IfOk result (λ text. read_utf16 units.now ≡ Ok (⟦<Utf16Text<'a> as Text>⟧.bytes text)) }
-    ensures err { IfErr result (λ refusal. read_utf16 units.now ≡ Err refusal) }
+pub(crate) fn read_utf16<'a>(units: &'a &'a [u16]) -> Result<Utf16Text<'a>, Refusal>
+    ensures ok { IfOk result (λ text. read_utf16 units.now.now ≡ Ok (⟦<Utf16Text<'a> as Text>⟧.bytes text)) }
+    ensures err { IfErr result (λ refusal. read_utf16 units.now.now ≡ Err refusal) }
 {
     match Utf16Text::new(units) {
         Ok(text) => Ok(text),
@@ -60,7 +60,7 @@ fn push_styled_units(style: TextStyle, buffer: &mut [u8], units: &[u16], place: 
         return refuse(refusal, place);
     }
     let units = until_nul(units);
-    let text = match read_utf16(units) {
+    let text = match read_utf16(&units) {
         Ok(text) => text,
         Err(refusal) => return refuse(refusal, place),
     };

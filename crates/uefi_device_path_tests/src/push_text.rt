@@ -149,7 +149,7 @@ fn push_both(
     bytes[..4].copy_from_slice(END);
     others[..4].copy_from_slice(END);
     let read = push_styled_text_in_buf(style, &mut bytes, text);
-    let wide = push_any_text_in_buf(style, &mut others, Utf16Text::new(units).ok()?);
+    let wide = push_any_text_in_buf(style, &mut others, Utf16Text::new(&units).ok()?);
     Some((read, wide, bytes == others))
 }
 
@@ -200,7 +200,7 @@ fn places_in_utf16(rt: HostRuntime) -> Result<(), Fail> {
         ([0xfffd, 0xdbff, 0xe000], 1),
         ([0xd7ff, 0xe000, 0xdfff], 2),
     ] {
-        assert_eq!(rt; Utf16Text::new(&units).err(), Some(place));
+        assert_eq!(rt; Utf16Text::new(&&units[..]).err(), Some(place));
         assert_eq!(rt; units_within(&units, 99), place);
     }
     Ok(())

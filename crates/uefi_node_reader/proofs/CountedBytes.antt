@@ -122,7 +122,7 @@ copied old new bytes len e l few =
 
 -- four parts one after the other, at the start of zeros
 pub four_put : (z a b m g : List ℕ) (s t u v : List ℕ × ℕ) → s ≡ pushed_bytes (z, 0) a → t ≡ pushed_bytes s b → u ≡ pushed_bytes t m
-    → v ≡ pushed_bytes u g → length a + (length b + (length m + length g)) ≡ 56 → length z ≡ 64 → take 56 v.0 ≡ a ++ (b ++ (m ++ g))
+    → v ≡ pushed_bytes u g → length a + (length b + (length m + length g)) ≡ 56 → length z ≡ 56 → take 56 v.0 ≡ a ++ (b ++ (m ++ g))
 four_put z a b m g s t u v e f h k size room =
     let all : List ℕ = a ++ (b ++ (m ++ g)) in
     let whole : length all ≡ 56 = length-append a (b ++ (m ++ g)) ∙ ap (λ (n : ℕ). length a + n) (length-append b (m ++ g) ∙ ap (λ (n : ℕ). length b + n) (length-append m g)) ∙ size in

@@ -1,5 +1,5 @@
 -- Nodes of files that were read from names.
-use Rattle.std.proofs.Common.{◌≡◌, ◌≢◌, ℕ, zero, suc, ◌+◌, Bool, true, false, true≢false, cond, eqb, leb, ◌&&◌, ◌<◌, List, [], ◌∷◌, ◌++◌, length, take, drop, refl, ap, sym, subst, ◌∙◌, arith}
+use Rattle.std.proofs.Common.{◌≡◌, ℕ, zero, suc, ◌+◌, Bool, true, false, true≢false, cond, leb, ◌&&◌, List, [], ◌∷◌, ◌++◌, length, take, drop, refl, ap, sym, ◌∙◌, arith}
 use Rattle.std.specs.Prelude.{Option, Some, None}
 use Rattle.std.specs.List.{list_all, position_or_len}
 use Rattle.std.specs.Str.{IsUtf8, all_scalars, chars, is_utf8}
@@ -12,7 +12,6 @@ use Rattle.uefi_device_nodes.specs.Nodes.{Node, node_with}
 use Rattle.uefi_node_reader.specs.FieldReading.{read_if}
 use Rattle.uefi_node_reader.specs.FileNodes.{node_of_file, rooted_data}
 use Rattle.uefi_node_reader.specs.NamedFiles.{begins_name, ends_name, is_name, is_name_char, name_bytes, name_data, name_read}
-use Rattle.uefi_node_reader.proofs.Digits.{some_pair}
 
 -- a backslash before a text
 root : encode 92 ≡ 92 ∷ []

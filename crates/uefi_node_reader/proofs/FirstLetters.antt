@@ -1,13 +1,19 @@
 -- A group of forms reads no text that begins with another letter.
-use Rattle.std.proofs.Common.{◌≡◌, ℕ, ◌+◌, Bool, true, false, cond, eqb, List, [], ◌∷◌, sym, ap, ◌∙◌, refl, true≢false}
-use Rattle.std.specs.Prelude.{Option, None}
-use Rattle.std.proofs.lemmas.Bool.{and_parts}
+use Rattle.std.proofs.Common.{◌≡◌, ℕ, ◌+◌, ◌&&◌, ◌||◌, ◌⊎◌, inl, inr, Bool, true, false, cond, eqb, List, [], ◌∷◌, sym, ap, ◌∙◌, refl, true≢false, arith}
+use Rattle.std.specs.Prelude.{Err, None, Option, Result, Some}
+use Rattle.std.specs.Char.{to_ascii_lowercase, to_ascii_uppercase}
+use Rattle.std.proofs.lemmas.Bool.{and_parts, or_parts}
+use Rattle.std.proofs.lemmas.Bool.Decides.{nat_tests}
 use borrow.Author.Tests.{eqb-true}
+use Rattle.uefi_device_nodes.specs.Nodes.{Node}
 use Rattle.uefi_node_table.specs.Rows.{Form}
 use Rattle.uefi_node_reader.specs.FieldReading.{◌>>=◌, either_read}
-use Rattle.uefi_node_reader.specs.FirstLetters.{all_begin_in, begins_in}
+use Rattle.uefi_node_reader.specs.FirstLetters.{all_begin_in, begins_in, begins_in_either_case, is_in}
+use Rattle.uefi_node_reader.specs.LenientCalls.{begins_call_name, first_tried, or_next}
+use Rattle.uefi_node_reader.specs.Stops.{further}
 use Rattle.uefi_node_reader.specs.TableReading.{blank, form_read, forms_read, is_read, kept, pieces_put, rest_read}
 use Rattle.uefi_node_reader.specs.WordReading.{after}
+use Rattle.uefi_node_reader.specs.declared.faults.Stop.{Stop}
 
 -- a text that begins with another letter than a literal
 after_none : (letters : ℕ) (start text : List ℕ) → begins_in letters start ≡ true → begins_in letters text ≡ false → after start text ≡ None
@@ -40,3 +46,38 @@ none_read letters all place (form ∷ forms) text a t =
     ap (λ (o : Option (List ℕ × List ℕ)). either_read (kept all place form o) (forms_read all (place + 1) forms text))
     (form_unread form text (after_none letters form.start text parts.0 t))
     ∙ none_read letters all (place + 1) forms text parts.1 t
+
+-- a letter in either case is a letter in that case
+cased : (c t : ℕ) → eqb (to_ascii_uppercase c) (to_ascii_uppercase t) ≡ true → (c ≡ to_ascii_uppercase t) ⊎ (c ≡ to_ascii_lowercase t)
+cased c t e = grind (arith, nat_tests, eqb-true _ _ e)
+
+-- a call does not begin with the name of a form that begins with another letter
+name_unread : (letters : ℕ) (start call : List ℕ) → begins_in letters start ≡ true → begins_in_either_case letters call ≡ false
+    → begins_call_name start call ≡ false
+name_unread letters [] call s t = absurd (true≢false (sym s))
+name_unread letters (c ∷ cs) [] s t = refl
+name_unread letters (c ∷ cs) (d ∷ ds) s t = by (eqb (to_ascii_uppercase c) (to_ascii_uppercase d)) refl
+  where
+    by : (b : Bool) → eqb (to_ascii_uppercase c) (to_ascii_uppercase d) ≡ b → b && (eqb c 40 || begins_call_name cs ds) ≡ false
+    by false e = refl
+    by true e =
+        let none = or_parts (is_in letters (to_ascii_uppercase d)) (is_in letters (to_ascii_lowercase d)) t in
+        elim (cased c d e) [
+          | inl is ↦ absurd (true≢false (sym s ∙ ap (is_in letters) is ∙ none.0))
+          | inr is ↦ absurd (true≢false (sym s ∙ ap (is_in letters) is ∙ none.1))
+        ]
+
+-- such forms are not tried
+pub none_tried : (tried : Form → Result Node (Option Stop)) (letters : ℕ) (forms : List Form) (furthest : Option Stop) (call : List ℕ)
+    → ((form : Form) → begins_call_name form.start call ≡ false → tried form ≡ Err None) → all_begin_in letters forms ≡ true
+    → begins_in_either_case letters call ≡ false → first_tried tried forms furthest ≡ Err furthest
+none_tried tried letters [] furthest call needed a t = refl
+none_tried tried letters (form ∷ forms) furthest call needed a t =
+    let parts = and_parts (begins_in letters form.start) (all_begin_in letters forms) a in
+    ap (λ (r : Result Node (Option Stop)). or_next r (λ stop. first_tried tried forms (further furthest stop)))
+    (needed form (name_unread letters form.start call parts.0 t))
+    ∙ ap (first_tried tried forms) (same furthest) ∙ none_tried tried letters forms furthest call needed parts.1 t
+  where
+    same : (stop : Option Stop) → further stop None ≡ stop
+    same None = refl
+    same (Some stop) = refl

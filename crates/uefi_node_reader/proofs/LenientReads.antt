@@ -1,20 +1,15 @@
 -- Nodes as people write them: a field in its place, and forms of the table one group after the other.
-use Rattle.std.proofs.Common.{◌≡◌, ℕ, ◌+◌, ◌-◌, ◌<◌, ◌≤◌, Bool, true, false, cond, eqb, not, List, [], ◌∷◌, ◌++◌, length, get_or, Bor, refl, sym, ap, ◌∙◌, arith}
-use Rattle.std.specs.Prelude.{Option, Some, None, Result, Ok, Err, codes, filter, map, slice_range}
+use Rattle.std.proofs.Common.{◌≡◌, ℕ, ◌+◌, ◌-◌, ◌<◌, ◌≤◌, List, [], ◌∷◌, ◌++◌, length, refl, sym, ap, ◌∙◌, arith}
+use Rattle.std.specs.Prelude.{Option, Some, None, Result, Ok, Err, slice_range}
 use Rattle.std.specs.Option.{ok_or, option_map}
-use Rattle.std.proofs.lemmas.Bool.{ne_eqb}
-use Rattle.std.proofs.lemmas.List.{length-append, length-map}
-use Rattle.std.proofs.lemmas.List.Sums.{count_by-le-length, length-filter}
 use Rattle.std.proofs.lemmas.List.Edits.{length-between}
-use borrow.Author.Tests.{eq-eqb}
 use borrow.Rule.Slice.PartMut.{put_mid}
 use Rattle.uefi_node_table.specs.Rows.{Form, Piece}
 use Rattle.uefi_node_table.specs.Table.{forms_from, group_forms}
 use Rattle.uefi_node_table.proofs.Groups.{next_group}
 use Rattle.uefi_device_nodes.specs.Nodes.{Node}
 use Rattle.uefi_node_reader.specs.LenientFields.{expected_field, left_out, value_or_spare, value_set}
-use Rattle.uefi_node_reader.specs.LenientCalls.{first_tried, is_blank, or_next, tidied, tidied_byte}
-use Rattle.uefi_node_reader.specs.LenientNodes.{rooted}
+use Rattle.uefi_node_reader.specs.LenientCalls.{first_tried, or_next}
 use Rattle.uefi_node_reader.specs.Stops.{further, stop_at}
 use Rattle.uefi_node_reader.specs.TableReading.{put_at}
 use Rattle.uefi_node_reader.specs.declared.faults.Stop.{Stop}

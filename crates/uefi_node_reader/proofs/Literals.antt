@@ -1,8 +1,8 @@
 -- Literals that a text begins with, and texts that differ.
-use Rattle.std.proofs.Common.{◌≡◌, ◌≢◌, ℕ, Bool, true, false, cond, eqb, List, [], ◌∷◌, ◌++◌, Bor, refl, sym, ap, ◌∙◌}
+use Rattle.std.proofs.Common.{◌≡◌, ℕ, Bool, true, false, cond, eqb, List, [], ◌∷◌, ◌++◌, refl, sym, ap, ◌∙◌}
 use Rattle.std.proofs.lemmas.Bool.{and_parts}
-use Rattle.std.specs.Prelude.{MatchOption, Option, Some, None, Result, Ok, Err, option_and_then}
-use Rattle.std.specs.Option.{ok_or, option_map}
+use Rattle.std.specs.Prelude.{Option, Some, None, Result, Ok, Err, option_and_then}
+use Rattle.std.specs.Option.{ok_or}
 use Rattle.std.specs.Result.{result_map_both, result_unwrap_or}
 use borrow.Author.Tests.{eq-eqb, eqb-true}
 use Rattle.uefi_node_reader.specs.FieldReading.{◌>>=◌}

@@ -195,24 +195,21 @@ text_more state so_far c =
     ∙ ap (pushed_bytes state) (sym (unit_bytes-append (flat_map encode_utf16 so_far) (encode_utf16 c))
     ∙ ap unit_bytes (flat_map_more encode_utf16 [] so_far c))
 
--- a unit of a byte more
-pub byte_more : (state : List ℕ × ℕ) (text : List ℕ) (k : ℕ) → k < length text → slice_index text k < 256
-    → pushed_byte (pushed_byte (pushed_bytes state (unit_bytes (take k text))) (slice_index text k)) 0
-    ≡ pushed_bytes state (unit_bytes (take (k + 1) text))
-byte_more state text k l small =
-    let byte : ℕ = slice_index text k in
-    let low : byte % 256 ≡ byte = omega arith in
-    let high : byte / 256 ≡ 0 = omega arith in
-    sym ((λ i. pushed_bytes state (unit_bytes (take_more text k 0 l i)))
-    ∙ ap (pushed_bytes state) (unit_bytes-append (take k text) (byte ∷ []))
-    ∙ pushed_bytes-append state (unit_bytes (take k text)) (unit_bytes (byte ∷ []))
-    ∙ (λ i. pushed_bytes (pushed_bytes state (unit_bytes (take k text))) (low i ∷ high i ∷ [])))
+-- the bytes of one unit more
+pub unit_more : (state : List ℕ × ℕ) (units : List ℕ) (k unit : ℕ) → k < length units → unit ≡ slice_index units k
+    → pushed_byte (pushed_byte (pushed_bytes state (unit_bytes (take k units))) (unit % 256)) (unit / 256)
+    ≡ pushed_bytes state (unit_bytes (take (k + 1) units))
+unit_more state units k unit l is =
+    ap (λ (u : ℕ). pushed_bytes (pushed_bytes state (unit_bytes (take k units))) (unit_bytes (u ∷ []))) is
+    ∙ sym ((λ i. pushed_bytes state (unit_bytes (take_more units k 0 l i)))
+    ∙ ap (pushed_bytes state) (unit_bytes-append (take k units) (slice_index units k ∷ []))
+    ∙ pushed_bytes-append state (unit_bytes (take k units)) (unit_bytes (slice_index units k ∷ [])))
 
--- units of bytes for which there is no room are only counted
-pub bytes_counted : (state : List ℕ × ℕ) (text places : List ℕ) (k count : ℕ)
+-- units for which there is no room are only counted
+pub units_counted : (state : List ℕ × ℕ) (text places : List ℕ) (k count : ℕ)
     → (places, count) ≡ pushed_bytes state (unit_bytes (take k text)) → state.1 ≤ 2 ^ 64 - 1 → length places ≤ count
     → k ≤ length text → (places, min (count + min ((length text - k) * 2) (2 ^ 64 - 1)) (2 ^ 64 - 1)) ≡ pushed_bytes state (unit_bytes text)
-bytes_counted state text places k count e small full l =
+units_counted state text places k count e small full l =
     let front : List ℕ = unit_bytes (take k text) in
     let rest : List ℕ = unit_bytes (drop k text) in
     let few : count ≤ 2 ^ 64 - 1 = omega (arith, ap (λ (s : List ℕ × ℕ). s.1) e ∙ counted front state.0 state.1 small) in

@@ -22,7 +22,7 @@ fits_not read l = ap (λ (t : Bool). cond t (Some read) None) (lt-leb (length re
 fits : (read : List ℕ × List ℕ) → length read.0 ≤ 0xfffb → fitting (Some read) ≡ Some read
 fits read l = ap (λ (t : Bool). cond t (Some read) None) (le-leb (length read.0) 0xfffb l)
 
-module _ (start : List ℕ) (fixed : ℕ) (small : fixed ≤ 64) (room : length start ≡ 64) where
+module _ (start : List ℕ) (fixed : ℕ) (small : fixed ≤ 56) (room : length start ≡ 56) where
   front_size : length (take fixed start) ≡ fixed
   front_size = length-take-le fixed start (omega (arith, small, room))
 
@@ -45,7 +45,7 @@ module _ (start : List ℕ) (fixed : ℕ) (small : fixed ≤ 64) (room : length 
   pub record IsRead (o : Option (List ℕ × List ℕ)) (head : List ℕ) (len : ℕ) (rest : List ℕ) : Type 0 where
     pub some : is_some o ≡ true
     pub count : len ≡ length (take fixed head ++ read_data o)
-    pub shown : take len head ≡ take 64 (take fixed head ++ read_data o)
+    pub shown : take len head ≡ take 56 (take fixed head ++ read_data o)
     pub data_ : Some (take fixed head ++ read_data o, rest) ≡ fitting (option_and_then (added (take fixed start)) o)
 
   pub tail_fits : (o : Option (List ℕ × List ℕ)) (head : List ℕ) (len : ℕ) (rest : List ℕ)
@@ -60,13 +60,13 @@ module _ (start : List ℕ) (fixed : ℕ) (small : fixed ≤ 64) (room : length 
       let bytes : head ≡ (pushed_bytes (start, fixed) read.0).0 = ap (λ (s : List ℕ × ℕ). s.0) same.0 in
       let front : take fixed head ≡ take fixed start =
       ap (λ (x : List ℕ). take fixed x) bytes ∙ front_kept read.0 start fixed (omega (arith, small, room)) (omega (arith, exact, l)) in
-      let shown : take len head ≡ take 64 (take fixed start ++ read.0) =
+      let shown : take len head ≡ take 56 (take fixed start ++ read.0) =
       (λ i. take (exact i) (bytes i)) ∙ first_shown read.0 start fixed (omega (arith, small, room)) (omega (arith, exact, l))
       ∙ ap (λ (n : ℕ). take n (take fixed start ++ read.0)) room in
       record {
         some = refl;
         count = exact ∙ sym size ∙ ap (λ (x : List ℕ). length (x ++ read.0)) (sym front);
-        shown = shown ∙ ap (λ (x : List ℕ). take 64 (x ++ read.0)) (sym front);
+        shown = shown ∙ ap (λ (x : List ℕ). take 56 (x ++ read.0)) (sym front);
         data_ = (λ i. Some (front i ++ read.0, same.1 i)) ∙ sym (fits (take fixed start ++ read.0, read.1) (omega (arith, l, exact, size)));
       }
 
@@ -135,25 +135,25 @@ kept-fitting all place form (Some read) = by (leb (length read.0) 0xfffb) refl
 pub record OtherFixed (found start bytes : List ℕ) (fixed len : ℕ) : Type 0 where
   pub front : take fixed (found ++ drop fixed start) ≡ found
   pub count : len ≡ length (take fixed (found ++ drop fixed start) ++ bytes)
-  pub shown : take len (found ++ drop fixed start) ≡ take 64 (take fixed (found ++ drop fixed start) ++ bytes)
+  pub shown : take len (found ++ drop fixed start) ≡ take 56 (take fixed (found ++ drop fixed start) ++ bytes)
 
-pub other_fixed : (found start bytes : List ℕ) (fixed len : ℕ) → fixed ≤ 64 → length start ≡ 64 → length found ≡ fixed
-    → len ≡ length (take fixed start ++ bytes) → take len start ≡ take 64 (take fixed start ++ bytes) → OtherFixed found start bytes fixed len
+pub other_fixed : (found start bytes : List ℕ) (fixed len : ℕ) → fixed ≤ 56 → length start ≡ 56 → length found ≡ fixed
+    → len ≡ length (take fixed start ++ bytes) → take len start ≡ take 56 (take fixed start ++ bytes) → OtherFixed found start bytes fixed len
 other_fixed found start bytes fixed len small room size count shown =
     let old : List ℕ = take fixed start in
     let wide : length old ≡ fixed = front_size start fixed small room in
     let front : take fixed (found ++ drop fixed start) ≡ found = take_at found (drop fixed start) fixed size in
     let all : len ≡ fixed + length bytes = count ∙ all_size start fixed small room bytes in
     let past : ℕ = len - fixed in
-    let others : take past (drop fixed start) ≡ take (64 - fixed) bytes =
+    let others : take past (drop fixed start) ≡ take (56 - fixed) bytes =
     sym (drop-take fixed past start) ∙ ap (λ (n : ℕ). drop fixed (take n start)) {x = fixed + past} {y = len} (omega (arith, all))
-    ∙ ap (drop fixed) shown ∙ ap (λ (n : ℕ). drop fixed (take n (old ++ bytes))) {x = 64} {y = fixed + (64 - fixed)} (omega (arith, small))
-    ∙ drop-take fixed (64 - fixed) (old ++ bytes) ∙ ap (take (64 - fixed)) (drop_at old bytes fixed wide) in
+    ∙ ap (drop fixed) shown ∙ ap (λ (n : ℕ). drop fixed (take n (old ++ bytes))) {x = 56} {y = fixed + (56 - fixed)} (omega (arith, small))
+    ∙ drop-take fixed (56 - fixed) (old ++ bytes) ∙ ap (take (56 - fixed)) (drop_at old bytes fixed wide) in
     record {
       front = front;
       count = all ∙ ap (λ (n : ℕ). n + length bytes) (sym size) ∙ sym (length-append found bytes) ∙ ap (λ (x : List ℕ). length (x ++ bytes)) (sym front);
       shown = ap (λ (n : ℕ). take n (found ++ drop fixed start)) {x = len} {y = length found + past} (omega (arith, all, size))
           ∙ take-append-add found (drop fixed start) past ∙ ap (λ (x : List ℕ). found ++ x) others
-          ∙ sym (take-append-add found bytes (64 - fixed)) ∙ ap (λ (n : ℕ). take n (found ++ bytes)) {x = length found + (64 - fixed)} {y = 64} (omega (arith, small, size))
-          ∙ ap (λ (x : List ℕ). take 64 (x ++ bytes)) (sym front);
+          ∙ sym (take-append-add found bytes (56 - fixed)) ∙ ap (λ (n : ℕ). take n (found ++ bytes)) {x = length found + (56 - fixed)} {y = 56} (omega (arith, small, size))
+          ∙ ap (λ (x : List ℕ). take 56 (x ++ bytes)) (sym front);
     }

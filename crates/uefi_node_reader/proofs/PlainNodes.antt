@@ -103,7 +103,7 @@ plain_takes text node rest e =
 -- whether a node is plain, by its first bytes
 pub plain_shown : (node : Node) (kind sub_kind : ℕ) → kind ≡ node.device_type → sub_kind ≡ node.sub_type
     → (irregular formed : Bool) → irregular ≡ is_irregular false (node_with kind sub_kind node.content)
-    → formed ≡ has_form false kind sub_kind (take 64 node.content) → length node.content ≤ 0xfffb
+    → formed ≡ has_form false kind sub_kind (take 56 node.content) → length node.content ≤ 0xfffb
     → not (eqb kind 0x7f) && (not (irregular || formed) && true) ≡ is_plain node
 plain_shown node kind sub_kind k s irregular formed is has fits =
     let a : irregular ≡ is_irregular false node = is ∙ (λ i. is_irregular false (node_with (k i) (s i) node.content)) in

@@ -26,7 +26,6 @@ use Rattle.uefi_node_reader.specs.TextCalls.{call_left, head_set, holds_ids, hol
 use Rattle.uefi_node_reader.specs.declared.faults.Expected.TheVariants as expected
 use Rattle.uefi_node_reader.specs.declared.faults.Stop.{Stop}
 use Rattle.uefi_node_reader.proofs.ClearTexts.{clear_bytes, clear_takes}
-use Rattle.uefi_node_reader.proofs.Digits.{some_pair}
 use Rattle.uefi_node_reader.proofs.Groups.{table_sound}
 use Rattle.uefi_node_reader.proofs.LenientFields.{SetIn, pieces_set_bytes, set_of}
 use Rattle.uefi_node_reader.proofs.Literals.{bind_ok, map_ok, ok_some}

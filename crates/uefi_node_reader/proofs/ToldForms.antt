@@ -1,8 +1,8 @@
 -- A node that was read in a form, and that its text tells; and forms that are tried one after the other.
-use Rattle.std.proofs.Common.{◌≡◌, Bool, true, false, cond, eqb, leb, ◌&&◌, ◌⊎◌, List, [], ◌∷◌, ℕ, length, refl, sym, ap, ◌∙◌, inl, inr, arith}
+use Rattle.std.proofs.Common.{◌≡◌, Bool, true, false, cond, leb, ◌&&◌, ◌⊎◌, List, [], ◌∷◌, ℕ, length, refl, sym, ap, ◌∙◌, inl, inr}
 use Rattle.std.specs.Prelude.{Option, Some, None, Result, Ok, Err}
 use Rattle.std.specs.List.{list_all}
-use Rattle.std.proofs.lemmas.Bool.{and_parts, ne_eqb}
+use Rattle.std.proofs.lemmas.Bool.{and_parts}
 use Rattle.uefi_node_table.specs.Rows.{Form, find_form}
 use Rattle.uefi_node_table.specs.Table.{forms}
 use Rattle.uefi_device_nodes.specs.Nodes.{Node, node_with}

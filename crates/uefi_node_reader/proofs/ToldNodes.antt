@@ -121,34 +121,34 @@ pub record ShownIn (node : Node) (form : Form) : Type 0 where
   pub chosen : find_form (prints node) forms ≡ Some form
   pub sounds : is_sound form ≡ true
   pub fills : is_filled form ≡ true
-  pub within : form.least ≤ length (take 64 node.content)
-  pub head : take form.least (take 64 node.content) ≡ take form.least node.content
+  pub within : form.least ≤ length (take 56 node.content)
+  pub head : take form.least (take 56 node.content) ≡ take form.least node.content
 
 pub shown_in : (node : Node) (form : Form)
-    → Some form ≡ find_form (prints (node_with node.device_type node.sub_type (take 64 node.content))) forms → ShownIn node form
+    → Some form ≡ find_form (prints (node_with node.device_type node.sub_type (take 56 node.content))) forms → ShownIn node form
 shown_in node form e =
-    let short : Node = node_with node.device_type node.sub_type (take 64 node.content) in
+    let short : Node = node_with node.device_type node.sub_type (take 56 node.content) in
     let test = found (prints short) is_sound forms form (sym e) table_sound in
-    let long : form.least ≤ length (take 64 node.content) = long_enough false node.device_type node.sub_type (take 64 node.content) form test.1 in
-    let size = length-take 64 node.content in
+    let long : form.least ≤ length (take 56 node.content) = long_enough false node.device_type node.sub_type (take 56 node.content) form test.1 in
+    let size = length-take 56 node.content in
     record {
       chosen = sym (form_same node.device_type node.sub_type node.content) ∙ sym e;
       sounds = test.0;
       fills = (found (prints short) is_filled forms form (sym e) table_filled).0;
       within = long;
-      head = take-take form.least 64 node.content (omega (arith, long, size));
+      head = take-take form.least 56 node.content (omega (arith, long, size));
     }
 
 -- no form
 pub shown_not : (node : Node)
-    → None ≡ find_form (prints (node_with node.device_type node.sub_type (take 64 node.content))) forms
+    → None ≡ find_form (prints (node_with node.device_type node.sub_type (take 56 node.content))) forms
     → find_form (prints node) forms ≡ None
 shown_not node e = sym (form_same node.device_type node.sub_type node.content) ∙ sym e
 
 -- the same form by the parts of the node
 pub by_parts : (node : Node) (kind sub_kind : ℕ) (head : List ℕ) (o : Option Form) → kind ≡ node.device_type
-    → sub_kind ≡ node.sub_type → head ≡ take 64 node.content → o ≡ find_form (prints (node_with kind sub_kind head)) forms
-    → o ≡ find_form (prints (node_with node.device_type node.sub_type (take 64 node.content))) forms
+    → sub_kind ≡ node.sub_type → head ≡ take 56 node.content → o ≡ find_form (prints (node_with kind sub_kind head)) forms
+    → o ≡ find_form (prints (node_with node.device_type node.sub_type (take 56 node.content))) forms
 by_parts node kind sub_kind head o k s h e = e ∙ (λ i. find_form (prints (node_with (k i) (s i) (h i))) forms)
 
 -- a node in no form, or in one that is not read
@@ -178,7 +178,7 @@ tells_other read node form e other =
 -- a node in one that is
 pub tells_is : (read : Form) (node : Node) (form : Form) → ShownIn node form → form.mode ≡ Read
     → length node.content ≤ 0xfffb → (fixed tail : Bool)
-    → fixed ≡ tells_fixed form (take form.least (take 64 node.content))
+    → fixed ≡ tells_fixed form (take form.least (take 56 node.content))
     → tail ≡ tells_tail read form.least form.tail form.close (length node.content) → fixed && tail ≡ tells read node
 unfolding tells
 tells_is read node form shown is fits fixed tail f t =

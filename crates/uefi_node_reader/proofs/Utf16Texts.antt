@@ -1,24 +1,31 @@
 -- Texts in UTF-16 as the bytes of their UTF-8.
-use Rattle.std.proofs.Common.{◌≡◌, ◌≢◌, ℕ, zero, suc, ◌+◌, ◌-◌, ◌*◌, ◌/◌, ◌%◌, ◌<◌, ◌≤◌, Bool, true, false, true≢false, cond, ltb, ◌&&◌, ◌⊎◌, inl, inr, List, [], ◌∷◌, ◌++◌, length, take, drop, slice_index, refl, ap, sym, subst, ◌∙◌, arith, append_assoc}
+use Rattle.std.proofs.Common.{◌≡◌, ◌≢◌, ℕ, zero, suc, ◌+◌, ◌-◌, ◌*◌, ◌/◌, ◌%◌, ◌<◌, ◌≤◌, Bool, true, false, true≢false, ◌||◌, cond, ltb, min, ◌&&◌, ◌⊎◌, inl, inr, List, [], ◌∷◌, ◌++◌, length, take, drop, slice_index, refl, ap, sym, subst, ◌∙◌, arith, append_assoc}
 use Rattle.std.specs.Prelude.{Some, None, Option, Ok, Err, not, ◌==◌}
 use Rattle.std.specs.Char.{len_utf8, IsScalar}
 use Rattle.std.specs.Char.Escape.{encode_utf16}
 use Rattle.std.specs.Char.Utf16.{is_high_surrogate, is_low_surrogate, lone_unit_char, surrogate_pair_char, utf16_chars, utf16_lossy_chars}
 use Rattle.std.specs.Option.{unwrap_or}
-use Rattle.std.specs.List.{flat_map, list_all, position_or_len}
-use Rattle.std.specs.Str.{chars, encode_utf8_all, is_utf8}
-use Rattle.std.proofs.lemmas.Bool.{and_from, and_parts, ltb-true, ne_eqb}
+use Rattle.std.specs.List.{All, flat_map, list_all, list_any, position_or_len}
+use Rattle.std.specs.Str.{IsAscii, chars, encode_utf8_all, is_utf8}
+use Rattle.std.proofs.Math.ListN.{drop_of_length-le}
+use Rattle.std.proofs.Math.Seq.{drop-append_seam, drop-cons, take-length}
+use Rattle.std.proofs.Math.Utf8.{low_scalar}
+use Rattle.std.proofs.lemmas.Bool.{and_from, cases_lt, ltb-true, ne_eqb, or_parts}
 use Rattle.std.proofs.lemmas.Bool.Decides.{nat_tests}
 use Rattle.std.proofs.lemmas.List.{append-nil, flat_map_more, length-append, length-drop, take-append-drop}
-use Rattle.std.proofs.lemmas.Str.{chars-nil, encodes-append, chars_past_char, encode_same, IsCharBoundary-from_drop, IsUtf8-append, IsUtf8-encode, IsUtf8-from_is_utf8, IsUtf8-nil, IsUtf8-past_char, is_utf8-from_IsUtf8, length-encode, len_utf8_bounds}
+use Rattle.std.proofs.lemmas.List.Elements.{All-cons, All-nil}
+use Rattle.std.proofs.lemmas.List.Folds.{list_any-append}
+use Rattle.std.proofs.lemmas.Str.{chars-nil, chars-IsAscii, encode_ascii, encodes-IsAscii, IsUtf8-from_ascii, encodes-append, chars_past_char, encode_same, IsCharBoundary-from_drop, IsUtf8-append, IsUtf8-encode, IsUtf8-from_is_utf8, IsUtf8-nil, IsUtf8-past_char, is_utf8-from_IsUtf8, length-encode, len_utf8_bounds}
 use borrow.Author.Tests.{eq-eqb}
 use lib.Utf8.{encode, encodes}
+use Rattle.uefi_text.proofs.SunkUnits.{encoded_ascii}
 use Rattle.uefi_text.proofs.Surrogates.{lone_first, pair_first}
 use Rattle.uefi_text.specs.UnitBytes.{unit_bytes}
 use Rattle.uefi_text.proofs.UnitBytes.{unit_bytes-append}
-use Rattle.uefi_node_reader.specs.NamedFiles.{ends_name, is_name_char}
+use Rattle.uefi_text.proofs.Utf8Bytes.{encode_utf8-four, encode_utf8-three, encode_utf8-two}
+use Rattle.uefi_node_reader.specs.NamedFiles.{ends_name, is_after_node, is_name_char, name_bytes}
 use Rattle.uefi_node_reader.specs.declared.utf16_texts.Utf16Text.{Utf16Text}
-use Rattle.uefi_node_reader.specs.Utf16Texts.{chars_before, last_bytes, nul_padded, paired_chars, paired_len, six_bits, utf16_read}
+use Rattle.uefi_node_reader.specs.Utf16Texts.{utf8_from, chars_before, nul_padded, paired_chars, paired_len, utf16_read}
 
 -- whether two units are the surrogates of one character
 abbrev is_pair : ℕ → ℕ → Bool
@@ -80,84 +87,106 @@ chars_pair : (u v : ℕ) (us : List ℕ) → is_pair u v ≡ true → utf16_char
 unfolding utf16_chars
 chars_pair u v us h = rw h refl
 
--- the first k units encode the character c
-abbrev pub Encodes : List ℕ → ℕ → ℕ → Type 0
-Encodes units c k = (paired_chars units ≡ c ∷ paired_chars (drop k units)) × (units ≡ encode_utf16 c ++ drop k units)
+-- units begin with those of the character c
+abbrev pub Encodes : List ℕ → ℕ → List ℕ → Type 0
+Encodes units c rest = (paired_chars units ≡ c ∷ paired_chars rest) × (units ≡ encode_utf16 c ++ rest)
 
-pair_encodes : (u v : ℕ) (us : List ℕ) → is_pair u v ≡ true → Encodes (u ∷ v ∷ us) (surrogate_pair_char u v) 2
-pair_encodes u v us h =
-    let large : ltb (surrogate_pair_char u v) 0x1_0000 ≡ false = grind (arith, nat_tests) in
-    let high : 0xD800 + (surrogate_pair_char u v - 0x1_0000) / 0x400 ≡ u = grind (arith, nat_tests, h) in
-    let low : 0xDC00 + (surrogate_pair_char u v - 0x1_0000) % 0x400 ≡ v = grind (arith, nat_tests, h) in (
-      ap chars_before (chars_pair u v us h),
-      rw (large, high, low) refl,
+pub one_encodes : (u : ℕ) (us : List ℕ) → IsScalar u → u < 0x1_0000 → Encodes (u ∷ us) u us
+one_encodes u us scalar small =
+    let alone : is_pair u (slice_index us 0) ≡ false = grind (arith, nat_tests, scalar) in
+    let is : lone_unit_char u ≡ Some u = grind (arith, nat_tests, scalar) in
+    let units : encode_utf16 u ≡ u ∷ [] = grind (arith, nat_tests, small) in (
+      ap chars_before (chars_lone u us alone ∙ ap (λ (o : Option ℕ). o ∷ utf16_chars us) is),
+      ap (λ (l : List ℕ). l ++ us) (sym units),
     )
 
--- the first of units, by what is said of the first two
-module _ (u c k : ℕ) (us : List ℕ) (small : u < 0x1_0000)
-    (pair : is_pair u (slice_index us 0) ≡ true → (c ≡ surrogate_pair_char u (slice_index us 0)) × (k ≡ 2))
-    (one : is_pair u (slice_index us 0) ≡ false → (c ≡ unwrap_or (lone_unit_char u) 0xFFFD) × (k ≡ 1)) where
-  with_second : (vs : List ℕ) → is_pair u (slice_index vs 0) ≡ true → c ≡ surrogate_pair_char u (slice_index vs 0) → Encodes (u ∷ vs) c 2
-  with_second [] h e = absurd (true≢false (sym (and_parts (is_high_surrogate u) (is_low_surrogate 0) h).1))
-  with_second (v ∷ vs) h e = subst (λ (d : ℕ). Encodes (u ∷ v ∷ vs) d 2) (sym e) (pair_encodes u v vs h)
-
-  alone : (c ≡ 0xFFFD → u ≡ 0xFFFD) → is_pair u (slice_index us 0) ≡ false → c ≡ unwrap_or (lone_unit_char u) 0xFFFD → Encodes (u ∷ us) c 1
-  alone plain h e =
-      let is_one : lone_unit_char u ≡ Some c = grind (arith, nat_tests, e, plain) in
-      let is_small : encode_utf16 c ≡ u ∷ [] = grind (arith, nat_tests, e, plain, small) in (
-        ap chars_before (chars_lone u us h ∙ ap (λ (o : Option ℕ). o ∷ utf16_chars us) is_one),
-        ap (λ (l : List ℕ). l ++ us) (sym is_small),
-      )
-
-  first_encodes : (c ≡ 0xFFFD → u ≡ 0xFFFD) → Encodes (u ∷ us) c k
-  first_encodes plain = by (is_pair u (slice_index us 0)) refl
-    where
-      by : (b : Bool) → is_pair u (slice_index us 0) ≡ b → Encodes (u ∷ us) c k
-      by true h = let p = pair h in subst (λ (n : ℕ). Encodes (u ∷ us) c n) (sym p.1) (with_second us h p.0)
-      by false h = let p = one h in subst (λ (n : ℕ). Encodes (u ∷ us) c n) (sym p.1) (alone plain h p.0)
-
-  first_unpaired : c ≡ 0xFFFD → u ≢ 0xFFFD → paired_chars (u ∷ us) ≡ []
-  first_unpaired is other = by (is_pair u (slice_index us 0)) refl
-    where
-      by : (b : Bool) → is_pair u (slice_index us 0) ≡ b → paired_chars (u ∷ us) ≡ []
-      by true h = let large = (pair h).0 in absurd (omega (arith, large, is))
-      by false h =
-          let e = (one h).0 in
-          let none : lone_unit_char u ≡ None = grind (arith, nat_tests, e, is, other) in
-          ap chars_before (chars_lone u us h ∙ ap (λ (o : Option ℕ). o ∷ utf16_chars us) none)
-
--- what is said of the first two units
-abbrev pub FirstSaid : ℕ → ℕ → ℕ → ℕ → Type 0
-FirstSaid u v c k = (is_pair u v ≡ true → (c ≡ surrogate_pair_char u v) × (k ≡ 2))
+-- what is said of two units
+abbrev pub PairSaid : ℕ → ℕ → ℕ → ℕ → Type 0
+PairSaid u v c k = (is_pair u v ≡ true → (c ≡ surrogate_pair_char u v) × (k ≡ 2))
     × (is_pair u v ≡ false → (c ≡ unwrap_or (lone_unit_char u) 0xFFFD) × (k ≡ 1))
 
-pub first_said : (u v c k : ℕ)
+pub pair_said : (u v c k : ℕ)
     → ((units : List ℕ) (place : ℕ) → place < length units → slice_index units place ≡ u → slice_index units (place + 1) ≡ v
     → utf16_lossy_chars (drop place units) ≡ c ∷ utf16_lossy_chars (drop (place + k) units))
     → 0 < k → ((units : List ℕ) (place : ℕ) → place < length units → slice_index units (place + 1) ≡ v → place + k ≤ length units)
-    → FirstSaid u v c k
-first_said u v c k first some within = (is_of_pair u v c k first some within, is_of_one u v c k first some within)
+    → PairSaid u v c k
+pair_said u v c k first some within = (is_of_pair u v c k first some within, is_of_one u v c k first some within)
 
-pub units_encode : (units : List ℕ) (c k : ℕ) → 0 < length units → slice_index units 0 < 0x1_0000
-    → FirstSaid (slice_index units 0) (slice_index units 1) c k → (c ≡ 0xFFFD → slice_index units 0 ≡ 0xFFFD) → Encodes units c k
-units_encode [] c k some small said plain = absurd (omega (arith, some))
-units_encode (u ∷ us) c k some small said plain = first_encodes u c k us small said.0 said.1 plain
+pub two_encode : (u v c k : ℕ) (us : List ℕ) → PairSaid u v c k → k ≢ 1 → Encodes (u ∷ v ∷ us) c us
+two_encode u v c k us said other = by (is_pair u v) refl
+  where
+    pair : is_pair u v ≡ true → Encodes (u ∷ v ∷ us) (surrogate_pair_char u v) us
+    pair h =
+        let large : ltb (surrogate_pair_char u v) 0x1_0000 ≡ false = grind (arith, nat_tests) in
+        let high : 0xD800 + (surrogate_pair_char u v - 0x1_0000) / 0x400 ≡ u = grind (arith, nat_tests, h) in
+        let low : 0xDC00 + (surrogate_pair_char u v - 0x1_0000) % 0x400 ≡ v = grind (arith, nat_tests, h) in (
+          ap chars_before (chars_pair u v us h),
+          rw (large, high, low) refl,
+        )
 
-pub units_unpaired : (units : List ℕ) (c k : ℕ) → 0 < length units → slice_index units 0 < 0x1_0000
-    → FirstSaid (slice_index units 0) (slice_index units 1) c k → c ≡ 0xFFFD → slice_index units 0 ≢ 0xFFFD → paired_chars units ≡ []
-units_unpaired [] c k some small said is other = absurd (omega (arith, some))
-units_unpaired (u ∷ us) c k some small said is other = first_unpaired u c k us small said.0 said.1 is other
+    by : (b : Bool) → is_pair u v ≡ b → Encodes (u ∷ v ∷ us) c us
+    by true h = subst (λ (d : ℕ). Encodes (u ∷ v ∷ us) d us) (sym (said.0 h).0) (pair h)
+    by false h = absurd (other (said.1 h).1)
 
-pub units_none : (units : List ℕ) → length units ≡ 0 → paired_chars units ≡ []
+-- a surrogate without a partner
+surrogate_lone : (u : ℕ) → (IsScalar u → ⊥) → u < 0x1_0000 → lone_unit_char u ≡ None
+surrogate_lone u other small = grind (arith, nat_tests, other, small)
+
+pub last_unpaired : (u : ℕ) → (IsScalar u → ⊥) → u < 0x1_0000 → paired_chars (u ∷ []) ≡ []
+unfolding utf16_chars
+last_unpaired u other small = ap chars_before (ap (λ (o : Option ℕ). o ∷ []) (surrogate_lone u other small))
+
+pub one_unpaired : (u v c k : ℕ) (us : List ℕ) → PairSaid u v c k → k ≡ 1 → (IsScalar u → ⊥) → u < 0x1_0000 → paired_chars (u ∷ v ∷ us) ≡ []
+one_unpaired u v c k us said one other small = by (is_pair u v) refl
+  where
+    by : (b : Bool) → is_pair u v ≡ b → paired_chars (u ∷ v ∷ us) ≡ []
+    by true h = absurd (omega (arith, (said.0 h).1, one))
+    by false h = ap chars_before (chars_lone u (v ∷ us) h ∙ ap (λ (o : Option ℕ). o ∷ utf16_chars (v ∷ us)) (surrogate_lone u other small))
+
+-- the rest of units, as a pattern gives it
+abbrev pub tail_of : List ℕ → List ℕ
+tail_of units = take (length units - 1) (drop 1 units)
+
+tail_is : (u : ℕ) (us : List ℕ) → tail_of (u ∷ us) ≡ us
+tail_is u us = let count : suc (length us) - 1 ≡ length us = omega arith in ap (λ (n : ℕ). take n us) count ∙ take-length us
+
+pub units_none : (units : List ℕ) → length units < 1 → paired_chars units ≡ []
 unfolding utf16_chars
 units_none [] none = refl
 units_none (u ∷ us) none = absurd (omega (arith, none))
 
--- bytes of a character
-pub last_more : (n c : ℕ) → 0 < n → last_bytes n c ≡ (128 + six_bits (n - 1) c) ∷ last_bytes (n - 1) c
-last_more zero c some = absurd (omega (arith, some))
-last_more (suc n) c some = let same : n ≡ suc n - 1 = omega arith in ap (λ (m : ℕ). (128 + six_bits m c) ∷ last_bytes m c) same
+-- units whose first one is a character, or a surrogate
+module _ (code : ℕ) where
+  pub units_one : (units : List ℕ) → 1 ≤ length units → code ≡ slice_index units 0 → code < 0x1_0000 → IsScalar code → Encodes units code (tail_of units)
+  units_one [] some is small scalar = absurd (omega (arith, some))
+  units_one (u ∷ us) some is small scalar =
+      subst (λ (d : ℕ). Encodes (u ∷ us) d (tail_of (u ∷ us))) (sym is) (subst (Encodes (u ∷ us) u) (sym (tail_is u us))
+      (one_encodes u us (subst IsScalar is scalar) (omega (arith, small, is))))
 
+  pub units_last : (units : List ℕ) → 1 ≤ length units → length (tail_of units) < 1 → code ≡ slice_index units 0 → code < 0x1_0000 → (IsScalar code → ⊥)
+      → paired_chars units ≡ []
+  units_last [] some last is small other = absurd (omega (arith, some))
+  units_last (u ∷ []) some last is small other = last_unpaired u (λ s. other (subst IsScalar (sym is) s)) (omega (arith, small, is))
+  units_last (u ∷ v ∷ us) some last is small other = absurd (omega (arith, last, ap length (tail_is u (v ∷ us))))
+
+  pub units_unpaired : (units : List ℕ) (c k : ℕ) → 1 ≤ length units → 1 ≤ length (tail_of units) → code ≡ slice_index units 0 → code < 0x1_0000
+      → (IsScalar code → ⊥) → PairSaid (slice_index units 0) (slice_index (tail_of units) 0) c k → k ≡ 1 → paired_chars units ≡ []
+  units_unpaired [] c k some two is small other said one = absurd (omega (arith, some))
+  units_unpaired (u ∷ []) c k some two is small other said one = absurd (omega (arith, two, ap length (tail_is u [])))
+  units_unpaired (u ∷ v ∷ us) c k some two is small other said one =
+      one_unpaired u v c k us (subst (λ (l : List ℕ). PairSaid u (slice_index l 0) c k) (tail_is u (v ∷ us)) said) one
+      (λ s. other (subst IsScalar (sym is) s)) (omega (arith, small, is))
+
+pub units_two : (units : List ℕ) (c k : ℕ) → 1 ≤ length units → 1 ≤ length (tail_of units) → PairSaid (slice_index units 0) (slice_index (tail_of units) 0) c k
+    → k ≢ 1 → Encodes units c (tail_of (tail_of units))
+units_two [] c k some two said other = absurd (omega (arith, some))
+units_two (u ∷ []) c k some two said other = absurd (omega (arith, two, ap length (tail_is u [])))
+units_two (u ∷ v ∷ us) c k some two said other =
+    let rest : tail_of (tail_of (u ∷ v ∷ us)) ≡ us = ap tail_of (tail_is u (v ∷ us)) ∙ tail_is v us in
+    subst (Encodes (u ∷ v ∷ us) c) (sym rest)
+    (two_encode u v c k us (subst (λ (l : List ℕ). PairSaid u (slice_index l 0) c k) (tail_is u (v ∷ us)) said) other)
+
+-- bytes before the NULs that stand for missing ones
 pub padded_more : (n b : ℕ) (bs : List ℕ) → 0 < n → nul_padded n (b ∷ bs) ≡ b ∷ nul_padded (n - 1) bs
 padded_more zero b bs some = absurd (omega (arith, some))
 padded_more (suc n) b bs some = let same : n ≡ suc n - 1 = omega arith in ap (λ (m : ℕ). b ∷ nul_padded m bs) same
@@ -202,6 +231,38 @@ pub no_lead : (b : ℕ) (bs : List ℕ) → 128 ≤ b → b < 192 → is_utf8 (b
 no_lead b bs low high e =
     let cut = IsCharBoundary-from_drop (0 ∷ b ∷ bs) 1 (omega arith) (IsUtf8-from_is_utf8 (b ∷ bs) e) in
     omega (arith, cut.1 (omega arith) low, high)
+
+-- a byte that follows another in a character
+abbrev IsInside : ℕ → Type 0
+IsInside b = (128 ≤ b) × (b < 192)
+
+later_at : (a : ℕ) (bs : List ℕ) (p : ℕ) → All IsInside bs → 0 < p → p < length (a ∷ bs) → IsInside (slice_index (a ∷ bs) p)
+later_at a bs zero all some within = absurd (omega (arith, some))
+later_at a bs (suc p) all some within = all p 0 (omega (arith, within))
+
+later_in : (c p a : ℕ) (bs : List ℕ) → encode c ≡ a ∷ bs → All IsInside bs → 0 < p → p < length (encode c) → IsInside (slice_index (encode c) p)
+later_in c p a bs e all some within =
+    subst (λ (l : List ℕ). IsInside (slice_index l p)) (sym e) (later_at a bs p all some (omega (arith, within, ap length e)))
+
+later_byte : (c p : ℕ) → 0 < p → p < length (encode c) → IsInside (slice_index (encode c) p)
+later_byte c p some within =
+    let one = All-cons IsInside (128 + c % 64) [] (omega arith, omega arith) (All-nil IsInside) in
+    let two = All-cons IsInside (128 + c / 64 % 64) ((128 + c % 64) ∷ []) (omega arith, omega arith) one in
+    let three = All-cons IsInside (128 + c / 4096 % 64) ((128 + c / 64 % 64) ∷ (128 + c % 64) ∷ []) (omega arith, omega arith) two in
+    elim (cases_lt c 128) [
+      | inl low ↦ later_in c p c [] (encode_ascii c low) (All-nil IsInside) some within
+      | inr high ↦
+          elim (cases_lt c 2048) [
+            | inl low ↦ later_in c p (192 + c / 64) ((128 + c % 64) ∷ []) (encode_utf8-two c high low) one some within
+            | inr higher ↦
+                elim (cases_lt c 65536) [
+                  | inl low ↦ later_in c p (224 + c / 4096) ((128 + c / 64 % 64) ∷ (128 + c % 64) ∷ []) (encode_utf8-three c higher low) two some within
+                  | inr highest ↦
+                      later_in c p (240 + c / 262144) ((128 + c / 4096 % 64) ∷ (128 + c / 64 % 64) ∷ (128 + c % 64) ∷ []) (encode_utf8-four c highest) three some
+                      within
+                ]
+          ]
+    ]
 
 -- neither does a part of a character
 pub no_part : (n c : ℕ) → n < length (encode c) → is_utf8 (take n (encode c)) ≡ true → take n (encode c) ≡ []
@@ -261,9 +322,20 @@ not_named bs none some = by (is_utf8 bs) refl
     by true e = absurd (omega (arith, some, ap length (none e)))
     by false e = ap (λ (b : Bool). b && list_all is_name_char (chars bs)) e
 
+pub from_start : (cs : List ℕ) → utf8_from 0 cs ≡ encode_utf8_all cs
+from_start [] = refl
+from_start (c ∷ cs) = let none : min 0 (len_utf8 c - 1) ≡ 0 = omega arith in ap (λ (n : ℕ). drop n (encode c) ++ encode_utf8_all cs) none
+
+-- the bytes at a place of units
+abbrev pub bytes_at : List ℕ → ℕ → ℕ → List ℕ
+bytes_at units place n = nul_padded n (utf8_from (place % 4) (paired_chars (drop (place / 4) units)))
+
 -- the bytes of a text
 abbrev pub bytes_of : Utf16Text → List ℕ
-bytes_of text = nul_padded (text.end - 1) (last_bytes text.left text.code ++ encode_utf8_all (paired_chars text.units.now))
+bytes_of text = bytes_at text.units.now.now text.place (text.end - 1)
+
+pub length_of : (text : Utf16Text) → length (bytes_of text) ≡ text.end - 1
+length_of text = length-padded (text.end - 1) _
 
 -- bytes in UTF-8 as the bytes of their UTF-16
 abbrev pub utf16_bytes : List ℕ → List ℕ
@@ -277,41 +349,150 @@ pub record CharsRead (units rest : List ℕ) (end : ℕ) : Type 0 where
   pub size : end ≡ length (encode_utf8_all read) + 1
   pub few : length (encode_utf8_all read) ≤ 3 * length (flat_map encode_utf16 read)
 
--- what is said of the first character
+-- the part of units that a part of them ends with
+pub suffix_at : (units front rest : List ℕ) (place : ℕ) → drop place units ≡ front ++ rest → drop (length units - length rest) units ≡ rest
+suffix_at units front rest place e =
+    let all : (take place units ++ front) ++ rest ≡ units =
+    append_assoc (take place units) front rest ∙ ap (λ (l : List ℕ). take place units ++ l) (sym e) ∙ take-append-drop place units in
+    let count : length units - length rest ≡ length (take place units ++ front) =
+    omega (arith, ap length all, length-append (take place units ++ front) rest) in
+    ap (λ (n : ℕ). drop n units) count ∙ ap (drop (length (take place units ++ front))) (sym all)
+    ∙ drop-append_seam (take place units ++ front) rest
 
-six_small : (l c : ℕ) → six_bits l c < 64
-six_small zero c = omega arith
-six_small (suc zero) c = omega arith
-six_small (suc (suc l)) c = omega arith
+-- places of whole characters
+pub whole_place : (units rest : List ℕ) (m n : ℕ) → drop m units ≡ rest → bytes_at units (4 * m) n ≡ nul_padded n (encode_utf8_all (paired_chars rest))
+whole_place units rest m n e =
+    let none : 4 * m % 4 ≡ 0 = omega arith in
+    let index : 4 * m / 4 ≡ m = omega arith in
+    (λ i. nul_padded n (utf8_from (none i) (paired_chars (drop (index i) units))))
+    ∙ ap (nul_padded n) (from_start (paired_chars (drop m units)))
+    ∙ ap (λ (l : List ℕ). nul_padded n (encode_utf8_all (paired_chars l))) e
 
-pub later_first : (n l c : ℕ) (bs : List ℕ) → 0 < l → is_utf8 (nul_padded n (last_bytes l c ++ bs)) ≡ true
-    → nul_padded n (last_bytes l c ++ bs) ≡ []
-later_first zero l c bs some e = refl
-later_first (suc n) zero c bs some e = absurd (omega (arith, some))
-later_first (suc n) (suc l) c bs some e =
-    absurd (no_lead (128 + six_bits l c) (nul_padded n (last_bytes l c ++ bs)) (omega arith) (omega (arith, six_small l c)) e)
+-- a NUL stands for a character that is missing
+pub none_from : (cs : List ℕ) (n passed : ℕ) → cs ≡ [] → nul_padded n (utf8_from passed cs) ≡ nul_padded n (utf8_from passed (0 ∷ cs))
+none_from [] n passed none =
+    let whole : min passed 0 ≡ 0 = omega arith in
+    padded_nul n ∙ (λ i. nul_padded n (drop (sym whole i) (sym (encode_ascii 0 (omega arith)) i) ++ []))
+none_from (c ∷ cs) n passed none = absurd (omega (arith, ap length none))
 
--- a text with a character first
-abbrev pub BeginsWith : Utf16Text → ℕ → List ℕ → Type 0
-BeginsWith text c rest = bytes_of text ≡ encode c ++ rest
+-- what is said of the first character of a part of units, and of the units after it
+module _ (units part : List ℕ) (place c : ℕ) (after : List ℕ) (at : part ≡ drop (place / 4) units)
+    (chars : (n passed : ℕ) → nul_padded n (utf8_from passed (paired_chars part)) ≡ nul_padded n (utf8_from passed (c ∷ paired_chars after)))
+    (within : (front : List ℕ) × (part ≡ front ++ after)) where
+  is : (n passed : ℕ) → nul_padded n (utf8_from passed (paired_chars (drop (place / 4) units))) ≡ nul_padded n (utf8_from passed (c ∷ paired_chars after))
+  is n passed = ap (λ (l : List ℕ). nul_padded n (utf8_from passed (paired_chars l))) (sym at) ∙ chars n passed
 
-module _ (text : Utf16Text) (c : ℕ) (rest : List ℕ) (none : text.left ≡ 0)
-    (front : (n : ℕ) → nul_padded n (encode_utf8_all (paired_chars text.units.now)) ≡ nul_padded n (encode c ++ rest)) where
-  pub bytes_are : bytes_of text ≡ nul_padded (text.end - 1) (encode c ++ rest)
-  bytes_are =
-      ap (λ (l : ℕ). nul_padded (text.end - 1) (last_bytes l text.code ++ encode_utf8_all (paired_chars text.units.now))) none ∙ front (text.end - 1)
+  abbrev left : List ℕ
+  left = encode_utf8_all (paired_chars after)
 
-  pub begins_with : (len : ℕ) → len ≡ len_utf8 c → len < text.end → BeginsWith text c (nul_padded (text.end - len - 1) rest)
-  begins_with len is more =
-      let left : text.end - 1 - length (encode c) ≡ text.end - len - 1 = omega (arith, length-encode c, is) in
-      bytes_are ∙ padded-append (text.end - 1) (encode c) rest (omega (arith, length-encode c, is, more))
-      ∙ ap (λ (n : ℕ). encode c ++ nul_padded n rest) left
+  -- the place after the character
+  abbrev next : ℕ
+  next = 4 * (length units - length after)
 
-  pub begins_none : text.end ≤ len_utf8 c → is_utf8 (bytes_of text) ≡ true → bytes_of text ≡ []
-  begins_none less e =
-      let few : text.end - 1 < length (encode c) = omega (arith, length-encode c, less, len_utf8_bounds c) in
-      let part : bytes_of text ≡ take (text.end - 1) (encode c) = bytes_are ∙ padded-part (text.end - 1) (encode c) rest (omega (arith, few)) in
-      part ∙ no_part (text.end - 1) c few (ap is_utf8 (sym part) ∙ e)
+  at_next : (n : ℕ) → bytes_at units next n ≡ nul_padded n left
+  at_next n = whole_place units after (length units - length after) n (suffix_at units within.0 after (place / 4) (sym at ∙ within.1))
+
+  module _ (p : ℕ) (passed : p ≡ min (place % 4) (len_utf8 c - 1)) where
+    abbrev byte : ℕ
+    byte = slice_index (encode c) p
+
+    inside : p < length (encode c)
+    inside = omega (arith, passed, length-encode c, len_utf8_bounds c)
+
+    here : (n : ℕ) → 0 < n → bytes_at units place n ≡ byte ∷ nul_padded (n - 1) (drop (p + 1) (encode c) ++ left)
+    here n some =
+        let one : drop p (encode c) ≡ byte ∷ drop (p + 1) (encode c) =
+        let after : suc p ≡ p + 1 = omega arith in drop-cons (encode c) p 0 inside ∙ ap (λ (k : ℕ). byte ∷ drop k (encode c)) after in
+        is n (place % 4) ∙ ap (λ (k : ℕ). nul_padded n (drop k (encode c) ++ left)) (sym passed)
+        ∙ ap (λ (l : List ℕ). nul_padded n (l ++ left)) one
+        ∙ padded_more n byte (drop (p + 1) (encode c) ++ left) some
+
+    pub byte_inside : (n : ℕ) → 0 < n → p + 1 < len_utf8 c → bytes_at units place n ≡ byte ∷ bytes_at units (place / 4 * 4 + p + 1) (n - 1)
+    byte_inside n some less =
+        let rest : (place / 4 * 4 + p + 1) % 4 ≡ p + 1 = omega (arith, less, len_utf8_bounds c) in
+        let index : (place / 4 * 4 + p + 1) / 4 ≡ place / 4 = omega (arith, less, len_utf8_bounds c) in
+        let same : min (p + 1) (len_utf8 c - 1) ≡ p + 1 = omega (arith, less) in
+        here n some ∙ ap (λ (l : List ℕ). byte ∷ l) (sym (
+        (λ i. nul_padded (n - 1) (utf8_from (rest i) (paired_chars (drop (index i) units)))) ∙ is (n - 1) (p + 1)
+        ∙ ap (λ (k : ℕ). nul_padded (n - 1) (drop k (encode c) ++ left)) same
+        ))
+
+    pub byte_last : (n : ℕ) → 0 < n → len_utf8 c ≤ p + 1 → bytes_at units place n ≡ byte ∷ bytes_at units next (n - 1)
+    byte_last n some most =
+        let none : drop (p + 1) (encode c) ≡ [] = drop_of_length-le (encode c) (omega (arith, most, length-encode c)) in
+        here n some ∙ ap (λ (l : List ℕ). byte ∷ nul_padded (n - 1) (l ++ left)) none ∙ ap (λ (l : List ℕ). byte ∷ l) (sym (at_next (n - 1)))
+
+  module _ (whole : min (place % 4) (len_utf8 c - 1) ≡ 0) where
+    bytes_are : (n : ℕ) → bytes_at units place n ≡ nul_padded n (encode c ++ left)
+    bytes_are n = is n (place % 4) ∙ ap (λ (k : ℕ). nul_padded n (drop k (encode c) ++ left)) whole
+
+    pub begins_with : (end len : ℕ) → len ≡ len_utf8 c → len < end → bytes_at units place (end - 1) ≡ encode c ++ bytes_at units next (end - len - 1)
+    begins_with end len size more =
+        let rest : end - 1 - length (encode c) ≡ end - len - 1 = omega (arith, length-encode c, size) in
+        bytes_are (end - 1) ∙ padded-append (end - 1) (encode c) left (omega (arith, length-encode c, size, more))
+        ∙ ap (λ (n : ℕ). encode c ++ nul_padded n left) rest ∙ ap (λ (l : List ℕ). encode c ++ l) (sym (at_next (end - len - 1)))
+
+    pub begins_none : (end : ℕ) → end ≤ len_utf8 c → is_utf8 (bytes_at units place (end - 1)) ≡ true → bytes_at units place (end - 1) ≡ []
+    begins_none end less e =
+        let few : end - 1 < length (encode c) = omega (arith, length-encode c, less, len_utf8_bounds c) in
+        let part : bytes_at units place (end - 1) ≡ take (end - 1) (encode c) = bytes_are (end - 1) ∙ padded-part (end - 1) (encode c) left (omega (arith, few)) in
+        part ∙ no_part (end - 1) c few (ap is_utf8 (sym part) ∙ e)
+
+  -- a byte that is not the first of its character
+  pub later_first : (n : ℕ) → 0 < min (place % 4) (len_utf8 c - 1) → is_utf8 (bytes_at units place n) ≡ true → bytes_at units place n ≡ []
+  later_first zero some e = refl
+  later_first (suc n) some e =
+      let p = min (place % 4) (len_utf8 c - 1) in
+      let bytes = here p refl (suc n) (omega arith) in
+      let later = later_byte c p (omega (arith, some)) (omega (arith, len_utf8_bounds c, length-encode c)) in
+      absurd (no_lead (slice_index (encode c) p) (nul_padded (suc n - 1) (drop (p + 1) (encode c) ++ left)) later.0 later.1 (ap is_utf8 (sym bytes) ∙ e))
+
+  pub no_next : (end : ℕ) → (end ≤ len_utf8 c) ⊎ (0 < min (place % 4) (len_utf8 c - 1)) → is_utf8 (bytes_at units place (end - 1)) ≡ true
+      → bytes_at units place (end - 1) ≡ []
+  no_next end (inr some) e = later_first (end - 1) some e
+  no_next end (inl less) e = elim (cases_lt 0 (min (place % 4) (len_utf8 c - 1))) [
+    | inl some ↦ later_first (end - 1) some e
+    | inr none ↦ begins_none (omega (arith, none)) end less e
+  ]
+
+-- ASCII
+pub ascii_chars : (xs ys : List ℕ) → IsAscii xs → paired_chars (xs ++ ys) ≡ xs ++ paired_chars ys
+ascii_chars [] ys are = refl
+ascii_chars (x ∷ xs) ys are =
+    let small = are 0 in
+    (one_encodes x (xs ++ ys) (low_scalar x (omega (arith, small))) (omega (arith, small))).0
+    ∙ ap (λ (l : List ℕ). x ∷ l) (ascii_chars xs ys (λ i. are (suc i)))
+
+pub ascii_bytes : (xs ys : List ℕ) → IsAscii xs → encode_utf8_all (paired_chars (xs ++ ys)) ≡ xs ++ encode_utf8_all (paired_chars ys)
+ascii_bytes xs ys are =
+    ap encode_utf8_all (ascii_chars xs ys are) ∙ encodes-append xs (paired_chars ys)
+    ∙ ap (λ (l : List ℕ). l ++ encode_utf8_all (paired_chars ys)) (encodes-IsAscii xs are)
+
+pub ascii_split : (units xs ys : List ℕ) (place n : ℕ) → place % 4 ≡ 0 → drop (place / 4) units ≡ xs ++ ys → IsAscii xs → length xs ≤ n
+    → bytes_at units place n ≡ xs ++ bytes_at units (4 * (length units - length ys)) (n - length xs)
+ascii_split units xs ys place n whole e are some =
+    (λ i. nul_padded n (utf8_from (whole i) (paired_chars (e i)))) ∙ ap (nul_padded n) (from_start (paired_chars (xs ++ ys)) ∙ ascii_bytes xs ys are)
+    ∙ padded-append n xs (encode_utf8_all (paired_chars ys)) some
+    ∙ ap (λ (l : List ℕ). xs ++ l) (sym (whole_place units ys (length units - length ys) (n - length xs) (suffix_at units xs ys (place / 4) e)))
+
+pub ascii_first : (units : List ℕ) (place n : ℕ) → place / 4 < length units → slice_index units (place / 4) < 128 → 0 < n
+    → bytes_at units place n ≡ slice_index units (place / 4) ∷ bytes_at units (4 * (place / 4 + 1)) (n - 1)
+ascii_first units place n within small some =
+    let u = slice_index units (place / 4) in
+    let rest = drop (place / 4 + 1) units in
+    let split : drop (place / 4) units ≡ u ∷ rest =
+    let after : suc (place / 4) ≡ place / 4 + 1 = omega arith in drop-cons units (place / 4) 0 within ∙ ap (λ (k : ℕ). u ∷ drop k units) after in
+    let one : encode u ≡ u ∷ [] = encode_ascii u small in
+    let whole : min (place % 4) (len_utf8 u - 1) ≡ 0 = omega (arith, length-encode u, ap length one) in
+    let chars : paired_chars (u ∷ rest) ≡ u ∷ paired_chars rest = ascii_chars (u ∷ []) rest (λ i. first_small u small i) in
+    (λ i. nul_padded n (utf8_from (place % 4) (paired_chars (split i)))) ∙ ap (λ (cs : List ℕ). nul_padded n (utf8_from (place % 4) cs)) chars
+    ∙ (λ i. nul_padded n (drop (whole i) (one i) ++ encode_utf8_all (paired_chars rest)))
+    ∙ padded_more n u (encode_utf8_all (paired_chars rest)) some
+    ∙ ap (λ (l : List ℕ). u ∷ l) (sym (whole_place units rest (place / 4 + 1) (n - 1) refl))
+  where
+    first_small : (u : ℕ) → u < 128 → IsAscii (u ∷ [])
+    first_small u small zero = small
+    first_small u small (suc i) = omega arith
 
 pub next_shorter : (bs rest : List ℕ) (c : ℕ) → bs ≡ encode c ++ rest → length rest < length bs
 next_shorter bs rest c e = omega (arith, ap length e, length-append (encode c) rest, length-encode c, (len_utf8_bounds c).0)
@@ -325,10 +506,77 @@ utf16_more c bs s e =
 pub utf16_none : (bs : List ℕ) → bs ≡ [] → utf16_bytes bs ≡ []
 utf16_none bs e = ap utf16_bytes e ∙ ap (λ (cs : List ℕ). unit_bytes (flat_map encode_utf16 cs)) chars-nil
 
--- where a name ends, after one more byte of it
-pub place_after : (byte : ℕ) (bs : List ℕ) → ends_name byte ≡ false
-    → position_or_len ends_name (byte ∷ bs) ≡ 1 + position_or_len ends_name bs
-place_after byte bs e = ap (λ (b : Bool). cond (not b) (1 + position_or_len ends_name bs) 0) e
+-- a part of the name that a text begins with, and what is left of the text
+abbrev pub PastName : List ℕ → List ℕ → Type 0
+PastName all rest = (front : List ℕ) × (list_any ends_name front ≡ false) × (all ≡ front ++ rest)
+
+pub none_before : (xs : List ℕ) → list_any ends_name (take (position_or_len ends_name xs) xs) ≡ false
+none_before [] = refl
+none_before (x ∷ xs) = by (ends_name x) refl (none_before xs)
+  where
+    by : (b : Bool) → ends_name x ≡ b → list_any ends_name (take (position_or_len ends_name xs) xs) ≡ false
+        → list_any ends_name (take (position_or_len ends_name (x ∷ xs)) (x ∷ xs)) ≡ false
+    by true e others = ap (λ (b : Bool). list_any ends_name (take (cond (not b) (1 + position_or_len ends_name xs) 0) (x ∷ xs))) e
+    by false e others =
+        let more : 1 + position_or_len ends_name xs ≡ suc (position_or_len ends_name xs) = omega arith in
+        ap (λ (b : Bool). list_any ends_name (take (cond (not b) (1 + position_or_len ends_name xs) 0) (x ∷ xs))) e
+        ∙ ap (λ (n : ℕ). list_any ends_name (take n (x ∷ xs))) more
+        ∙ ap (λ (b : Bool). b || list_any ends_name (take (position_or_len ends_name xs) xs)) e ∙ others
+
+-- no byte of a character ends a name, unless the character does
+none_in_char : (c : ℕ) → ends_name c ≡ false → list_any ends_name (encode c) ≡ false
+none_in_char c other = elim (cases_lt c 128) [
+  | inl low ↦ ap (list_any ends_name) (encode_ascii c low) ∙ grind (arith, nat_tests, other)
+  | inr high ↦
+      elim (cases_lt c 2048) [
+        | inl low ↦ ap (list_any ends_name) (encode_utf8-two c high low) ∙ grind (arith, nat_tests)
+        | inr higher ↦
+            elim (cases_lt c 65536) [
+              | inl low ↦ ap (list_any ends_name) (encode_utf8-three c higher low) ∙ grind (arith, nat_tests)
+              | inr highest ↦ ap (list_any ends_name) (encode_utf8-four c highest) ∙ grind (arith, nat_tests)
+            ]
+      ]
+]
+
+pub name_more : (all rest bytes after : List ℕ) → PastName all rest → rest ≡ bytes ++ after → list_any ends_name bytes ≡ false → PastName all after
+name_more all rest bytes after past e none =
+    (past.0 ++ bytes, list_any-append ends_name past.0 bytes ∙ (λ i. past.1 i || none i), past.2 ∙ ap (λ (l : List ℕ). past.0 ++ l) e ∙ sym (append_assoc past.0 bytes after))
+
+pub name_more_char : (all rest after : List ℕ) (c : ℕ) → PastName all rest → rest ≡ encode c ++ after → ends_name c ≡ false → PastName all after
+name_more_char all rest after c past e other = name_more all rest (encode c) after past e (none_in_char c other)
+
+position_past : (front rest : List ℕ) → list_any ends_name front ≡ false → is_after_node rest ≡ true → position_or_len ends_name (front ++ rest) ≡ length front
+position_past [] [] none ends = refl
+position_past [] (b ∷ bs) none ends = ap (λ (t : Bool). cond (not t) (1 + position_or_len ends_name bs) 0) ends
+position_past (x ∷ xs) rest none ends =
+    let parts = or_parts (ends_name x) (list_any ends_name xs) none in
+    let more : 1 + length xs ≡ suc (length xs) = omega arith in
+    ap (λ (t : Bool). cond (not t) (1 + position_or_len ends_name (xs ++ rest)) 0) parts.0
+    ∙ ap (λ (n : ℕ). 1 + n) (position_past xs rest parts.1 ends) ∙ more
+
+module _ (all rest : List ℕ) (past : PastName all rest) (ends : is_after_node rest ≡ true) where
+  name_length : position_or_len ends_name all ≡ length past.0
+  name_length = ap (position_or_len ends_name) past.2 ∙ position_past past.0 rest past.1 ends
+
+  pub name_front : (n : ℕ) → n ≡ length all - length rest → take n all ≡ name_bytes all
+  name_front n is =
+      let size : n ≡ position_or_len ends_name all = omega (arith, is, name_length, ap length past.2, length-append past.0 rest) in
+      ap (λ (k : ℕ). take k all) size
+
+  pub name_rest : rest ≡ drop (position_or_len ends_name all) all
+  name_rest = sym (ap (λ (k : ℕ). drop k all) name_length ∙ ap (drop (length past.0)) past.2 ∙ drop-append_seam past.0 rest)
+
+-- bytes that are all ASCII
+pub ascii_whole : (all xs ys : List ℕ) → all ≡ xs ++ ys → length xs ≡ length all → all ≡ xs
+ascii_whole all xs [] e size = e ∙ append-nil xs
+ascii_whole all xs (y ∷ ys) e size = absurd (omega (arith, size, ap length e, length-append xs (y ∷ ys)))
+
+pub ascii_named : (xs : List ℕ) → IsAscii xs → list_all is_name_char xs ≡ is_named xs
+ascii_named xs are =
+    sym (ap (λ (b : Bool). b && list_all is_name_char (chars xs)) (is_utf8-from_IsUtf8 xs (IsUtf8-from_ascii xs are)) ∙ ap (list_all is_name_char) (chars-IsAscii xs are))
+
+pub ascii_utf16 : (xs : List ℕ) → IsAscii xs → utf16_bytes xs ≡ unit_bytes xs
+ascii_utf16 xs are = ap unit_bytes (encoded_ascii xs are)
 
 -- units that were read up to what is left
 chars_paired : (c : ℕ) → (length (encode c) ≤ 3 * length (encode_utf16 c))
@@ -380,12 +628,12 @@ module _ (units rest : List ℕ) (end : ℕ) (on : CharsRead units rest end) (ov
       let size = ap (λ (cs : List ℕ). length (flat_map encode_utf16 cs)) all_paired in
       omega (arith, size, ap length on.all, length-append (flat_map encode_utf16 on.read) rest)
 
-  pub read_of_all : length rest ≡ 0 → Ok (nul_padded (end - 1) (encode_utf8_all (paired_chars units))) ≡ utf16_read units
+  pub read_of_all : length rest ≡ 0 → Ok (nul_padded (end - 1) (utf8_from 0 (paired_chars units))) ≡ utf16_read units
   read_of_all none =
       let whole : (paired_len units == length units) ≡ true = eq-eqb _ _ (omega (arith, none, read_len)) in
       let size : end - 1 ≡ length (encode_utf8_all (paired_chars units)) =
       let same = ap (λ (cs : List ℕ). length (encode_utf8_all cs)) all_paired in omega (arith, on.size, same) in
-      ap (λ (n : ℕ). Ok (nul_padded n (encode_utf8_all (paired_chars units)))) size
+      (λ i. Ok (nul_padded (size i) (from_start (paired_chars units) i)))
       ∙ ap (λ (l : List ℕ). Ok l) (padded_all (encode_utf8_all (paired_chars units)))
       ∙ sym (ap (λ (b : Bool). cond b (Ok (encode_utf8_all (paired_chars units))) (Err (paired_len units))) whole)
 
@@ -395,3 +643,15 @@ module _ (units rest : List ℕ) (end : ℕ) (on : CharsRead units rest end) (ov
       let place : length units - length rest ≡ paired_len units = omega (arith, read_len) in
       ap (λ (n : ℕ). Err n) place
       ∙ sym (ap (λ (b : Bool). cond b (Ok (encode_utf8_all (paired_chars units))) (Err (paired_len units))) part)
+
+pub read_of_ascii : (units : List ℕ) → IsAscii units → Ok (nul_padded (length units + 1 - 1) (utf8_from 0 (paired_chars units))) ≡ utf16_read units
+read_of_ascii units are =
+    let chars : paired_chars units ≡ units =
+    ap paired_chars (sym (append-nil units)) ∙ ascii_chars units [] are ∙ ap (λ (l : List ℕ). units ++ l) (units_none [] (omega arith)) ∙ append-nil units in
+    let encoded : flat_map encode_utf16 units ≡ units = ap (flat_map encode_utf16) (sym (chars-IsAscii units are)) ∙ encoded_ascii units are in
+    let bytes : encode_utf8_all (paired_chars units) ≡ units = ap encode_utf8_all chars ∙ encodes-IsAscii units are in
+    let whole : (paired_len units == length units) ≡ true = eq-eqb _ _ (ap (λ (cs : List ℕ). length (flat_map encode_utf16 cs)) chars ∙ ap length encoded) in
+    let size : length units + 1 - 1 ≡ length (encode_utf8_all (paired_chars units)) = omega (arith, ap length bytes) in
+    (λ i. Ok (nul_padded (size i) (from_start (paired_chars units) i)))
+    ∙ ap (λ (l : List ℕ). Ok l) (padded_all (encode_utf8_all (paired_chars units)))
+    ∙ sym (ap (λ (b : Bool). cond b (Ok (encode_utf8_all (paired_chars units))) (Err (paired_len units))) whole)

@@ -24,6 +24,7 @@ pub mod Helps
 pub mod Libefivar
 pub mod Styles
 pub mod Counted
+pub mod DataForms
 pub mod ParsedNodes
 pub mod ParsedNodeViews
 pub mod ReadNodes

@@ -1,5 +1,5 @@
 -- Nodes read from their texts in each style.
-use Rattle.std.specs.Prelude.{◌≡◌, ◌≤◌, ◌<◌, ℕ, Bool, List, length, IfErr, Result, Ok, Some, true, false}
+use Rattle.std.specs.Prelude.{◌≡◌, ◌≤◌, ℕ, Bool, List, length, IfErr, Result, Ok, Some, true, false}
 use Rattle.std.specs.Option.{ok_or}
 use Rattle.uefi_device_nodes.specs.Nodes.{Node}
 use Rattle.uefi_node_reader.specs.LenientNodes.{IsRestOf, ended, fault_at_byte, lenient_read}

@@ -309,9 +309,9 @@ abbrev pub is_sound_item : Item → Bool
 is_sound_item item = (list_all (is_within item.size) item.pieces && are_apart item.pieces)
     && (ends_pieces true item.pieces && (begins_apart item.start && nat_lt 0 item.size))
 
--- whether a form's fixed part has at most 64 bytes, and contains its fixed bytes
+-- whether a form's fixed part has at most 56 bytes, and contains its fixed bytes
 abbrev pub is_filled : Form → Bool
-is_filled form = nat_le form.least 64 && (are_within form.least form.when && are_within form.least form.also)
+is_filled form = nat_le form.least 56 && (are_within form.least form.when && are_within form.least form.also)
 
 -- the number of a list of words
 abbrev pub list_number : Words → ℕ

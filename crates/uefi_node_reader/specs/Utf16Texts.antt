@@ -1,5 +1,5 @@
 -- Texts in UTF-16, as the bytes that they have in UTF-8.
-use Rattle.std.specs.Prelude.{ℕ, zero, suc, ◌+◌, ◌-◌, ◌/◌, ◌%◌, nat_le, ◌==◌, if◌then◌else◌, List, [], ◌∷◌, length, Option, Some, None, Result, Ok, Err}
+use Rattle.std.specs.Prelude.{ℕ, zero, suc, ◌+◌, ◌-◌, min, nat_le, ◌==◌, if◌then◌else◌, List, [], ◌∷◌, ◌++◌, drop, length, encode_utf8, Option, Some, None, Result, Ok, Err}
 use Rattle.std.specs.Char.{len_utf8}
 use Rattle.std.specs.Char.Escape.{encode_utf16}
 use Rattle.std.specs.Char.Utf16.{utf16_chars}
@@ -31,16 +31,10 @@ units_within bytes [] = 0
 units_within bytes (c ∷ cs) = if nat_le (len_utf8 c) bytes
     then length (encode_utf16 c) + units_within (bytes - len_utf8 c) cs else 0
 
--- six bits of a character: the last ones, those before them, or the third
-abbrev pub six_bits : ℕ → ℕ → ℕ
-six_bits zero c = c % 64
-six_bits (suc zero) c = c / 64 % 64
-six_bits (suc (suc n)) c = c / 4096 % 64
-
--- this many last bytes of a character in UTF-8
-abbrev pub last_bytes : ℕ → ℕ → List ℕ
-last_bytes zero c = []
-last_bytes (suc n) c = (128 + six_bits n c) ∷ last_bytes n c
+-- the UTF-8 of characters after the first bytes of the first one; its last byte is left
+abbrev pub utf8_from : ℕ → List ℕ → List ℕ
+utf8_from passed [] = []
+utf8_from passed (c ∷ cs) = drop (min passed (len_utf8 c - 1)) (encode_utf8 c) ++ encode_utf8_all cs
 
 -- this many bytes: those given, and then NULs
 abbrev pub nul_padded : ℕ → List ℕ → List ℕ

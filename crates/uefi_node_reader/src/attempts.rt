@@ -2,12 +2,13 @@
 #![tactic(auto)]
 
 ghost use Rattle.std.specs.List.{list_all};
-ghost use Rattle.std.specs.Prelude.{◌≡◌, ℕ, IsTrue, List, None, Option, Result, map};
+ghost use Rattle.std.specs.Prelude.{◌≡◌, ℕ, Err, IsTrue, List, None, Option, Result, false, map};
 ghost use Rattle.std.specs.Result.{result_map_both};
 ghost use Rattle.uefi_device_nodes.specs.Nodes.{Node};
 ghost use Rattle.uefi_node_table.specs.Rows.{Form, as_form};
 ghost use Rattle.uefi_node_table.specs.Table.{forms};
-ghost use Rattle.uefi_node_reader.specs.LenientCalls.{first_tried};
+ghost use Rattle.uefi_node_reader.specs.LenientCalls.{begins_call_name, first_tried};
+ghost use Rattle.uefi_node_reader.specs.FirstLetters.{all_begin_in};
 ghost use Rattle.uefi_node_reader.specs.OtherForms.{pasted_forms};
 ghost use Rattle.uefi_node_reader.specs.ReadNodes.{node_from_text};
 ghost use Rattle.uefi_node_reader.specs.TableReading.{is_filled, is_sound};
@@ -18,6 +19,7 @@ use crate::named_files::NameText;
 use crate::other_forms::pasted_forms;
 use crate::read_node::ReadNode;
 use crate::stops::further;
+use crate::table_reader::{begins_in_either_case, first_letters};
 use crate::texts::Text;
 use crate::tidied::Tidied;
 use uefi_node_table::rows::Row;
@@ -38,6 +40,11 @@ pub(crate) trait Attempt {
         requires filled { IsTrue (is_filled (as_form row.now)) }
         ensures { result_map_both node_from_text (λ e. e) result
             ≡ tried (T.bytes front) (⟦<Tidied<T> as Text>⟧.bytes call) (as_form row.now) };
+
+    /// A call is no call of a form whose name it does not begin with.
+    fn names_are_needed()
+        ensures { (front call : List ℕ) (form : Form) → begins_call_name form.start call ≡ false
+            → tried front call form ≡ Err None };
 }
 
 /// Reads a call in the first of these forms that fits. If none fits, fails with `furthest`, or with where
@@ -64,6 +71,29 @@ fn try_group<T: NameText, A: Attempt>(
     Err(so_far)
 }
 
+/// Reads a call in one of these forms, as [`try_group`] does. Their texts begin with these letters. Most
+/// groups have no form that begins with the first letter of a call.
+fn try_letters<T: NameText, A: Attempt>(
+    letters: u64,
+    rows: &[Row],
+    furthest: Option<Stop>,
+    front: T,
+    call: Tidied<T>,
+) -> Result<ReadNode<T>, Option<Stop>>
+    requires letters { IsTrue (all_begin_in letters (map as_form rows.now)) }
+    requires sound { IsTrue (list_all is_sound (map as_form rows.now)) }
+    requires filled { IsTrue (list_all is_filled (map as_form rows.now)) }
+    ensures { result_map_both node_from_text (λ e. e) result
+        ≡ first_tried (A.tried (T.bytes front) (⟦<Tidied<T> as Text>⟧.bytes call))
+        (map as_form rows.now) furthest }
+{
+    A::names_are_needed();
+    if !begins_in_either_case(letters, call) {
+        return Err(furthest);
+    }
+    try_group::<T, A>(rows, furthest, front, call)
+}
+
 /// Reads a call in the first form of the table that fits. Fails as [`try_group`] does.
 pub(crate) fn try_table<T: NameText, A: Attempt>(
     front: T,
@@ -74,7 +104,7 @@ pub(crate) fn try_table<T: NameText, A: Attempt>(
 {
     let mut furthest = None;
     for index in 0..GROUPS {
-        match try_group::<T, A>(group(index), furthest, front, call) {
+        match try_letters::<T, A>(first_letters(index), group(index), furthest, front, call) {
             Ok(node) => return Ok(node),
             Err(stop) => furthest = stop,
         }

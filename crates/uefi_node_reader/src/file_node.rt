@@ -80,7 +80,7 @@ impl<T: NameText> FileNode<T> {
 pub(crate) fn after_root<T: NameText>(text: T) -> Option<(FileNode<T>, T)>
     ensures { option_map (λ x. (node_of_file x.0, T.bytes x.1)) result ≡ name_read (92 ∷ T.bytes text) }
 {
-    let (name, rest) = text.split_at(text.name_len());
+    let (name, rest) = text.split_name();
     if !name.has_name_chars() {
         return None;
     }

@@ -99,7 +99,7 @@ pub(crate) fn file<T: NameText>(text: T, name: T) -> Result<(FileNode<T>, T), No
 pub(crate) fn begins_call<T: NameText>(text: T) -> bool
     ensures { result ≡ begins_call (T.bytes text) }
 {
-    let (name, _) = text.split_at(text.name_len());
+    let (name, _) = text.split_name();
     has_mark(b'(', name)
 }
 
@@ -117,7 +117,7 @@ fn is_bare<T: Text>(name: T) -> bool
 pub(crate) fn bare<T: NameText>(is_rooted: bool, text: T) -> Option<(FileNode<T>, T)>
     ensures { option_map (λ x. (node_of_file x.0, T.bytes x.1)) result ≡ bare_read is_rooted (T.bytes text) }
 {
-    let (front, rest) = text.split_at(text.name_len());
+    let (front, rest) = text.split_name();
     let name = past_spaces(front);
     if is_rooted && first_of(name) != b'\\' || !is_bare(name) {
         return None;

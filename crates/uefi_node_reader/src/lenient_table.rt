@@ -156,6 +156,8 @@ impl Attempt for TextlessCall {
             Err(stop) => Err(stop),
         }
     }
+
+    fn names_are_needed() {}
 }
 
 /// Returns the node that was read, if nothing is left of the text.

@@ -1,13 +1,13 @@
 //! Names of files in texts.
 #![tactic(auto)]
 
-ghost use Rattle.std.specs.Prelude.{◌≡◌, ◌+◌, ◌<◌, ◌≤◌, ◌&&◌, ℕ, false, length, slice_index, true};
+ghost use Rattle.std.specs.Prelude.{◌≡◌, ◌+◌, ◌<◌, ◌≤◌, ◌&&◌, ℕ, drop, false, length, slice_index, true};
 ghost use Rattle.std.specs.Char.Escape.{encode_utf16};
 ghost use Rattle.std.specs.List.{flat_map, list_all, position_or_len};
 ghost use Rattle.std.specs.Str.{IsAscii, chars, is_utf8};
 ghost use Rattle.uefi_text.specs.UnitBytes.{unit_bytes};
 ghost use Rattle.uefi_node_reader.specs.Counted.{pushed_bytes};
-ghost use Rattle.uefi_node_reader.specs.NamedFiles.{ends_name, is_after_node, is_name_char, past_spaces};
+ghost use Rattle.uefi_node_reader.specs.NamedFiles.{ends_name, is_after_node, is_name_char, name_bytes, past_spaces};
 
 use crate::name_data::push_text;
 use crate::texts::Text;
@@ -22,10 +22,11 @@ pub(crate) fn ends_name(byte: u8) -> bool
 
 /// A text that may be the name of a file.
 pub trait NameText: Text {
-    /// Returns the number of bytes before the first slash or comma.
-    fn name_len(self) -> usize
-        ensures place { result ≡ position_or_len ends_name (Self.bytes self) }
-        ensures within { result ≤ length (Self.bytes self) };
+    /// Splits the text before its first slash or comma.
+    fn split_name(self) -> (Self, Self)
+        ensures name { Self.bytes result.0 ≡ name_bytes (Self.bytes self) }
+        ensures rest { Self.bytes result.1
+            ≡ drop (position_or_len ends_name (Self.bytes self)) (Self.bytes self) };
 
     /// Returns the number of bytes, and one for an end.
     fn len_with_end(self) -> usize
@@ -125,7 +126,7 @@ pub(crate) fn is_name_char(c: char) -> bool
 
 /// Returns whether an ASCII character may be in a name.
 #[inline(always)]
-fn is_name_byte(byte: u8) -> bool
+pub(crate) fn is_name_byte(byte: u8) -> bool
     requires { byte < 128 }
     ensures { result ≡ is_name_char byte }
 {
@@ -157,8 +158,8 @@ fn has_name_chars(text: &str) -> bool
 
 /// A text of bytes.
 impl NameText for &[u8] {
-    fn name_len(self) -> usize {
-        name_len(self)
+    fn split_name(self) -> (Self, Self) {
+        self.split_at(name_len(self))
     }
 
     fn len_with_end(self) -> usize {
@@ -173,9 +174,7 @@ impl NameText for &[u8] {
     }
 
     fn push_utf16(self, places: &mut [u8], len: usize) -> usize {
-        match str::from_utf8(self) {
-            Ok(text) => push_text(places, len, text),
-            Err(_) => unreachable!(),
-        }
+        // SAFETY: the text is UTF-8, which is the condition of this function, and is proved for each call.
+        push_text(places, len, unsafe { str::from_utf8_unchecked(self) })
     }
 }

@@ -8,6 +8,7 @@ ghost use Rattle.uefi_node_reader.specs.FieldReading.{clear_run};
 ghost use Rattle.uefi_node_reader.specs.ParsedNodeViews.{TextNode, text_node_data, parsed_node};
 ghost use Rattle.uefi_node_table.specs.Rows.{as_piece, is_within};
 ghost use Rattle.uefi_node_reader.specs.TableReading.{added, as_ids, first_of, followed, pieces_put, tail_read};
+ghost use Rattle.uefi_node_reader.specs.DataForms.{coded_tail};
 ghost use Rattle.uefi_node_reader.specs.ParsedNodes.{IsDecoded, all_data, fitting};
 
 use crate::clear_texts::first_of;
@@ -24,13 +25,13 @@ use uefi_node_table::rows::{Piece, Tail};
 pub struct ParsedNode<T: Text> {
     device_type: u8,
     sub_type: u8,
-    head: [u8; 64],
+    head: [u8; 56],
     fixed: u8,
     data_form: DataForm,
     /// The first byte of what closes the data.
     stop: u8,
-    text: T,
     len: u16,
+    text: T,
 }
 
 impl<T: Text> Model for ParsedNode<T> {
@@ -40,10 +41,11 @@ impl<T: Text> Model for ParsedNode<T> {
       device_type = n.device_type;
       sub_type = n.sub_type;
       fixed = n.fixed;
-      content = all_data n.head n.fixed n.data_form (n.stop ∷ []) (T.bytes n.text);
+      content = all_data n.head n.fixed (coded_tail n.data_form) (n.stop ∷ []) (T.bytes n.text);
     } };
 
-    ghost invariant = { λ n. IsDecoded n.head n.fixed n.len n.data_form (n.stop ∷ []) (T.bytes n.text) };
+    ghost invariant = { λ n. IsDecoded n.head n.fixed n.len (coded_tail n.data_form) (n.stop ∷ [])
+        (T.bytes n.text) };
 }
 
 impl<T: Text> ParsedNode<T> {
@@ -52,13 +54,13 @@ impl<T: Text> ParsedNode<T> {
     pub(crate) fn with_tail(
         device_type: u8,
         sub_type: u8,
-        fixed_bytes: [u8; 64],
+        fixed_bytes: [u8; 56],
         fixed: usize,
         tail: Tail,
         close: &'static str,
         text: T,
     ) -> Option<(Self, T)>
-        requires { fixed ≤ 64 }
+        requires { fixed ≤ 56 }
         ensures types { IfSome result (λ x. (x.0.device_type ≡ device_type) × (x.0.sub_type ≡ sub_type)) }
         ensures fixed { IfSome result (λ x. x.0.fixed ≡ fixed) }
         ensures data { option_map (λ x. (text_node_data x.0, T.bytes x.1)) result
@@ -76,7 +78,7 @@ impl<T: Text> ParsedNode<T> {
             sub_type,
             head,
             fixed: fixed as u8,
-            data_form: DataForm::InTail(tail),
+            data_form: DataForm::of(tail),
             stop,
             text,
             len: len as u16,
@@ -115,12 +117,12 @@ impl<T: Text> ParsedNode<T> {
     pub(crate) fn with_uid(
         device_type: u8,
         sub_type: u8,
-        fixed_bytes: [u8; 64],
+        fixed_bytes: [u8; 56],
         fixed: usize,
         close: &'static str,
         text: T,
     ) -> Option<Self>
-        requires { fixed ≤ 64 }
+        requires { fixed ≤ 56 }
         ensures types { IfSome result (λ x. (x.device_type ≡ device_type) × (x.sub_type ≡ sub_type)) }
         ensures data { option_map text_node_data result
             ≡ option_map (λ x. x.0) (fitting (Some (
@@ -140,7 +142,7 @@ impl<T: Text> ParsedNode<T> {
             sub_type,
             head,
             fixed: fixed as u8,
-            data_form: DataForm::InUid,
+            data_form: DataForm::Uid,
             stop,
             text,
             len: len as u16,
@@ -163,11 +165,11 @@ impl<T: Text> ParsedNode<T> {
         usize::from(self.len)
     }
 
-    /// Returns the first bytes of the data, at most 64.
+    /// Returns the first bytes of the data, at most 56.
     pub(crate) fn head(&self) -> &[u8]
-        ensures { result.now ≡ take 64 (parsed_node self.now).content }
+        ensures { result.now ≡ take 56 (parsed_node self.now).content }
     {
-        if self.len < 64 {
+        if self.len < 56 {
             return &self.head[..usize::from(self.len)];
         }
         &self.head
@@ -179,11 +181,11 @@ impl<T: Text> ParsedNode<T> {
         ensures { bytes.new ≡ (parsed_node self.now).content }
     {
         let len = push_all(bytes, 0, &self.head[..usize::from(self.fixed)]);
-        match self.data_form {
-            DataForm::InTail(tail) => {
+        match self.data_form.tail() {
+            Some(tail) => {
                 let _ = push_tail(tail, &[self.stop], bytes, len, self.text);
             }
-            DataForm::InUid => {
+            None => {
                 push_uid(bytes, len, self.stop, self.text);
             }
         }

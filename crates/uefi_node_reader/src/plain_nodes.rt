@@ -73,7 +73,7 @@ fn plain_from<T: Text>(device_type: u8, sub_type: u8, text: T) -> Option<(Parsed
     let (node, rest) = ParsedNode::with_tail(
         device_type,
         sub_type,
-        [0; 64],
+        [0; 56],
         0,
         Tail::Bytes,
         "",

@@ -147,11 +147,11 @@ fn local<T: Text>(text: T) -> Option<(Address, u8, Address)>
 }
 
 /// Returns the data of a connection without ports, and eight zeros.
-fn connection(remote: Address, protocol: u16, origin: u8, local: (Address, u8, Address)) -> [u8; 64]
+fn connection(remote: Address, protocol: u16, origin: u8, local: (Address, u8, Address)) -> [u8; 56]
     ensures { take 56 result
         ≡ connection remote.octets protocol origin (local.0.octets, local.1, local.2.octets) }
 {
-    let mut data = [0; 64];
+    let mut data = [0; 56];
     let (local, prefix_length, gateway) = local;
     let len = push_all(&mut data, 0, &local.octets);
     let len = push_all(&mut data, len, &remote.octets);
@@ -166,7 +166,7 @@ fn connection(remote: Address, protocol: u16, origin: u8, local: (Address, u8, A
 }
 
 /// Reads the end of a call after the remote address. Returns the data of the connection, and eight zeros.
-fn settings<T: Text>(remote: Address, text: T) -> Option<[u8; 64]>
+fn settings<T: Text>(remote: Address, text: T) -> Option<[u8; 56]>
     ensures { option_map (λ x. take 56 x) result ≡ settings_read remote.octets (T.bytes text) }
 {
     if closes_call(text) {
@@ -179,7 +179,7 @@ fn settings<T: Text>(remote: Address, text: T) -> Option<[u8; 64]>
 }
 
 /// Reads a whole call. Returns the data of the connection, and eight zeros.
-fn call_data<T: Text>(text: T) -> Option<[u8; 64]>
+fn call_data<T: Text>(text: T) -> Option<[u8; 56]>
     ensures { option_map (λ x. take 56 x) result ≡ call_data (T.bytes text) }
 {
     let (remote, rest) = address(after(b"IPV6(", text)?)?;

@@ -8,7 +8,7 @@ ghost use Rattle.uefi_node_table.specs.Rows.{as_form, as_piece, is_within};
 ghost use Rattle.uefi_node_table.specs.Table.{forms, group_forms};
 ghost use Rattle.uefi_device_nodes.specs.Nodes.{node_with};
 ghost use Rattle.uefi_node_reader.specs.TableReading.{are_within, blank, form_place, form_read, forms_read, is_filled, is_sound, kept, prints, put_all, rest_read, table_read};
-ghost use Rattle.uefi_node_reader.specs.FirstLetters.{all_begin_in, begins_in};
+ghost use Rattle.uefi_node_reader.specs.FirstLetters.{all_begin_in, begins_in, begins_in_either_case, is_in};
 ghost use Rattle.uefi_node_reader.specs.ParsedNodes.{fitting};
 ghost use Rattle.uefi_node_reader.specs.WordReading.{after};
 ghost use Rattle.uefi_node_reader.specs.ParsedNodeViews.{text_node_data, parsed_node};
@@ -34,11 +34,11 @@ fn put_bytes(content: &mut [u8], bytes: &[(u8, u8)])
 }
 
 /// Returns the fixed part of a form's data, with zeros after it.
-pub(crate) fn fixed_part(row: &Row) -> [u8; 64]
+pub(crate) fn fixed_part(row: &Row) -> [u8; 56]
     requires { IsTrue (is_filled (as_form row.now)) }
     ensures { take row.now.least result ≡ blank (as_form row.now) }
 {
-    let mut fixed = [0; 64];
+    let mut fixed = [0; 56];
     put_bytes(&mut fixed, row.when.as_slice());
     put_bytes(&mut fixed, row.also.as_slice());
     fixed
@@ -46,8 +46,8 @@ pub(crate) fn fixed_part(row: &Row) -> [u8; 64]
 
 /// Reads the rest of a node of a form whose first fields were read, from the data after the fixed part on.
 /// Returns the rest of the text too.
-pub(crate) fn finish_row<T: Text>(row: &Row, fixed: [u8; 64], text: T) -> Option<(ParsedNode<T>, T)>
-    requires small { row.now.least ≤ 64 }
+pub(crate) fn finish_row<T: Text>(row: &Row, fixed: [u8; 56], text: T) -> Option<(ParsedNode<T>, T)>
+    requires small { row.now.least ≤ 56 }
     requires within { IsTrue (list_all (is_within row.now.least) (as_form row.now).rest) }
     ensures types { IfSome result (λ x.
         (x.0.device_type ≡ row.now.kind) × (x.0.sub_type ≡ row.now.sub_kind)) }
@@ -172,19 +172,38 @@ fn read_group<T: Text>(rows: &[Row], before: usize, text: T) -> Option<(ParsedNo
     None
 }
 
+/// Returns whether a byte is one of these letters.
+fn is_in(letters: u64, byte: u8) -> bool
+    ensures { result ≡ is_in letters byte }
+{
+    (letters >> (byte % 64)) % 2 == 1
+}
+
 /// Returns whether a text begins with one of these letters.
 fn begins_in<T: Text>(letters: u64, text: T) -> bool
     ensures { result ≡ begins_in letters (T.bytes text) }
 {
     match text.split_first() {
-        Some((first, _)) => (letters >> (first % 64)) % 2 == 1,
+        Some((first, _)) => is_in(letters, first),
+        None => false,
+    }
+}
+
+/// Returns whether a text begins with one of these letters, in either case.
+pub(crate) fn begins_in_either_case<T: Text>(letters: u64, text: T) -> bool
+    ensures { result ≡ begins_in_either_case letters (T.bytes text) }
+{
+    match text.split_first() {
+        Some((first, _)) => {
+            is_in(letters, first.to_ascii_uppercase()) || is_in(letters, first.to_ascii_lowercase())
+        }
         None => false,
     }
 }
 
 /// Returns the letters that the texts of the forms in a group begin with. Most groups have no form that
 /// begins with the first letter of a text.
-fn first_letters(index: usize) -> u64
+pub(crate) fn first_letters(index: usize) -> u64
     requires { index < 12 }
     ensures { IsTrue (all_begin_in result (group_forms index)) }
 {

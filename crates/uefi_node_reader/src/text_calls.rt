@@ -116,8 +116,8 @@ fn words_end<T: NameText>(tail: Tail, close: &[u8], words: T) -> Result<T, Stop>
 }
 
 /// Returns the node of a form with this fixed part and the text in its call.
-fn with_words<T: NameText>(row: &Row, fixed: [u8; 64], words: T) -> Option<ParsedNode<T>>
-    requires { row.now.least ≤ 64 }
+fn with_words<T: NameText>(row: &Row, fixed: [u8; 56], words: T) -> Option<ParsedNode<T>>
+    requires { row.now.least ≤ 56 }
     ensures types { IfSome result (λ x.
         (x.device_type ≡ row.now.kind) × (x.sub_type ≡ row.now.sub_kind)) }
     ensures data { option_map text_node_data result ≡ option_map (λ x. x.0) (fitting (option_and_then
@@ -136,7 +136,7 @@ fn with_words<T: NameText>(row: &Row, fixed: [u8; 64], words: T) -> Option<Parse
 /// Reads a node of a form with this fixed part, from the text in its call on and from the tidied call.
 fn text_told<T: NameText>(
     row: &Row,
-    fixed: [u8; 64],
+    fixed: [u8; 56],
     words: T,
     call: Tidied<T>,
 ) -> Result<ParsedNode<T>, Stop>
@@ -163,7 +163,7 @@ fn text_told<T: NameText>(
 }
 
 /// Reads a node of a form with this fixed part, if the call contains only the ID string of `_UID`.
-fn uid_told<T: NameText>(row: &Row, fixed: [u8; 64], words: T) -> Result<ParsedNode<T>, Stop>
+fn uid_told<T: NameText>(row: &Row, fixed: [u8; 56], words: T) -> Result<ParsedNode<T>, Stop>
     requires sound { IsTrue (is_sound (as_form row.now)) }
     requires filled { IsTrue (is_filled (as_form row.now)) }
     ensures { result_map_both parsed_node (λ e. e) result
@@ -195,7 +195,7 @@ fn set_head<T: Text>(row: &Row, content: &mut [u8], call: T) -> Result<T, Stop>
     requires sound { IsTrue (is_sound (as_form row.now)) }
     requires read { IsTrue (is_read row.now.mode) }
     requires blank { content.old ≡ blank (as_form row.now) }
-    requires few { length content.old ≤ 64 }
+    requires few { length content.old ≤ 56 }
     ensures { result_map_both (λ rest. (content.new, T.bytes rest)) (λ e. e) result
         ≡ head_set (as_form row.now) (T.bytes call) }
 {
@@ -248,6 +248,8 @@ impl Attempt for TextCall {
             Err(stop) => Err(Some(stop)),
         }
     }
+
+    fn names_are_needed() {}
 }
 
 /// An attempt that reads a call whose only ID string is `_UID`.
@@ -269,6 +271,8 @@ impl Attempt for UidCall {
             Err(stop) => Err(Some(stop)),
         }
     }
+
+    fn names_are_needed() {}
 }
 
 /// Reads a call in a form that contains a text, from the part before its `)` and the tidied call. Fails with

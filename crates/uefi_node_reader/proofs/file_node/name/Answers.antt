@@ -1,4 +1,4 @@
-use Rattle.std.proofs.Common.{◌≡◌, ◌∷◌, [], List, ℕ, ap, arith}
+use Rattle.std.proofs.Common.{◌≡◌, ◌∷◌, [], ap, arith}
 use Rattle.uefi_node_reader.specs.TableReading.{first_of}
 use Rattle.uefi_node_reader.proofs.FileNodes.{other_none}
 use Rattle.uefi_node_reader.proofs.file_node.name.Goals as goal

@@ -1,4 +1,4 @@
-use Rattle.std.proofs.Common.{◌≡◌, ℕ, List, sym, ap, ◌∙◌}
+use Rattle.std.proofs.Common.{ℕ, List, sym, ap}
 use Rattle.std.specs.Str.{chars, is_utf8}
 use Rattle.uefi_node_reader.specs.LenientCalls.{whole}
 use Rattle.uefi_node_reader.specs.LenientNodes.{rooted}

@@ -1,4 +1,4 @@
-use Rattle.std.proofs.Common.{◌≡◌, true, false, cond, ◌&&◌, List, ℕ, sym, ◌∙◌}
+use Rattle.std.proofs.Common.{◌≡◌, true, false, cond, ◌&&◌, sym, ◌∙◌}
 use Rattle.std.specs.Prelude.{None, Some}
 use Rattle.uefi_node_table.specs.Rows.{Form, as_form}
 use Rattle.uefi_device_nodes.specs.Nodes.{Node, node_with}

@@ -14,7 +14,7 @@ use Rattle.uefi_node_reader.proofs.short_addresses.told_fixed.Goals as goal
 
 -- the form of a node is found by its first bytes
 form_by : (node : Node) (kind sub_kind : ℕ) (head : List ℕ) (o : Option Form) → kind ≡ node.device_type → sub_kind ≡ node.sub_type
-    → head ≡ take 64 node.content → o ≡ find_form (prints (node_with kind sub_kind head)) forms → o ≡ find_form (prints node) forms
+    → head ≡ take 56 node.content → o ≡ find_form (prints (node_with kind sub_kind head)) forms → o ≡ find_form (prints node) forms
 form_by node kind sub_kind head o k s h e =
     by_parts node kind sub_kind head o k s h e ∙ form_same node.device_type node.sub_type node.content
 

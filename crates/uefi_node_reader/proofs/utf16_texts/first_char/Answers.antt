@@ -1,52 +1,39 @@
-use Rattle.std.proofs.Common.{◌≡◌, ◌+◌, ◌<◌, ◌≤◌, ◌∷◌, ◌∙◌, ◌&&◌, not, true, false, List, ℕ, ap, arith, drop, length, refl, slice_index, subst, sym}
-use Rattle.std.proofs.Math.ListN.{get_or-eq_default}
+use Rattle.std.proofs.Common.{◌<◌, arith, slice_index}
 use Rattle.std.proofs.lemmas.Bool.Decides.{nat_tests}
-use Rattle.std.specs.Char.Utf16.{utf16_lossy_chars}
-use Rattle.uefi_node_reader.proofs.Utf16Texts.{FirstSaid, Encodes, first_said, units_none, units_encode, units_unpaired}
+use Rattle.uefi_node_reader.proofs.Utf16Texts.{PairSaid, pair_said, tail_of, units_last, units_none, units_one, units_two, units_unpaired}
 use Rattle.uefi_node_reader.proofs.utf16_texts.first_char.Goals as goal
-use Rattle.uefi_node_reader.proofs.utf16_texts.first_char.Goals.{then-units-gt1, else-units-gt1}
 
-pub returns-then-is_empty : goal.returns-then-is_empty
-returns-then-is_empty c = units_none c.args.units.now (grind (arith, nat_tests, c.is_empty.ensures, c.if-is_empty.true))
+pub returns-in_default : goal.returns-in_default
+returns-in_default c = units_none c.args.units.now c.in_default.len_below
 
-pub returns-then-c-units : goal.returns-then-c-units
-returns-then-c-units c =
+pub returns-in-Some : goal.returns-in-Some
+returns-in-Some c =
     let units = c.args.units.now in
-    let some : 0 < length units = grind (arith, nat_tests, c.is_empty.ensures, c.if-is_empty.false) in
-    let next : slice_index units 1 ≡ c.if-units-gt1.next = elim c.if-units-gt1.branch [
-      | then-units-gt1 w ↦ sym w.next-is
-      | else-units-gt1 w ↦ get_or-eq_default units 0 {n = 1} (omega (arith, w.if-units-gt1.false)) ∙ sym w.next-is
-    ] in
-    let said = subst (λ (v : ℕ). FirstSaid (slice_index units 0) v c.lossy_char-c.result.0 c.lossy_char-c.result.1) (sym next)
-    (first_said (slice_index units 0) c.if-units-gt1.next c.lossy_char-c.result.0 c.lossy_char-c.result.1
-    c.lossy_char-c.ensures.first c.lossy_char-c.ensures.some c.lossy_char-c.ensures.within) in
-    let small : slice_index units 0 < 0x1_0000 = omega (arith, c.type_inv.units 0) in
-    units_unpaired units c.lossy_char-c.result.0 c.lossy_char-c.result.1 some small said
-    (grind (arith, nat_tests, c.if-c-units.true)) (λ is. grind (arith, nat_tests, c.if-c-units.true, is))
+    let code = c.from.result in
+    let small : code < 0x1_0000 = omega (arith, c.from.ensures, c.type_inv.units 0) in
+    let is = units_one code units c.in-len1-up.len_at_least c.from.ensures small c.in-Some.ensures.value.0 in
+    rw c.in-Some.ensures.value.1 is
 
-pub split_at-requires : goal.split_at-requires
-split_at-requires c =
+pub returns-in_default-after : goal.returns-in_default-after
+returns-in_default-after c =
+    let code = c.from.result in
+    let small : code < 0x1_0000 = omega (arith, c.from.ensures, c.type_inv.units 0) in
+    units_last code c.args.units.now c.in-len1-up.len_at_least c.in_default-after.len_below c.from.ensures small c.in_default-from_u32.ensures.value
+
+pub returns-then-count-eq1 : goal.returns-then-count-eq1
+returns-then-count-eq1 c =
     let units = c.args.units.now in
-    let some : 0 < length units = grind (arith, nat_tests, c.is_empty.ensures, c.if-is_empty.false) in
-    let next : slice_index units 1 ≡ c.if-units-gt1.next = elim c.if-units-gt1.branch [
-      | then-units-gt1 w ↦ sym w.next-is
-      | else-units-gt1 w ↦ get_or-eq_default units 0 {n = 1} (omega (arith, w.if-units-gt1.false)) ∙ sym w.next-is
-    ] in
-    omega (arith, c.lossy_char-c.ensures.within units 0 some next)
+    let code = c.from.result in
+    let small : code < 0x1_0000 = omega (arith, c.from.ensures, c.type_inv.units 0) in
+    let said : PairSaid (slice_index units 0) (slice_index (tail_of units) 0) c.lossy_char-c.result.0 c.lossy_char-c.result.1 =
+    pair_said _ _ _ _ c.lossy_char-c.ensures.first c.lossy_char-c.ensures.some c.lossy_char-c.ensures.within in
+    units_unpaired code units c.lossy_char-c.result.0 c.lossy_char-c.result.1 c.in-len1-up.len_at_least c.in-len1-up-after.len_at_least c.from.ensures small
+    c.in_default-from_u32.ensures.value said (grind (arith, nat_tests, c.if-count-eq1.true))
 
 pub returns : goal.returns
 returns c =
     let units = c.args.units.now in
-    let some : 0 < length units = grind (arith, nat_tests, c.is_empty.ensures, c.if-is_empty.false) in
-    let next : slice_index units 1 ≡ c.if-units-gt1.next = elim c.if-units-gt1.branch [
-      | then-units-gt1 w ↦ sym w.next-is
-      | else-units-gt1 w ↦ get_or-eq_default units 0 {n = 1} (omega (arith, w.if-units-gt1.false)) ∙ sym w.next-is
-    ] in
-    let said = subst (λ (v : ℕ). FirstSaid (slice_index units 0) v c.lossy_char-c.result.0 c.lossy_char-c.result.1) (sym next)
-    (first_said (slice_index units 0) c.if-units-gt1.next c.lossy_char-c.result.0 c.lossy_char-c.result.1
-    c.lossy_char-c.ensures.first c.lossy_char-c.ensures.some c.lossy_char-c.ensures.within) in
-    let small : slice_index units 0 < 0x1_0000 = omega (arith, c.type_inv.units 0) in
-    let is : Encodes units c.lossy_char-c.result.0 c.lossy_char-c.result.1 =
-    units_encode units c.lossy_char-c.result.0 c.lossy_char-c.result.1 some small said
-    (λ is. grind (arith, nat_tests, c.if-c-units.false, is)) in
-    rw c.split_at.ensures.back is
+    let said : PairSaid (slice_index units 0) (slice_index (tail_of units) 0) c.lossy_char-c.result.0 c.lossy_char-c.result.1 =
+    pair_said _ _ _ _ c.lossy_char-c.ensures.first c.lossy_char-c.ensures.some c.lossy_char-c.ensures.within in
+    units_two units c.lossy_char-c.result.0 c.lossy_char-c.result.1 c.in-len1-up.len_at_least c.in-len1-up-after.len_at_least said
+    (λ one. grind (arith, nat_tests, c.if-count-eq1.false, one))

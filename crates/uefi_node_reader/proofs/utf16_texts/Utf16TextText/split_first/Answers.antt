@@ -1,23 +1,20 @@
-use Rattle.std.proofs.Common.{◌≡◌, ◌+◌, ◌-◌, ◌<◌, ◌++◌, ◌∷◌, ◌∙◌, List, ℕ, ap, sym, arith}
-use Rattle.std.specs.Str.{encode_utf8_all}
-use Rattle.uefi_node_reader.specs.Utf16Texts.{last_bytes, nul_padded, paired_chars, six_bits}
-use Rattle.uefi_node_reader.proofs.Utf16Texts.{bytes_are, last_more, padded_more}
+use Rattle.std.proofs.Common.{◌+◌, ◌-◌, ◌*◌, ◌<◌, ◌/◌, ◌∷◌, List, ℕ, ◌∙◌, ap, sym, arith, length, slice_index}
+use Rattle.uefi_node_reader.proofs.Utf16Texts.{ascii_first, bytes_at}
 use Rattle.uefi_node_reader.proofs.utf16_texts.Utf16TextText.split_first.Goals as goal
-
-pub returns-then-self-ne0 : goal.returns-then-self-ne0
-returns-then-self-ne0 c =
-    let text = c.args.self in
-    let rest = encode_utf8_all (paired_chars text.units.now) in
-    let some : 0 < text.left = omega (arith, c.if-self-ne0.true) in
-    ap (λ (l : List ℕ). nul_padded (text.end - 1) (l ++ rest)) (last_more text.left text.code some)
-    ∙ padded_more (text.end - 1) (128 + six_bits (text.left - 1) text.code) (last_bytes (text.left - 1) text.code ++ rest) (omega (arith, c.if-self-le1.false))
-    ∙ ap (λ (b : ℕ). b ∷ nul_padded (text.end - 1 - 1) (last_bytes (text.left - 1) text.code ++ rest)) (sym c.later_byte-byte.ensures)
+use Rattle.uefi_node_reader.proofs.utf16_texts.Utf16TextText.split_first.Goals.{then-index-units+then-units-index-lt128, else-index-units}
 
 pub returns : goal.returns
 returns c =
     let text = c.args.self in
-    let char = c.first_char_or_nul-c.result in
-    let rest = encode_utf8_all (paired_chars char.1.now) in
-    bytes_are text char.0 rest c.if-self-ne0.false c.first_char_or_nul-c.ensures
-    ∙ ap (λ (l : List ℕ). nul_padded (text.end - 1) (l ++ rest)) c.lead_byte-byte.ensures
-    ∙ padded_more (text.end - 1) c.lead_byte-byte.result.0 (last_bytes c.lead_byte-byte.result.1 char.0 ++ rest) (omega (arith, c.if-self-le1.false))
+    let units = text.units.now.now in
+    let some : 0 < text.end - 1 = omega (arith, c.if-self-le1.false) in
+    let all = c.units_of-units.ensures in
+    elim c.if-index-units.branch [
+      | then-index-units+then-units-index-lt128 w ↦
+          ascii_first units text.place (text.end - 1) (omega (arith, w.if-index-units.true, ap length all))
+          (omega (arith, w.if-units-index-lt128.true, ap (λ (us : List ℕ). slice_index us (text.place / 4)) all)) some
+          ∙ (λ i. slice_index (sym all i) (text.place / 4) ∷ bytes_at units (4 * (text.place / 4 + 1)) (text.end - 1 - 1))
+          ∙ (λ i. (sym w.byte-is i).0 ∷ bytes_at units ((sym w.byte-is i).1) (text.end - 1 - 1))
+      | else-index-units w ↦
+          rw all at w.byte_at.ensures (text.end - 1) some ∙ (λ i. (sym w.byte-is i).0 ∷ bytes_at units ((sym w.byte-is i).1) (text.end - 1 - 1))
+    ]

@@ -1,7 +1,7 @@
 use Rattle.std.proofs.Common.{◌≡◌, take}
 use Rattle.uefi_text.specs.UnitBytes.{unit_bytes}
 use Rattle.uefi_node_reader.specs.Counted.{pushed_bytes}
-use Rattle.uefi_node_reader.proofs.name_data.push_char.Given as goal
+use Rattle.uefi_node_reader.proofs.name_data.push_units.Given as goal
 
 abbrev pub invariant-loop-place : goal.invariant-loop-place
 invariant-loop-place l =
