@@ -3,5 +3,6 @@ pub mod Nodes
 pub mod Options
 pub mod Written
 mod Judged
+mod FirstUnits
 mod Halves
 pub mod Rooms

@@ -4,7 +4,7 @@
 //!
 //! The text of units is the units before their first NUL, or all units if there is no NUL. No call
 //! refuses a unit.
-ghost use Rattle.std.specs.Prelude.{◌≡◌, ◌↔◌, ◌++◌, drop, length, IsTrue};
+ghost use Rattle.std.specs.Prelude.{◌≡◌, ◌↔◌, ◌++◌, drop, length, true, IsTrue};
 ghost use Rattle.uefi_text.specs.Case.{caseless_order, lowers, uppers};
 ghost use Rattle.uefi_text.specs.Patterns.{Matches};
 ghost use Rattle.nardcorbel.specs.FatNames.{ShowsFat};
@@ -15,7 +15,8 @@ use crate::fat_names::report_fat;
 use crate::reasons::order_number;
 use crate::strings::until_nul;
 use uefi_fat::units_to_fat;
-use uefi_text::case::{cmp_ignore_case, eq_ignore_case, make_lowercase, make_uppercase};
+use uefi_text::case::{cmp_ignore_case, eq_ignore_case, make_lowercase, make_uppercase, upper};
+use uefi_text::laws::pattern_rules;
 use uefi_text::patterns::matches;
 
 /// Returns whether the texts of both are the same without case. Does not allocate.
@@ -36,13 +37,28 @@ pub extern "C" fn nard_units_order_ignore_case(first: &[u16], second: &[u16]) ->
     order_number(cmp_ignore_case(until_nul(first), until_nul(second)))
 }
 
+/// Returns `true` only if the first units of a text and of a pattern already show that they do not
+/// match. Most names that a pattern does not match are told there, before the ends of both are searched.
+#[inline(always)]
+pub(crate) fn begin_otherwise(units: &[u16], pattern: &[u16]) -> bool
+    ensures { result ≡ true → ¬ Matches (text_until_nul pattern.now) (text_until_nul units.now) }
+{
+    pattern_rules();
+    if units.is_empty() || pattern.is_empty() {
+        return false;
+    }
+    let (unit, first) = (units[0], pattern[0]);
+    let is_itself = (first != 0x2a) & (first != 0x3f) & (first != 0x5b);
+    is_itself & (upper(unit) != upper(first))
+}
+
 /// Returns whether the text of the pattern matches the whole text of the units, as `MetaiMatch`
 /// does. Does not allocate.
 #[unsafe(no_mangle)]
 pub extern "C" fn nard_units_matches(units: &[u16], pattern: &[u16]) -> bool
     ensures { IsTrue result ↔ Matches (text_until_nul pattern.now) (text_until_nul units.now) }
 {
-    matches(until_nul(units), until_nul(pattern))
+    !begin_otherwise(units, pattern) && matches(until_nul(units), until_nul(pattern))
 }
 
 /// Converts the text to upper case, as `StrUpr` does, and returns its length. The rest of the

@@ -14,6 +14,7 @@ ghost use Rattle.nardcorbel.specs.Strings.{text_until_nul, with_case};
 
 use crate::outcomes::{read_string, refuse};
 use crate::reasons::{NO_ORDER, OK, order_number};
+use crate::units::begin_otherwise;
 use uefi_path::Path;
 use uefi_text::CStr16;
 use uefi_text::case::{make_lowercase, make_uppercase};
@@ -96,6 +97,9 @@ pub extern "C" fn nard_string_matches(units: &[u16], pattern: &[u16]) -> bool
     ensures { IsTrue result ↔ (BeginsWithString units.now × BeginsWithString pattern.now
         × Matches (text_until_nul pattern.now) (text_until_nul units.now)) }
 {
+    if begin_otherwise(units, pattern) {
+        return false;
+    }
     let Ok(string) = CStr16::from_u16_until_nul(units) else {
         return false;
     };
