@@ -166,6 +166,26 @@ static void texts(const char *name, const char *of)
     compare(what, our_printer, their_printer);
 }
 
+/* Times a text as people write it, beside EDK II's reading of the printed text of the same path. */
+static void written(const char *name, const char *of, const char *printed)
+{
+    nard_byte paths[2][256];
+    size_t sizes[2];
+    for (int i = 0; i < 2; i++) {
+        set_text(i ? printed : of);
+        our_lenient();
+        sizes[i] = place;
+        memcpy(paths[i], path, sizeof paths[i]);
+    }
+    if (sizes[0] != sizes[1] || memcmp(paths[0], paths[1], sizes[0])) {
+        printf("%s: the paths differ\n", name);
+        exit(1);
+    }
+    count = strlen(of);
+    memcpy(text, of, count);
+    compare(name, our_lenient, their_reader);
+}
+
 static void names(size_t length)
 {
     char name[64], of[4096] = "\\";
@@ -217,6 +237,10 @@ int main(int argc, char **argv)
     texts("a boot entry", "PciRoot(0x0)/Pci(0x1F,0x2)/Sata(0x0,0xFFFF,0x0)"
         "/HD(1,GPT,76543210-BA98-FEDC-0102-030405060708,0x800,0x64000)/\\EFI\\BOOT\\BOOTX64.EFI");
     texts("two nodes", "PciRoot(0x0)/Pci(0x1F,0x2)");
+    written("a boot entry as people write it", "pciroot(0)/pci(31, 2)/sata(0,65535,0)"
+        "/hd(1,gpt,76543210-ba98-fedc-0102-030405060708,2048,409600)/\\EFI\\BOOT\\BOOTX64.EFI",
+        "PciRoot(0x0)/Pci(0x1F,0x2)/Sata(0x0,0xFFFF,0x0)"
+        "/HD(1,GPT,76543210-BA98-FEDC-0102-030405060708,0x800,0x64000)/\\EFI\\BOOT\\BOOTX64.EFI");
     names(27);
     names(200);
     names(2000);
