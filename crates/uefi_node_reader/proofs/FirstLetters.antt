@@ -5,13 +5,12 @@ use Rattle.std.specs.Char.{to_ascii_lowercase, to_ascii_uppercase}
 use Rattle.std.proofs.lemmas.Bool.{and_parts, or_parts}
 use Rattle.std.proofs.lemmas.Bool.Decides.{nat_tests}
 use borrow.Author.Tests.{eqb-true}
-use Rattle.uefi_device_nodes.specs.Nodes.{Node}
 use Rattle.uefi_node_table.specs.Rows.{Form}
-use Rattle.uefi_node_reader.specs.FieldReading.{◌>>=◌, either_read}
+use Rattle.uefi_node_reader.specs.FieldReading.{◌>>=◌}
 use Rattle.uefi_node_reader.specs.FirstLetters.{all_begin_in, begins_in, begins_in_either_case, is_in}
 use Rattle.uefi_node_reader.specs.LenientCalls.{begins_call_name, first_tried, or_next}
 use Rattle.uefi_node_reader.specs.Stops.{further}
-use Rattle.uefi_node_reader.specs.TableReading.{blank, form_read, forms_read, is_read, kept, pieces_put, rest_read}
+use Rattle.uefi_node_reader.specs.TableReading.{blank, form_read, is_read, kept, pieces_put, rest_read}
 use Rattle.uefi_node_reader.specs.WordReading.{after}
 use Rattle.uefi_node_reader.specs.declared.faults.Stop.{Stop}
 
@@ -38,21 +37,17 @@ form_unread form text e =
     by true = refl
     by false = refl
 
-pub none_read : (letters : ℕ) (all : List Form) (place : ℕ) (forms : List Form) (text : List ℕ) → all_begin_in letters forms ≡ true
-    → begins_in letters text ≡ false → forms_read all place forms text ≡ None
-none_read letters all place [] text a t = refl
-none_read letters all place (form ∷ forms) text a t =
-    let parts = and_parts (begins_in letters form.start) (all_begin_in letters forms) a in
-    ap (λ (o : Option (List ℕ × List ℕ)). either_read (kept all place form o) (forms_read all (place + 1) forms text))
-    (form_unread form text (after_none letters form.start text parts.0 t))
-    ∙ none_read letters all (place + 1) forms text parts.1 t
+-- nor of one that begins with another letter
+pub not_begun : (letters : ℕ) (all : List Form) (place : ℕ) (form : Form) (text : List ℕ) → begins_in letters form.start ≡ true
+    → begins_in letters text ≡ false → kept all place form (form_read form text) ≡ None
+not_begun letters all place form text s t = ap (kept all place form) (form_unread form text (after_none letters form.start text s t))
 
 -- a letter in either case is a letter in that case
 cased : (c t : ℕ) → eqb (to_ascii_uppercase c) (to_ascii_uppercase t) ≡ true → (c ≡ to_ascii_uppercase t) ⊎ (c ≡ to_ascii_lowercase t)
 cased c t e = grind (arith, nat_tests, eqb-true _ _ e)
 
 -- a call does not begin with the name of a form that begins with another letter
-name_unread : (letters : ℕ) (start call : List ℕ) → begins_in letters start ≡ true → begins_in_either_case letters call ≡ false
+pub name_unread : (letters : ℕ) (start call : List ℕ) → begins_in letters start ≡ true → begins_in_either_case letters call ≡ false
     → begins_call_name start call ≡ false
 name_unread letters [] call s t = absurd (true≢false (sym s))
 name_unread letters (c ∷ cs) [] s t = refl
@@ -68,15 +63,15 @@ name_unread letters (c ∷ cs) (d ∷ ds) s t = by (eqb (to_ascii_uppercase c) (
         ]
 
 -- such forms are not tried
-pub none_tried : (tried : Form → Result Node (Option Stop)) (letters : ℕ) (forms : List Form) (furthest : Option Stop) (call : List ℕ)
-    → ((form : Form) → begins_call_name form.start call ≡ false → tried form ≡ Err None) → all_begin_in letters forms ≡ true
-    → begins_in_either_case letters call ≡ false → first_tried tried forms furthest ≡ Err furthest
-none_tried tried letters [] furthest call needed a t = refl
-none_tried tried letters (form ∷ forms) furthest call needed a t =
+pub none_tried : {A : Type 0} (tried : ℕ → Form → Result A (Option Stop)) (letters place : ℕ) (forms : List Form) (furthest : Option Stop)
+    → ((place : ℕ) (form : Form) → begins_in letters form.start ≡ true → tried place form ≡ Err None)
+    → all_begin_in letters forms ≡ true → first_tried tried place forms furthest ≡ Err furthest
+none_tried tried letters place [] furthest needed a = refl
+none_tried {A} tried letters place (form ∷ forms) furthest needed a =
     let parts = and_parts (begins_in letters form.start) (all_begin_in letters forms) a in
-    ap (λ (r : Result Node (Option Stop)). or_next r (λ stop. first_tried tried forms (further furthest stop)))
-    (needed form (name_unread letters form.start call parts.0 t))
-    ∙ ap (first_tried tried forms) (same furthest) ∙ none_tried tried letters forms furthest call needed parts.1 t
+    ap (λ (r : Result A (Option Stop)). or_next r (λ stop. first_tried tried (place + 1) forms (further furthest stop)))
+    (needed place form parts.0)
+    ∙ ap (first_tried tried (place + 1) forms) (same furthest) ∙ none_tried tried letters (place + 1) forms furthest needed parts.1
   where
     same : (stop : Option Stop) → further stop None ≡ stop
     same None = refl

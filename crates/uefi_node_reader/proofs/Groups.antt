@@ -1,14 +1,12 @@
 -- Forms that stand one group after the other, and what is computed of the whole table.
 use Rattle.std.proofs.Common.{◌≡◌, ℕ, zero, suc, ◌+◌, ◌-◌, ◌<◌, ◌≤◌, Bool, true, false, cond, List, [], ◌∷◌, ◌++◌, length, refl, sym, ap, ◌∙◌, arith}
-use Rattle.std.specs.Prelude.{Option, Some, None, ◌&&◌}
+use Rattle.std.specs.Prelude.{Some, None, ◌&&◌}
 use Rattle.std.specs.List.{list_all}
 use Rattle.std.proofs.lemmas.Bool.{and_parts}
 use Rattle.uefi_node_table.specs.Rows.{Form, find_form, item_of}
 use Rattle.uefi_node_table.specs.Table.{forms, forms_from, group_forms}
 use Rattle.uefi_node_table.proofs.Groups.{next_group}
-use Rattle.uefi_device_nodes.specs.Nodes.{Node}
-use Rattle.uefi_node_reader.specs.FieldReading.{either_read}
-use Rattle.uefi_node_reader.specs.TableReading.{all_differ, form_place, form_read, forms_read, is_filled, is_sound, kept}
+use Rattle.uefi_node_reader.specs.TableReading.{all_differ, form_place, is_filled, is_sound}
 
 pub table_sound : list_all is_sound forms ≡ true
 unfolding group_forms item_of
@@ -74,20 +72,6 @@ module _ (test : Form → Bool) where
       by true p q h = absurd (omega arith)
       by false p q h = let others = h (omega arith) in ap (λ (b : Bool). cond b 0 (form_place test (xs ++ bs) + 1)) p ∙ omega arith
 
-either_assoc : (x y z : Option (Node × List ℕ)) → either_read x (either_read y z) ≡ either_read (either_read x y) z
-either_assoc None y z = refl
-either_assoc (Some x) y z = refl
-
-reads_append : (all : List Form) (place : ℕ) (xs bs : List Form) (text : List ℕ)
-    → forms_read all place (xs ++ bs) text ≡ either_read (forms_read all place xs text) (forms_read all (place + length xs) bs text)
-reads_append all place [] bs text = ap (λ (n : ℕ). forms_read all n bs text) {x = place} {y = place + 0} (omega arith)
-reads_append all place (a ∷ xs) bs text =
-    ap (λ (o : Option (Node × List ℕ)). either_read (kept all place a (form_read a text)) o)
-    (reads_append all (place + 1) xs bs text
-    ∙ ap (λ (n : ℕ). either_read (forms_read all (place + 1) xs text) (forms_read all n bs text))
-    {x = place + 1 + length xs} {y = place + suc (length xs)} (omega arith))
-    ∙ either_assoc (kept all place a (form_read a text)) (forms_read all (place + 1) xs text) (forms_read all (place + suc (length xs)) bs text)
-
 module _ (index : ℕ) (more : index < 12) (group : List Form) (is : group ≡ group_forms index) where
   rest : List Form
   rest = forms_from (index + 1) (12 - (index + 1))
@@ -110,18 +94,3 @@ module _ (index : ℕ) (more : index < 12) (group : List Form) (is : group ≡ g
       let past : form_place test (forms_from index (12 - index)) ≡ length group + form_place test (forms_from (index + 1) (12 - (index + 1))) =
       ap (λ (l : List Form). form_place test l) here ∙ place_past test group rest (omega arith) in
       omega arith
-
-  -- reading in one group more
-  pub read_step : (before : ℕ) (text : List ℕ) (read : Node × List ℕ) (all : Option (Node × List ℕ)) → Some read ≡ forms_read forms before group text
-      → forms_read forms before (forms_from index (12 - index)) text ≡ all → Some read ≡ all
-  read_step before text read all e a =
-      ap (λ (o : Option (Node × List ℕ)). either_read o (forms_read forms (before + length group) rest text)) e
-      ∙ sym (reads_append forms before group rest text) ∙ ap (λ (l : List Form). forms_read forms before l text) (sym here) ∙ a
-
-  pub unread_step : (before : ℕ) (text : List ℕ) (all : Option (Node × List ℕ)) → None ≡ forms_read forms before group text
-      → forms_read forms before (forms_from index (12 - index)) text ≡ all
-      → forms_read forms (before + length group) (forms_from (index + 1) (12 - (index + 1))) text ≡ all
-  unfolding rest
-  unread_step before text all e a =
-      ap (λ (o : Option (Node × List ℕ)). either_read o (forms_read forms (before + length group) (forms_from (index + 1) (12 - (index + 1))) text)) e
-      ∙ sym (reads_append forms before group rest text) ∙ ap (λ (l : List Form). forms_read forms before l text) (sym here) ∙ a

@@ -21,9 +21,10 @@ use Rattle.uefi_node_table.specs.declared.rows.Tail.TheVariants.{Nothing, Bytes,
 use Rattle.uefi_device_nodes.specs.Nodes.{Node}
 use Rattle.uefi_node_reader.specs.FieldReading.{comma_read, run_read, some_run}
 use Rattle.uefi_node_reader.specs.Helps.{GoesOn, IsThing}
-use Rattle.uefi_node_reader.specs.LenientFields.{after_literal, begins_base, literal_left, pieces_set}
+use Rattle.uefi_node_reader.specs.LenientFields.{after_literal, begins_base, literal_left}
 use Rattle.uefi_node_reader.specs.LenientCalls.{begins_call_name, form_told, form_tried, is_textless, named_told, told_in}
 use Rattle.uefi_node_reader.specs.Numerals.{digit_of}
+use Rattle.uefi_node_reader.specs.Notations.{lenient, pieces_in}
 use Rattle.uefi_node_reader.specs.Stops.{◌>?◌, close_stop, past, rest_end, stop_at, stop_of, tail_stop}
 use Rattle.uefi_node_reader.specs.TableReading.{blank, first_of, is_empty, is_read, rest_read, tail_read}
 use Rattle.uefi_node_reader.specs.WordReading.{after, same_text}
@@ -223,11 +224,11 @@ module _ (form : Form) where
   told_end : (text : List ℕ) → Ends (form_told form text) (form_end form text)
   told_end text = by (after_literal form.start text)
     where
-      by : (r : Result (List ℕ) Stop) → Ends (ended (r >? pieces_set form.kind form.sub_kind form.pieces (blank form)))
+      by : (r : Result (List ℕ) Stop) → Ends (ended (r >? pieces_in lenient form.kind form.sub_kind form.pieces (blank form)))
           ((r >? pieces_end form.kind form.sub_kind form.pieces) >? rest_end form.tail form.close)
       by (Err stop) = inr refl
-      by (Ok rest) = subst (λ (r : Result (List ℕ) Stop). Ends (ended (pieces_set form.kind form.sub_kind form.pieces (blank form) rest)) (r >? rest_end form.tail form.close))
-          (pieces_bare form.kind form.sub_kind form.pieces (blank form) rest) (fields_end (pieces_set form.kind form.sub_kind form.pieces (blank form) rest))
+      by (Ok rest) = subst (λ (r : Result (List ℕ) Stop). Ends (ended (pieces_in lenient form.kind form.sub_kind form.pieces (blank form) rest)) (r >? rest_end form.tail form.close))
+          (pieces_bare form.kind form.sub_kind form.pieces (blank form) rest) (fields_end (pieces_in lenient form.kind form.sub_kind form.pieces (blank form) rest))
 
 -- the test for the name of a call
 abbrev is_called : List ℕ → Bool

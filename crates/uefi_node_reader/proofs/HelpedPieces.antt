@@ -3,7 +3,7 @@ use Rattle.std.proofs.Common.{◌≡◌, ℕ, ◌-◌, ◌/◌, ◌%◌, ◌^◌
 use Rattle.std.specs.Prelude.{All, Option, Some, None, Result, Ok, Err, codes}
 use Rattle.std.specs.Fmt.{digit_glyph}
 use Rattle.std.specs.List.{flat_map, join_by}
-use Rattle.std.specs.Option.{ok_or, option_map}
+use Rattle.std.specs.Option.{ok_or}
 use Rattle.std.specs.Result.{is_ok, result_map_both}
 use Rattle.std.proofs.Math.ListN.{replicate}
 use Rattle.std.proofs.lemmas.Bool.{and_parts, leb-true, not-true}
@@ -22,9 +22,10 @@ use Rattle.uefi_node_table.specs.declared.rows.Shape.TheVariants.{Hexadecimal, D
 use Rattle.uefi_node_table.specs.declared.words.Words.TheVariants as lists
 use Rattle.uefi_node_reader.specs.FieldReading.{◌>>=◌, IsValue, as_bytes, field_read, less_one}
 use Rattle.uefi_node_reader.specs.Helps.{IsNumber, IsThing, IsWord}
-use Rattle.uefi_node_reader.specs.LenientFields.{after_ending, after_letter, after_literal, any_field, any_number, any_word, begins_base, expected_field, is_number, left_out, literal_left, number_or_word, past_base, pieces_set, value_or_spare}
+use Rattle.uefi_node_reader.specs.LenientFields.{after_ending, after_letter, after_literal, any_field, any_number, any_word, begins_base, expected_field, is_number, left_out, literal_left, number_or_word, past_base, value_or_spare}
 use Rattle.uefi_node_reader.specs.LenientCalls.{tidied_byte}
 use Rattle.uefi_node_reader.specs.Numerals.{digit_of, has_digit}
+use Rattle.uefi_node_reader.specs.Notations.{lenient, pieces_in}
 use Rattle.uefi_node_reader.specs.Stops.{◌>?◌, past, stop_at}
 use Rattle.uefi_node_reader.specs.TableReading.{first_of, is_empty, put_at}
 use Rattle.uefi_node_reader.specs.WordReading.{after}
@@ -310,9 +311,6 @@ fit p h =
 abbrev with_data : List ℕ → List ℕ → Result (List ℕ × List ℕ) Stop
 with_data put rest = Ok (put, rest)
 
-abbrev placed : Piece → List ℕ → List ℕ × List ℕ → List ℕ × List ℕ
-placed p content v = (put_at p v.0 content, v.1)
-
 module _ (kind sub_kind : ℕ) where
   -- what stands after a field and its ending
   abbrev pub piece_end : Piece → Reading
@@ -326,18 +324,18 @@ module _ (kind sub_kind : ℕ) where
   abbrev pub bare : Result (List ℕ × List ℕ) Stop → Result (List ℕ) Stop
   bare r = result_map_both (λ x. x.1) (λ s. s) r
 
-  pub pieces_bare : (pieces : List Piece) (content text : List ℕ) → bare (pieces_set kind sub_kind pieces content text) ≡ pieces_end pieces text
+  pub pieces_bare : (pieces : List Piece) (content text : List ℕ) → bare (pieces_in lenient kind sub_kind pieces content text) ≡ pieces_end pieces text
   pieces_bare [] content text = refl
   pieces_bare (p ∷ ps) content text = by (pieces_bare ps) (value_or_spare p.shape (left_out kind sub_kind p.place) p.width text)
     where
-      ends : ((content text : List ℕ) → bare (pieces_set kind sub_kind ps content text) ≡ pieces_end ps text) → (put : List ℕ) (r : Result (List ℕ) Stop)
-          → bare ((r >? with_data put) >? λ read. pieces_set kind sub_kind ps read.0 read.1) ≡ (r >? pieces_end ps)
+      ends : ((content text : List ℕ) → bare (pieces_in lenient kind sub_kind ps content text) ≡ pieces_end ps text) → (put : List ℕ) (r : Result (List ℕ) Stop)
+          → bare ((r >? with_data put) >? λ read. pieces_in lenient kind sub_kind ps read.0 read.1) ≡ (r >? pieces_end ps)
       ends others put (Ok rest) = others put rest
       ends others put (Err stop) = refl
 
-      by : ((content text : List ℕ) → bare (pieces_set kind sub_kind ps content text) ≡ pieces_end ps text) → (o : Option (List ℕ × List ℕ))
-          → bare ((ok_or (option_map (λ (v : List ℕ × List ℕ). placed p content v) o) (stop_at text (expected_field p.shape p.width))
-          >? λ set. after_ending p.ending set.1 >? with_data set.0) >? λ read. pieces_set kind sub_kind ps read.0 read.1)
+      by : ((content text : List ℕ) → bare (pieces_in lenient kind sub_kind ps content text) ≡ pieces_end ps text) → (o : Option (List ℕ × List ℕ))
+          → bare ((ok_or o (stop_at text (expected_field p.shape p.width))
+          >? λ value. after_ending p.ending value.1 >? with_data (put_at p value.0 content)) >? λ read. pieces_in lenient kind sub_kind ps read.0 read.1)
           ≡ ((ok_or (past o) (stop_at text (expected_field p.shape p.width)) >? after_ending p.ending) >? pieces_end ps)
       by others None = refl
       by others (Some v) = ends others (put_at p v.0 content) (after_ending p.ending v.1)

@@ -1,5 +1,5 @@
 -- What is expected helps.
-use Rattle.std.proofs.Common.{◌≡◌, ℕ, ◌≤◌, Bool, true, false, cond, eqb, ltb, List, [], ◌∷◌, ◌++◌, ◌⊎◌, length, refl, sym, ap, ◌∙◌, inl, inr, arith}
+use Rattle.std.proofs.Common.{◌≡◌, ℕ, ◌+◌, ◌≤◌, Bool, true, false, cond, eqb, ltb, List, [], ◌∷◌, ◌++◌, ◌⊎◌, length, refl, sym, ap, ◌∙◌, inl, inr, arith}
 use Rattle.std.specs.Prelude.{IfSome, Option, Some, None, Result, Ok, Err}
 use Rattle.std.specs.List.{list_all}
 use Rattle.std.specs.Option.{option_map}
@@ -11,7 +11,7 @@ use Rattle.uefi_device_nodes.specs.Nodes.{Node}
 use Rattle.uefi_node_reader.specs.Ambiguous.{ambiguous_stop, bare_number_left, base_stop, is_empty_call, is_named_alone}
 use Rattle.uefi_node_reader.specs.Helps.{ExpectedHelps, GoesOn}
 use Rattle.uefi_node_reader.specs.LenientFields.{after_literal}
-use Rattle.uefi_node_reader.specs.LenientCalls.{call_told, call_tried, form_tried, forms_tried, names_tried, or_next, plain_names, plain_told}
+use Rattle.uefi_node_reader.specs.LenientCalls.{call_told, call_tried, first_tried, form_tried, or_next, plain_names, plain_told}
 use Rattle.uefi_node_reader.specs.OtherForms.{pasted_forms}
 use Rattle.uefi_node_reader.specs.Stops.{further, stop_at}
 use Rattle.uefi_node_reader.specs.TableReading.{first_of}
@@ -70,36 +70,48 @@ next_right : (n : ℕ) (r : Result Node (Option Stop)) (next : Option Stop → R
 next_right n (Ok node) next then = tt
 next_right n (Err stop) next then = then stop
 
-forms_keep : (n : ℕ) (all : List Form) (furthest : Option Stop) (text : List ℕ) → GoesOn n (Err furthest) → GoesOn n (forms_tried all furthest text)
-forms_keep n [] furthest text h = h
-forms_keep n (form ∷ forms) furthest text h =
-    next_right n (form_tried form text) (λ stop. forms_tried forms (further furthest stop) text) (λ stop. forms_keep n forms (further furthest stop) text (further_left n furthest stop h))
+-- what is tried in one way after the other
+module _ {W : Type 0} (tried : List ℕ → W → Result Node (Option Stop)) where
+  abbrev tried_from : ℕ → List W → List ℕ → Option Stop → Result Node (Option Stop)
+  tried_from place all text furthest = first_tried (λ place way. tried text way) place all furthest
 
--- a text that stops, and one in which each form that stops there goes on
-module _ (old new : List ℕ) (n : ℕ) (at : Stop)
-    (tried : (form : Form) → is_mending form ≡ true → form_tried form old ≡ Err (Some at) → GoesOn n (form_tried form new)) where
-  forms_go : (all : List Form) → list_all is_mending all ≡ true → (furthest : Option Stop) → forms_tried all furthest old ≡ Err (Some at)
-      → (furthest ≡ Some at) ⊎ ((other : Option Stop) → GoesOn n (forms_tried all other new))
-  forms_go [] m furthest e = let same : furthest ≡ Some at = cc in inl same
-  forms_go (form ∷ forms) m furthest e =
-      let parts = and_parts (is_mending form) (list_all is_mending forms) m in
-      by (form_tried form old) refl e (tried form parts.0) (λ stop. forms_go forms parts.1 (further furthest stop))
-    where
-      by : (r : Result Node (Option Stop)) → form_tried form old ≡ r → or_next r (λ stop. forms_tried forms (further furthest stop) old) ≡ Err (Some at)
-          → (form_tried form old ≡ Err (Some at) → GoesOn n (form_tried form new))
-          → ((stop : Option Stop) → forms_tried forms (further furthest stop) old ≡ Err (Some at)
-          → (further furthest stop ≡ Some at) ⊎ ((other : Option Stop) → GoesOn n (forms_tried forms other new)))
-          → (furthest ≡ Some at) ⊎ ((other : Option Stop) → GoesOn n (forms_tried (form ∷ forms) other new))
-      by (Ok node) p q here others = cc
-      by (Err stop) p q here others = elim (others stop q) [
-        | inl same ↦ elim (further_one furthest stop at same) [
-          | inl one ↦ inl one
-          | inr one ↦ inr (λ other. next_left n (form_tried form new) (λ stop. forms_tried forms (further other stop) new)
-              (here (p ∙ ap (λ (o : Option Stop). Err o) one)) (λ stop h. forms_keep n forms (further other stop) new (further_right n other stop h)))
+  all_keep : (n place : ℕ) (all : List W) (text : List ℕ) (furthest : Option Stop) → GoesOn n (Err furthest) → GoesOn n (tried_from place all text furthest)
+  all_keep n place [] text furthest h = h
+  all_keep n place (way ∷ ways) text furthest h =
+      next_right n (tried text way) (λ stop. tried_from (place + 1) ways text (further furthest stop))
+      (λ stop. all_keep n (place + 1) ways text (further furthest stop) (further_left n furthest stop h))
+
+  -- a text that stops, and one in which each way that stops there goes on
+  module _ (old new : List ℕ) (n : ℕ) (at : Stop) (test : W → Bool)
+      (goes : (way : W) → test way ≡ true → tried old way ≡ Err (Some at) → GoesOn n (tried new way)) where
+    all_go : (place : ℕ) (all : List W) → list_all test all ≡ true → (furthest : Option Stop) → tried_from place all old furthest ≡ Err (Some at)
+        → (furthest ≡ Some at) ⊎ ((other : Option Stop) → GoesOn n (tried_from place all new other))
+    all_go place [] m furthest e = let same : furthest ≡ Some at = cc in inl same
+    all_go place (way ∷ ways) m furthest e =
+        let parts = and_parts (test way) (list_all test ways) m in
+        by (tried old way) refl e (goes way parts.0) (λ stop. all_go (place + 1) ways parts.1 (further furthest stop))
+      where
+        by : (r : Result Node (Option Stop)) → tried old way ≡ r → or_next r (λ stop. tried_from (place + 1) ways old (further furthest stop)) ≡ Err (Some at)
+            → (tried old way ≡ Err (Some at) → GoesOn n (tried new way))
+            → ((stop : Option Stop) → tried_from (place + 1) ways old (further furthest stop) ≡ Err (Some at)
+            → (further furthest stop ≡ Some at) ⊎ ((other : Option Stop) → GoesOn n (tried_from (place + 1) ways new other)))
+            → (furthest ≡ Some at) ⊎ ((other : Option Stop) → GoesOn n (tried_from place (way ∷ ways) new other))
+        by (Ok node) p q here others = cc
+        by (Err stop) p q here others = elim (others stop q) [
+          | inl same ↦ elim (further_one furthest stop at same) [
+            | inl one ↦ inl one
+            | inr one ↦ inr (λ other. next_left n (tried new way) (λ stop. tried_from (place + 1) ways new (further other stop))
+                (here (p ∙ ap (λ (o : Option Stop). Err o) one))
+                (λ stop h. all_keep n (place + 1) ways new (further other stop) (further_right n other stop h)))
+          ]
+          | inr f ↦ inr (λ other. next_right n (tried new way) (λ stop. tried_from (place + 1) ways new (further other stop)) (λ stop. f (further other stop)))
         ]
-        | inr f ↦ inr (λ other. next_right n (form_tried form new) (λ stop. forms_tried forms (further other stop) new) (λ stop. f (further other stop)))
-      ]
 
+-- a text that stops, and one in which each form and each name that stops there goes on
+module _ (old new : List ℕ) (n : ℕ) (at : Stop)
+    (tried : (form : Form) → is_mending form ≡ true → form_tried form old ≡ Err (Some at) → GoesOn n (form_tried form new))
+    (plain : (name : Name) → is_firm name.0 false ≡ true → plain_told name.1 (after_literal name.0 old) ≡ Err (Some at)
+    → GoesOn n (plain_told name.1 (after_literal name.0 new))) where
   -- what is read of a text after what stopped furthest before
   abbrev Stage : Type 0
   Stage = List ℕ → Option Stop → Result Node (Option Stop)
@@ -130,50 +142,30 @@ module _ (old new : List ℕ) (n : ℕ) (at : Stop)
         | inr f ↦ inr (λ found. next_right n (one new found) (two new) f)
       ]
 
+  abbrev in_form : List ℕ → Form → Result Node (Option Stop)
+  in_form text form = form_tried form text
+
+  abbrev by_name : List ℕ → Name → Result Node (Option Stop)
+  by_name text name = plain_told name.1 (after_literal name.0 text)
+
   abbrev in_forms : List Form → Stage
-  in_forms all text furthest = forms_tried all furthest text
+  in_forms all = tried_from in_form 0 all
 
-  abbrev in_names : List Name → Stage
-  in_names names text furthest = names_tried names furthest text
+  abbrev in_names : Stage
+  in_names = tried_from by_name 0 plain_names
 
-  names_keep : (names : List Name) → Keeps (in_names names)
-  names_keep [] stop h = h
-  names_keep (name ∷ names) stop h = next_right n (plain_told name.1 (after_literal name.0 new))
-      (λ last. names_tried names (further stop last) new) (λ last. names_keep names (further stop last) (further_left n stop last h))
+  names_keep : Keeps in_names
+  names_keep stop h = all_keep by_name n 0 plain_names new stop h
 
-  calls_go : ((name : Name) → is_firm name.0 false ≡ true → plain_told name.1 (after_literal name.0 old) ≡ Err (Some at)
-      → GoesOn n (plain_told name.1 (after_literal name.0 new)))
-      → call_tried None old ≡ Err (Some at) → GoesOn n (call_tried None new)
-  calls_go plain e =
-      elim (stages_go (in_forms forms) (after_stage (in_forms pasted_forms) (in_names plain_names)) (forms_go forms table_mends)
-      (stages_keep (in_forms pasted_forms) (in_names plain_names) (λ stop. forms_keep n pasted_forms stop new) (names_keep plain_names))
-      (stages_go (in_forms pasted_forms) (in_names plain_names) (forms_go pasted_forms pasted_mends) (names_keep plain_names) (names_go plain_names refl)) None e) [
+  calls_go : call_tried None old ≡ Err (Some at) → GoesOn n (call_tried None new)
+  calls_go e =
+      elim (stages_go (in_forms forms) (after_stage (in_forms pasted_forms) in_names) (all_go in_form old new n at is_mending tried 0 forms table_mends)
+      (stages_keep (in_forms pasted_forms) in_names (λ stop h. all_keep in_form n 0 pasted_forms new stop h) names_keep)
+      (stages_go (in_forms pasted_forms) in_names (all_go in_form old new n at is_mending tried 0 pasted_forms pasted_mends) names_keep
+      (all_go by_name old new n at (λ (name : Name). is_firm name.0 false) plain 0 plain_names refl)) None e) [
         | inl none ↦ cc
         | inr f ↦ f None
       ]
-    where
-      names_go : (names : List Name) → list_all (λ (name : Name). is_firm name.0 false) names ≡ true → Goes (in_names names)
-      names_go [] firm furthest e = let same : furthest ≡ Some at = cc in inl same
-      names_go (name ∷ names) firm furthest e =
-          let parts = and_parts (is_firm name.0 false) (list_all (λ (name : Name). is_firm name.0 false) names) firm in
-          by (plain_told name.1 (after_literal name.0 old)) refl e (plain name parts.0) (λ stop. names_go names parts.1 (further furthest stop))
-        where
-          by : (r : Result Node (Option Stop)) → plain_told name.1 (after_literal name.0 old) ≡ r
-              → or_next r (λ stop. names_tried names (further furthest stop) old) ≡ Err (Some at)
-              → (plain_told name.1 (after_literal name.0 old) ≡ Err (Some at) → GoesOn n (plain_told name.1 (after_literal name.0 new)))
-              → ((stop : Option Stop) → names_tried names (further furthest stop) old ≡ Err (Some at)
-              → (further furthest stop ≡ Some at) ⊎ ((found : Option Stop) → GoesOn n (names_tried names found new)))
-              → (furthest ≡ Some at) ⊎ ((found : Option Stop) → GoesOn n (names_tried (name ∷ names) found new))
-          by (Ok node) p q here others = cc
-          by (Err stop) p q here others = elim (others stop q) [
-            | inl same ↦ elim (further_one furthest stop at same) [
-              | inl one ↦ inl one
-              | inr one ↦ inr (λ found. next_left n (plain_told name.1 (after_literal name.0 new)) (λ last. names_tried names (further found last) new)
-                  (here (p ∙ ap (λ (o : Option Stop). Err o) one)) (λ last h. names_keep names (further found last) (further_right n found last h)))
-            ]
-            | inr f ↦ inr (λ found. next_right n (plain_told name.1 (after_literal name.0 new)) (λ last. names_tried names (further found last) new)
-                (λ last. f (further found last)))
-          ]
 
 -- a call that tells different nodes stops where a base is expected
 base_alone : (text : List ℕ) (stop : Stop) → ambiguous_stop text ≡ Some stop → stop.expected ≡ Base

@@ -1,7 +1,6 @@
 -- What is read leniently of fields are bytes, as many as the data had.
 use Rattle.std.proofs.Common.{◌≡◌, ℕ, zero, suc, ◌+◌, ◌^◌, ◌<◌, ◌≤◌, Bool, true, false, cond, eqb, ◌&&◌, ◌||◌, List, [], ◌∷◌, ◌++◌, length, drop, refl, sym, ap, subst, ◌∙◌, arith}
 use Rattle.std.specs.Prelude.{All, Option, Some, None, Ok}
-use Rattle.std.specs.Option.{option_map}
 use Rattle.std.specs.List.{list_all}
 use Rattle.std.proofs.Math.ListN.{replicate}
 use Rattle.std.proofs.Math.Seq.{drop-append_seam}
@@ -13,7 +12,8 @@ use Rattle.uefi_node_table.specs.Rows.{Form, Piece, is_within}
 use Rattle.uefi_node_table.specs.declared.rows.Shape.{Shape}
 use Rattle.uefi_node_table.specs.declared.rows.Shape.TheVariants.{Hexadecimal, Decimal, OrDefault, Back, Forth, Dashed, Next, Eisa, Word as WordShape}
 use Rattle.uefi_node_reader.specs.FieldReading.{◌>>=◌, IsValue, as_bytes, less_one, low_bytes}
-use Rattle.uefi_node_reader.specs.LenientFields.{after_ending, any_field, any_number, any_word, expected_field, is_number, left_out, number_or_word, past_base, piece_set, pieces_set, value_or_spare, value_set}
+use Rattle.uefi_node_reader.specs.LenientFields.{after_ending, any_field, any_number, any_word, expected_field, is_number, left_out, number_or_word, past_base, value_or_spare}
+use Rattle.uefi_node_reader.specs.Notations.{lenient, piece_in, pieces_in}
 use Rattle.uefi_node_reader.specs.Stops.{stop_at}
 use Rattle.uefi_node_reader.specs.TableReading.{IsTailTold, blank, first_of, followed, is_read, is_sound, pieces_put, put_at, rest_read, tail_read}
 use Rattle.uefi_node_table.specs.Words.{words_of}
@@ -72,36 +72,27 @@ spare_value shape spare width l f text value rest e = by (is_number shape && eqb
     by false p = any_value shape width f text value rest p
 
 -- fields in their places
-pub pieces_set_bytes : (kind sub_kind n : ℕ) (pieces : List Piece) (content text found rest : List ℕ)
+pub pieces_in_bytes : (kind sub_kind n : ℕ) (pieces : List Piece) (content text found rest : List ℕ)
     → list_all (is_within n) pieces ≡ true → length content ≡ n → All IsByte content
-    → pieces_set kind sub_kind pieces content text ≡ Ok (found, rest)
+    → pieces_in lenient kind sub_kind pieces content text ≡ Ok (found, rest)
     → (length found ≡ n) × All IsByte found
-pieces_set_bytes kind sub_kind n [] content text found rest w l c e =
+pieces_in_bytes kind sub_kind n [] content text found rest w l c e =
     let same : content ≡ found = ap (λ (x : List ℕ × List ℕ). x.0) (ok_same (Ok (found, rest)) (content, text) (found, rest) (sym e) refl) in
     (sym (ap length same) ∙ l, subst (λ (x : List ℕ). All IsByte x) same c)
-pieces_set_bytes kind sub_kind n (p ∷ ps) content text found rest w l c e =
+pieces_in_bytes kind sub_kind n (p ∷ ps) content text found rest w l c e =
     let ws = and_parts (is_within n p) (list_all (is_within n) ps) w in
     let here = within_parts n p ws.0 in
-    let x = bind_ok (piece_set kind sub_kind p content text) _ (found, rest) e in
-    let v = bind_ok (value_set kind sub_kind p content text) _ x.0 x.1 in
+    let x = bind_ok (piece_in lenient kind sub_kind p content text) _ (found, rest) e in
+    let v = bind_ok (lenient.value kind sub_kind p text) _ x.0 x.1 in
     let t = bind_ok (after_ending p.ending v.0.1) _ x.0 v.2 in
-    let read = value_or_spare p.shape (left_out kind sub_kind p.place) p.width text in
-    let put = map_some put read v.0 (ok_some (option_map put read) (stop_at text (expected_field p.shape p.width)) v.0 v.1) in
-    let same : put_at p put.0.0 content ≡ x.0.0 =
-    ap (λ (y : List ℕ × List ℕ). y.0) put.2 ∙ ap (λ (y : List ℕ × List ℕ). y.0) (ok_same (Ok x.0) (v.0.0, t.0) x.0 (sym t.2) refl) in
-    let value = spare_value p.shape (left_out kind sub_kind p.place) p.width (left_small kind sub_kind p.place) here.1 text put.0.0 put.0.1 put.1 in
+    let read = ok_some (value_or_spare p.shape (left_out kind sub_kind p.place) p.width text) (stop_at text (expected_field p.shape p.width)) v.0 v.1 in
+    let same : put_at p v.0.0 content ≡ x.0.0 =
+    ap (λ (y : List ℕ × List ℕ). y.0) (ok_same (Ok x.0) (put_at p v.0.0 content, t.0) x.0 (sym t.2) refl) in
+    let value = spare_value p.shape (left_out kind sub_kind p.place) p.width (left_small kind sub_kind p.place) here.1 text v.0.0 v.0.1 read in
     let long : p.place + p.width ≤ length content = omega (arith, here.0, l) in
-    pieces_set_bytes kind sub_kind n ps x.0.0 x.0.1 found rest ws.1
-    (sym (ap length same) ∙ length-put p put.0.0 content value.0 long ∙ l)
-    (subst (λ (y : List ℕ). All IsByte y) same (put_bytes p put.0.0 content value.1 c)) x.2
-  where
-    put : List ℕ × List ℕ → List ℕ × List ℕ
-    put value = (put_at p value.0 content, value.1)
-
-    map_some : (f : List ℕ × List ℕ → List ℕ × List ℕ) (o : Option (List ℕ × List ℕ)) (y : List ℕ × List ℕ) → option_map f o ≡ Some y
-        → (x : List ℕ × List ℕ) × (o ≡ Some x) × (f x ≡ y)
-    map_some f None y e = cc
-    map_some f (Some x) y e = (x, refl, let same : f x ≡ y = cc in same)
+    pieces_in_bytes kind sub_kind n ps x.0.0 x.0.1 found rest ws.1
+    (sym (ap length same) ∙ length-put p v.0.0 content value.0 long ∙ l)
+    (subst (λ (y : List ℕ). All IsByte y) same (put_bytes p v.0.0 content value.1 c)) x.2
 
 -- what is known of data that were read in a form
 pub record SetIn (form : Form) (content : List ℕ) : Type 0 where
@@ -120,7 +111,7 @@ set_of form head tail size bytes others told =
     }
 
 pub form_set_in : (form : Form) → is_sound form ≡ true → is_read form.mode ≡ true → (text content rest : List ℕ) (head : List ℕ × List ℕ)
-    → pieces_set form.kind form.sub_kind form.pieces (blank form) text ≡ Ok head → rest_read form head ≡ Some (content, rest)
+    → pieces_in lenient form.kind form.sub_kind form.pieces (blank form) text ≡ Ok head → rest_read form head ≡ Some (content, rest)
     → SetIn form content
 form_set_in form s p text content rest h set e =
     let is = sound form p s in
@@ -129,7 +120,7 @@ form_set_in form s p text content rest h set e =
     let f = bind_some (pieces_put form.rest h.0 c.0) (followed x.0.0) (content, rest) c.2 in
     let same = some_pair (f.0.0 ++ x.0.0, f.0.1) (content, rest) f.2 in
     let n : ℕ = length (blank form) in
-    let fields = pieces_set_bytes form.kind form.sub_kind n form.pieces (blank form) text h.0 h.1 is.within refl is.bytes set in
+    let fields = pieces_in_bytes form.kind form.sub_kind n form.pieces (blank form) text h.0 h.1 is.within refl is.bytes set in
     let others = pieces_takes n form.rest h.0 c.0 f.0.0 f.0.1 is.rest_within is.apart.back fields.0 fields.1 f.1 in
     let tail = tail_takes form.tail form.close h.1 x.0.0 x.0.1 x.1 in
     subst (λ (y : List ℕ). SetIn form y) same.0

@@ -1,24 +1,26 @@
 -- What is read leniently is told, and what is read strictly is read so too.
-use Rattle.std.proofs.Common.{◌≡◌, ◌++◌, append_assoc, take, ℕ, suc, ◌+◌, ◌<◌, Bool, true, false, cond, eqb, not, ◌==◌, ◌&&◌, ◌⊎◌, List, [], ◌∷◌, drop, refl, sym, ap, subst, ◌∙◌, inl, inr, arith, true≢false}
+use Rattle.std.proofs.Common.{◌≡◌, ◌++◌, append_assoc, take, ℕ, suc, ◌+◌, ◌<◌, Bool, true, false, cond, eqb, ltb, not, ◌==◌, ◌&&◌, ◌⊎◌, List, [], ◌∷◌, drop, refl, sym, ap, subst, ◌∙◌, inl, inr, arith, true≢false}
 use Rattle.std.specs.Prelude.{IfSome, Option, Some, None, Result, Ok, Err, codes, position}
 use Rattle.std.specs.Char.{to_ascii_uppercase}
 use Rattle.std.specs.List.{list_all, list_any, position_or_len}
 use Rattle.std.specs.Option.{ok_or, option_map, option_or}
 use Rattle.std.specs.Result.{result_map_both}
 use Rattle.std.specs.Str.{chars, is_utf8}
+use borrow.Author.Tests.{ltb-true}
 use Rattle.std.proofs.lemmas.List.{take-append-drop}
 use Rattle.uefi_node_table.specs.Rows.{Form}
 use Rattle.uefi_node_table.specs.Table.{forms}
 use Rattle.uefi_device_nodes.specs.Nodes.{Node, node_with}
 use Rattle.uefi_node_reader.specs.FieldReading.{read_if}
 use Rattle.uefi_device_nodes.specs.NodeTexts.{node_text}
-use Rattle.uefi_node_reader.specs.LenientFields.{after_letter, after_literal, any_number, begins_base, literal_left, past_base, pieces_set}
+use Rattle.uefi_node_reader.specs.LenientFields.{after_letter, after_literal, any_number, begins_base, literal_left, past_base}
 use Rattle.uefi_node_reader.specs.Ambiguous.{ambiguous_stop}
 use Rattle.uefi_node_reader.specs.LenientCalls.{begins_call_name, call_told, call_tried, cut_call, form_told, form_tried, forms_tried, is_textless, named_told, names_tried, plain_names, plain_told, sub_type_told, tidied, told_in, types_told, whole}
 use Rattle.uefi_node_reader.specs.LenientNodes.{call_read, or_short, or_textless, IsRestOf, bare_read, begins_call, call_in, end_fault, ended, ended_at, exact_or, cut_file, fault_at_byte, file_in, file_or_call, lenient_read, name_end, named_read, or_fault, rooted, spaced, stop_fault, written_read}
-use Rattle.uefi_node_reader.specs.Stops.{◌>?◌, further, rest_end, stop_at, stop_of}
+use Rattle.uefi_node_reader.specs.Notations.{head_in, lenient}
+use Rattle.uefi_node_reader.specs.Stops.{◌>?◌, rest_end, stop_at, stop_of}
 use Rattle.uefi_node_reader.specs.NamedFiles.{IsTold, ends_name, is_after_node, is_name, name_bytes, name_data, name_read, node_read, past_spaces}
-use Rattle.uefi_node_reader.specs.TableReading.{blank, is_empty, is_read, is_sound, rest_read}
+use Rattle.uefi_node_reader.specs.TableReading.{is_empty, is_read, is_sound, rest_read}
 use Rattle.uefi_node_table.specs.declared.rows.Mode.{Mode}
 use Rattle.uefi_node_table.specs.declared.rows.Mode.TheVariants.{Read, Printed, Display}
 use Rattle.uefi_node_reader.specs.declared.faults.Expected.TheVariants as expected
@@ -53,13 +55,9 @@ if_read true x node r rest e = let p = some_pair (x, r) (node, rest) e in (refl,
 abbrev ended_row : Form → List ℕ × List ℕ → Result Node Stop
 ended_row form read = ok_or (told_in form (rest_read form read)) (stop_of (rest_end form.tail form.close read.1))
 
-module _ (form : Form) (text after_start : List ℕ) (read : List ℕ × List ℕ)
-    (start : Ok after_start ≡ after_literal form.start text)
-    (fields : Ok read ≡ pieces_set form.kind form.sub_kind form.pieces (blank form) after_start) where
+module _ (form : Form) (text : List ℕ) (read : List ℕ × List ℕ) (fields : Ok read ≡ head_in lenient form text) where
   from_fields : ended_row form read ≡ form_told form text
-  from_fields =
-      ap (λ (r : Result (List ℕ × List ℕ) Stop). r >? ended_row form) fields
-      ∙ ap (λ (r : Result (List ℕ) Stop). r >? pieces_set form.kind form.sub_kind form.pieces (blank form) >? ended_row form) start
+  from_fields = ap (λ (r : Result (List ℕ × List ℕ) Stop). r >? ended_row form) fields
 
   last : Option Node → Result Node Stop
   last o = ok_or o (stop_of (rest_end form.tail form.close read.1))
@@ -76,7 +74,7 @@ module _ (form : Form) (text after_start : List ℕ) (read : List ℕ × List �
 form_is_told : (form : Form) → is_sound form ≡ true → is_read form.mode ≡ true → (text : List ℕ) (node : Node)
     → form_told form text ≡ Ok node → IsTold node
 form_is_told form sound mode text node e =
-    let fields = bind_ok (after_literal form.start text >? pieces_set form.kind form.sub_kind form.pieces (blank form)) _ node e in
+    let fields = bind_ok (head_in lenient form text) _ node e in
     let start = bind_ok (after_literal form.start text) _ fields.0 fields.1 in
     let told = told_as form (rest_read form fields.0) node (ok_some (told_in form (rest_read form fields.0)) _ node fields.2) in
     subst IsTold told.3 (inl (tells_told form (of_form form told.0.0)
@@ -102,7 +100,7 @@ tried_told form sound text node e = by (begins_call_name form.start text) form.m
 forms_told : (all : List Form) → list_all is_sound all ≡ true → (furthest : Option Stop) (text : List ℕ) (node : Node)
     → forms_tried all furthest text ≡ Ok node → IsTold node
 forms_told all sound furthest text node e =
-    all_told (λ form. form_tried form text) (λ form s. tried_told form s text) all sound furthest node e
+    all_told (λ form. form_tried form text) is_sound (λ form s. tried_told form s text) 0 all sound furthest node e
 
 -- a node after which nothing stands
 whole_read : (o : Option (Node × List ℕ)) (node : Node) → whole o ≡ Some node
@@ -129,6 +127,11 @@ types_are_told None small text node rest e =
     let u = bind_some (after (codes ",") k.0.1) _ (node, rest) k.2 in
     sub_type_is_told k.0.0 (number_small 256 text k.0.0 k.0.1 (omega arith) k.1) u.0 node rest u.2
 
+-- the test for a type that a name stands for: a byte
+abbrev is_byte : Option ℕ → Bool
+is_byte None = true
+is_byte (Some n) = ltb n 256
+
 plain_is_told : (kind : Option ℕ) → IfSome kind (λ n. n < 256) → (r : Result (List ℕ) Stop) (node : Node)
     → plain_told kind r ≡ Ok node → IsTold node
 plain_is_told kind small (Err stop) node e = cc
@@ -136,22 +139,14 @@ plain_is_told kind small (Ok rest) node e =
     let read = whole_read (types_told kind rest) node (ok_some (whole (types_told kind rest)) _ node e) in
     types_are_told kind small rest node read.0 read.1
 
--- the types that names stand for are bytes
-abbrev AreSmall : List (List ℕ × Option ℕ) → Type 0
-AreSmall [] = Unit {0}
-AreSmall (name ∷ names) = IfSome name.1 (λ n. n < 256) × AreSmall names
-
-names_are_told : (names : List (List ℕ × Option ℕ)) → AreSmall names → (furthest : Option Stop) (text : List ℕ) (node : Node)
-    → names_tried names furthest text ≡ Ok node → IsTold node
-names_are_told [] small furthest text node e = cc
-names_are_told (name ∷ names) small furthest text node e =
-    elim (next_way (plain_told name.1 (after_literal name.0 text)) _ node e) [
-      | inl p ↦ plain_is_told name.1 small.0 (after_literal name.0 text) node p
-      | inr q ↦ names_are_told names small.1 (further furthest q.0) text node q.1
-    ]
-
-plain_small : AreSmall plain_names
-plain_small = (tt, (omega arith, (omega arith, (omega arith, (omega arith, (omega arith, tt))))))
+names_are_told : (furthest : Option Stop) (text : List ℕ) (node : Node) → names_tried plain_names furthest text ≡ Ok node → IsTold node
+names_are_told furthest text node e =
+    all_told (λ (name : List ℕ × Option ℕ). plain_told name.1 (after_literal name.0 text)) (λ (name : List ℕ × Option ℕ). is_byte name.1)
+    (λ name small. plain_is_told name.1 (byte_type name.1 small) (after_literal name.0 text)) 0 plain_names refl furthest node e
+  where
+    byte_type : (kind : Option ℕ) → is_byte kind ≡ true → IfSome kind (λ n. n < 256)
+    byte_type None small = tt
+    byte_type (Some n) small = ltb-true n 256 small
 
 call_is_told : (o : Option Stop) (text : List ℕ) (node : Node) → call_tried o text ≡ Ok node → IsTold node
 call_is_told (Some stop) text node e = cc
@@ -159,7 +154,7 @@ call_is_told None text node e = elim (next_way (forms_tried forms None text) _ n
   | inl p ↦ forms_told forms table_sound None text node p
   | inr q ↦ elim (next_way (forms_tried pasted_forms q.0 text) _ node q.1) [
     | inl p ↦ forms_told pasted_forms pasted_sound q.0 text node p
-    | inr p ↦ names_are_told plain_names plain_small p.0 text node p.1
+    | inr p ↦ names_are_told p.0 text node p.1
   ]
 ]
 

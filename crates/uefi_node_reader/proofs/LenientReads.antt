@@ -1,77 +1,60 @@
--- Nodes as people write them: a field in its place, and forms of the table one group after the other.
-use Rattle.std.proofs.Common.{◌≡◌, ℕ, ◌+◌, ◌-◌, ◌<◌, ◌≤◌, List, [], ◌∷◌, ◌++◌, length, refl, sym, ap, ◌∙◌, arith}
-use Rattle.std.specs.Prelude.{Option, Some, None, Result, Ok, Err, slice_range}
-use Rattle.std.specs.Option.{ok_or, option_map}
-use Rattle.std.proofs.lemmas.List.Edits.{length-between}
-use borrow.Rule.Slice.PartMut.{put_mid}
-use Rattle.uefi_node_table.specs.Rows.{Form, Piece}
+-- Texts that are tried in one form after the other, one group of forms after the other.
+use Rattle.std.proofs.Common.{◌≡◌, ℕ, suc, ◌+◌, ◌-◌, ◌<◌, List, [], ◌∷◌, ◌++◌, length, refl, sym, ap, ◌∙◌, arith}
+use Rattle.std.specs.Prelude.{Option, Some, None, Result, Ok, Err}
+use Rattle.std.specs.Option.{ok_or}
+use Rattle.std.specs.Result.{result_ok}
+use Rattle.uefi_node_table.specs.Rows.{Form}
 use Rattle.uefi_node_table.specs.Table.{forms_from, group_forms}
 use Rattle.uefi_node_table.proofs.Groups.{next_group}
 use Rattle.uefi_device_nodes.specs.Nodes.{Node}
-use Rattle.uefi_node_reader.specs.LenientFields.{expected_field, left_out, value_or_spare, value_set}
+use Rattle.uefi_node_reader.specs.FieldReading.{either_read}
 use Rattle.uefi_node_reader.specs.LenientCalls.{first_tried, or_next}
-use Rattle.uefi_node_reader.specs.Stops.{further, stop_at}
-use Rattle.uefi_node_reader.specs.TableReading.{put_at}
+use Rattle.uefi_node_reader.specs.Stops.{further}
+use Rattle.uefi_node_reader.specs.TableReading.{form_read, forms_read, kept}
 use Rattle.uefi_node_reader.specs.declared.faults.Stop.{Stop}
 
-abbrev pub found_before : {A : Type 0} → (A → List ℕ) → List ℕ → Option A → Option (List ℕ × List ℕ)
-found_before bytes found left = option_map (λ x. (found, bytes x)) left
+module _ {A : Type 0} where
+  next_assoc : (r : Result A (Option Stop)) (f g : Option Stop → Result A (Option Stop))
+      → or_next r (λ stop. or_next (f stop) g) ≡ or_next (or_next r f) g
+  next_assoc (Ok read) f g = refl
+  next_assoc (Err stop) f g = refl
 
--- a field in its place among data
-module _ {A : Type 0} (bytes : A → List ℕ) (kind sub_kind : ℕ) (p : Piece) (content text found : List ℕ) (spare : ℕ) (left : Option A)
-    (within : p.place + p.width ≤ length content) (is_spare : spare ≡ left_out kind sub_kind p.place)
-    (read : found_before bytes found left
-    ≡ value_or_spare p.shape spare (length (slice_range content p.place (p.place + p.width))) text) where
-  value : value_or_spare p.shape (left_out kind sub_kind p.place) p.width text ≡ found_before bytes found left
-  value =
-      let wide : length (slice_range content p.place (p.place + p.width)) ≡ p.width =
-      length-between content p.place (p.place + p.width) within ∙ omega arith in
-      (λ i. value_or_spare p.shape (sym is_spare i) (sym wide i) text) ∙ sym read
+  module _ (tried : ℕ → Form → Result A (Option Stop)) where
+    tried_append : (place : ℕ) (xs ys : List Form) (furthest : Option Stop)
+        → first_tried tried place (xs ++ ys) furthest ≡ or_next (first_tried tried place xs furthest) (first_tried tried (place + length xs) ys)
+    tried_append place [] ys furthest = ap (λ (n : ℕ). first_tried tried n ys furthest) {x = place} {y = place + 0} (omega arith)
+    tried_append place (x ∷ xs) ys furthest =
+        ap (or_next (tried place x)) (λ i stop. (tried_append (place + 1) xs ys (further furthest stop)
+        ∙ ap (λ (n : ℕ). or_next (first_tried tried (place + 1) xs (further furthest stop)) (first_tried tried n ys))
+        {x = place + 1 + length xs} {y = place + suc (length xs)} (omega arith)) i)
+        ∙ next_assoc (tried place x) (λ stop. first_tried tried (place + 1) xs (further furthest stop)) (first_tried tried (place + suc (length xs)) ys)
 
-  placed : Option (List ℕ × List ℕ) → Result (List ℕ × List ℕ) Stop
-  placed o = ok_or (option_map (λ (v : List ℕ × List ℕ). (put_at p v.0 content, v.1)) o)
-      (stop_at text (expected_field p.shape p.width))
+    -- trying one group more
+    pub tried_step : (index : ℕ) → index < 12 → (group : List Form) → group ≡ group_forms index
+        → (place : ℕ) (furthest : Option Stop) (all : Result A (Option Stop))
+        → first_tried tried place (forms_from index (12 - index)) furthest ≡ all
+        → (here : Result A (Option Stop)) → here ≡ first_tried tried place group furthest
+        → or_next here (first_tried tried (place + length group) (forms_from (index + 1) (12 - (index + 1)))) ≡ all
+    tried_step index more group is place furthest all so_far here e =
+        let others = forms_from (index + 1) (12 - (index + 1)) in
+        ap (λ (r : Result A (Option Stop)). or_next r (first_tried tried (place + length group) others)) e
+        ∙ sym (tried_append place group others furthest)
+        ∙ ap (λ (l : List Form). first_tried tried place l furthest)
+        (ap (λ (l : List Form). l ++ others) is ∙ sym (next_group index more))
+        ∙ so_far
 
-  -- one that was not read
-  pub not_set : left ≡ None → (stop : Stop) → stop ≡ stop_at text (expected_field p.shape p.width)
-      → Err stop ≡ value_set kind sub_kind p content text
-  unfolding placed
-  not_set none stop is =
-      ap (λ (s : Stop). Err s) is ∙ sym (ap placed (value ∙ ap (found_before bytes found) none))
-
-  -- one that was read
-  pub set_in_place : (rest : A) → left ≡ Some rest
-      → Ok (put_mid p.place (p.place + p.width - p.place) content found, bytes rest)
-      ≡ value_set kind sub_kind p content text
-  unfolding placed
-  set_in_place rest some =
-      let size : p.place + p.width - p.place ≡ p.width = omega arith in
-      ap (λ (k : ℕ). Ok (put_mid p.place k content found, bytes rest)) size
-      ∙ sym (ap placed (value ∙ ap (found_before bytes found) some))
-
--- trying one group more
-next_assoc : (r : Result Node (Option Stop)) (f g : Option Stop → Result Node (Option Stop))
-    → or_next r (λ stop. or_next (f stop) g) ≡ or_next (or_next r f) g
-next_assoc (Ok node) f g = refl
-next_assoc (Err stop) f g = refl
-
-module _ (tried : Form → Result Node (Option Stop)) where
-  tried_append : (xs ys : List Form) (furthest : Option Stop)
-      → first_tried tried (xs ++ ys) furthest ≡ or_next (first_tried tried xs furthest) (first_tried tried ys)
-  tried_append [] ys furthest = refl
-  tried_append (x ∷ xs) ys furthest =
-      ap (or_next (tried x)) (λ i stop. tried_append xs ys (further furthest stop) i)
-      ∙ next_assoc (tried x) (λ stop. first_tried tried xs (further furthest stop)) (first_tried tried ys)
-
-  pub tried_step : (index : ℕ) → index < 12 → (group : List Form) → group ≡ group_forms index
-      → (furthest : Option Stop) (all : Result Node (Option Stop))
-      → first_tried tried (forms_from index (12 - index)) furthest ≡ all
-      → (here : Result Node (Option Stop)) → here ≡ first_tried tried group furthest
-      → or_next here (first_tried tried (forms_from (index + 1) (12 - (index + 1)))) ≡ all
-  tried_step index more group is furthest all so_far here e =
-      let others = forms_from (index + 1) (12 - (index + 1)) in
-      ap (λ (r : Result Node (Option Stop)). or_next r (first_tried tried others)) e
-      ∙ sym (tried_append group others furthest)
-      ∙ ap (λ (l : List Form). first_tried tried l furthest)
-      (ap (λ (l : List Form). l ++ others) is ∙ sym (next_group index more))
-      ∙ so_far
+-- forms that are tried exactly
+pub tried_exactly : (all : List Form) (place : ℕ) (group : List Form) (furthest : Option Stop) (text : List ℕ)
+    → result_ok (first_tried (λ place form. ok_or (kept all place form (form_read form text)) None) place group furthest)
+    ≡ forms_read all place group text
+tried_exactly all place [] furthest text = refl
+tried_exactly all place (form ∷ others) furthest text =
+    by (kept all place form (form_read form text)) (tried_exactly all (place + 1) others (further furthest None) text)
+  where
+    by : (o : Option (Node × List ℕ))
+        → result_ok (first_tried (λ place form. ok_or (kept all place form (form_read form text)) None) (place + 1) others (further furthest None))
+        ≡ forms_read all (place + 1) others text
+        → result_ok (or_next (ok_or o None) (λ stop. first_tried (λ place form. ok_or (kept all place form (form_read form text)) None) (place + 1) others (further furthest stop)))
+        ≡ either_read o (forms_read all (place + 1) others text)
+    by None rest = rest
+    by (Some read) rest = refl

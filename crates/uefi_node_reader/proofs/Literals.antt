@@ -2,8 +2,8 @@
 use Rattle.std.proofs.Common.{◌≡◌, ℕ, Bool, true, false, cond, eqb, List, [], ◌∷◌, ◌++◌, refl, sym, ap, ◌∙◌}
 use Rattle.std.proofs.lemmas.Bool.{and_parts}
 use Rattle.std.specs.Prelude.{Option, Some, None, Result, Ok, Err, option_and_then}
-use Rattle.std.specs.Option.{ok_or}
-use Rattle.std.specs.Result.{result_map_both, result_unwrap_or}
+use Rattle.std.specs.Option.{ok_or, option_map}
+use Rattle.std.specs.Result.{result_map_both, result_ok, result_unwrap_or}
 use borrow.Author.Tests.{eq-eqb, eqb-true}
 use Rattle.uefi_node_reader.specs.FieldReading.{◌>>=◌}
 use Rattle.uefi_node_reader.specs.Stops.{◌>?◌}
@@ -30,6 +30,14 @@ pub map_ok : {A B D E : Type 0} (f : A → B) (g : D → E) (r : Result A D) (y 
     → (x : A) × (r ≡ Ok x) × (f x ≡ y)
 map_ok f g (Err stop) y e = cc
 map_ok f g (Ok x) y e = (x, refl, ok_same (Ok y) (f x) y (sym e) refl)
+
+pub read_ok : {A B E : Type 0} (f : A → B) (r : Result A E) (o : Result B E) → result_map_both f (λ (e : E). e) r ≡ o
+    → option_map f (result_ok r) ≡ result_ok o
+read_ok {A} {B} {E} f r o e = by r ∙ ap result_ok e
+  where
+    by : (r : Result A E) → option_map f (result_ok r) ≡ result_ok (result_map_both f (λ (e : E). e) r)
+    by (Ok x) = refl
+    by (Err e) = refl
 
 -- the second step, after what the first read
 pub after_some : {A B : Type 0} (r : Option A) (f : A → Option B) (x : A) → r ≡ Some x → (r >>= f) ≡ f x

@@ -1,36 +1,81 @@
--- A field that is read into its place among data.
-use Rattle.std.proofs.Common.{◌≡◌, ℕ, ◌+◌, ◌-◌, ◌≤◌, List, length, refl, sym, ap, ◌∙◌, arith}
-use Rattle.std.specs.Prelude.{Option, Some, None, option_and_then, slice_range}
-use Rattle.std.specs.Option.{option_map}
-use Rattle.std.proofs.lemmas.List.Edits.{length-between}
+-- A field that is read into its place among data, and what texts exactly as they are printed are read as.
+use Rattle.std.proofs.Common.{◌≡◌, ℕ, ◌+◌, ◌-◌, Bool, true, cond, List, [], ◌∷◌, refl, sym, ap, ◌∙◌, arith}
+use Rattle.std.specs.Prelude.{Option, Some, None, Result, Ok, Err}
+use Rattle.std.specs.Option.{ok_or}
+use Rattle.std.specs.Result.{result_map_both, result_ok}
 use borrow.Rule.Slice.PartMut.{put_mid}
-use Rattle.uefi_node_reader.specs.FieldReading.{field_read}
+use Rattle.uefi_node_table.specs.Rows.{Form, Piece}
+use Rattle.uefi_node_reader.specs.FieldReading.{◌>>=◌, field_read}
+use Rattle.uefi_node_reader.specs.Notations.{Rules, exact, head_in, pieces_in}
+use Rattle.uefi_node_reader.specs.Stops.{◌>?◌}
+use Rattle.uefi_node_reader.specs.TableReading.{blank, form_read, is_read, pieces_put, put_at, rest_read}
 use Rattle.uefi_node_reader.specs.WordReading.{after}
-use Rattle.uefi_node_table.specs.Rows.{Piece}
-use Rattle.uefi_node_reader.specs.TableReading.{put_at}
-use Rattle.uefi_node_reader.specs.TableReading.{piece_put}
-use Rattle.uefi_node_reader.proofs.Literals.{after_some}
 
-pub read_in_place : {A : Type 0} (bytes : A → List ℕ) (p : Piece) (content text found ending : List ℕ) (left : Option A) (rest : A) (end : Option A)
-    → p.place + p.width ≤ length content
-    → option_map (λ (x : A). (found, bytes x)) left ≡ field_read p.shape (length (slice_range content p.place (p.place + p.width))) text
-    → left ≡ Some rest → ending ≡ p.ending → option_map (λ (x : A). bytes x) end ≡ after ending (bytes rest)
-    → option_map (λ (x : A). (put_mid p.place (p.place + p.width - p.place) content found, bytes x)) end ≡ piece_put p content text
-read_in_place {A} bytes p content text found ending left rest end l e w same a =
-    let wide : length (slice_range content p.place (p.place + p.width)) ≡ p.width = length-between content p.place (p.place + p.width) l ∙ omega arith in
-    let size : p.place + p.width - p.place ≡ p.width = omega arith in
-    let read : field_read p.shape p.width text ≡ Some (found, (bytes rest)) = ap (λ (k : ℕ). field_read p.shape k text) (sym wide) ∙ sym e
-    ∙ ap (λ (o : Option A). option_map (λ (x : A). (found, bytes x)) o) w in
-    ap (λ (k : ℕ). option_map (λ (x : A). (put_mid p.place k content found, bytes x)) end) size
-    ∙ by end ∙ ap go (a ∙ ap (λ (y : List ℕ). after y (bytes rest)) same)
-    ∙ sym (after_some _ from_value (found, (bytes rest)) read)
+module _ {E A : Type 0} (bytes : A → List ℕ) where
+  -- data that was read, and the rest of the text
+  abbrev pub with_data : List ℕ → Result A E → Result (List ℕ × List ℕ) E
+  with_data found r = result_map_both (λ x. (found, bytes x)) (λ e. e) r
+
+  -- the ending of a field that was read
+  pub read_in_place : (rules : Rules E) (p : Piece) (content found : List ℕ) (value : Result (List ℕ × List ℕ) E) (left : Result A E) (rest : A)
+      (end : Result A E) (ending : List ℕ)
+      → with_data found left ≡ value → left ≡ Ok rest → ending ≡ p.ending
+      → result_map_both bytes (λ (e : E). e) end ≡ rules.ending ending (bytes rest)
+      → with_data (put_mid p.place (p.place + p.width - p.place) content found) end
+      ≡ (value >? λ v. rules.ending p.ending v.1 >? λ r. Ok (put_at p v.0 content, r))
+  read_in_place rules p content found value left rest end ending e w same a =
+      let size : p.place + p.width - p.place ≡ p.width = omega arith in
+      ap (λ (k : ℕ). with_data (put_mid p.place k content found) end) size
+      ∙ by end ∙ ap go (a ∙ ap (λ (l : List ℕ). rules.ending l (bytes rest)) same)
+      ∙ ap next (ap (with_data found) (sym w) ∙ e)
+    where
+      go : Result (List ℕ) E → Result (List ℕ × List ℕ) E
+      go r = r >? λ rest. Ok (put_at p found content, rest)
+
+      next : Result (List ℕ × List ℕ) E → Result (List ℕ × List ℕ) E
+      next r = r >? λ v. rules.ending p.ending v.1 >? λ r. Ok (put_at p v.0 content, r)
+
+      by : (r : Result A E) → with_data (put_mid p.place p.width content found) r ≡ go (result_map_both bytes (λ (e : E). e) r)
+      by (Ok x) = refl
+      by (Err e) = refl
+
+-- fields that are read exactly
+pub pieces_exact : (kind sub_kind : ℕ) (pieces : List Piece) (content text : List ℕ)
+    → result_ok (pieces_in exact kind sub_kind pieces content text) ≡ pieces_put pieces content text
+pieces_exact kind sub_kind [] content text = refl
+pieces_exact kind sub_kind (p ∷ ps) content text = by (pieces_exact kind sub_kind ps) (field_read p.shape p.width text)
   where
-    go : Option (List ℕ) → Option (List ℕ × List ℕ)
-    go o = option_and_then (λ (r : List ℕ). Some (put_at p found content, r)) o
+    Others : Type 0
+    Others = (content text : List ℕ) → result_ok (pieces_in exact kind sub_kind ps content text) ≡ pieces_put ps content text
 
-    from_value : List ℕ × List ℕ → Option (List ℕ × List ℕ)
-    from_value v = option_and_then (λ (r : List ℕ). Some (put_at p v.0 content, r)) (after p.ending v.1)
+    ok : List ℕ → List ℕ → Result (List ℕ × List ℕ) (Unit {0})
+    ok put rest = Ok (put, rest)
 
-    by : (o : Option A) → option_map (λ (x : A). (put_mid p.place p.width content found, bytes x)) o ≡ go (option_map (λ (x : A). bytes x) o)
+    some : List ℕ → List ℕ → Option (List ℕ × List ℕ)
+    some put rest = Some (put, rest)
+
+    ends : Others → (put : List ℕ) (o : Option (List ℕ))
+        → result_ok ((ok_or o tt >? λ rest. ok put rest) >? λ read. pieces_in exact kind sub_kind ps read.0 read.1)
+        ≡ ((o >>= λ rest. some put rest) >>= λ read. pieces_put ps read.0 read.1)
+    ends others put None = refl
+    ends others put (Some rest) = others put rest
+
+    by : Others → (o : Option (List ℕ × List ℕ))
+        → result_ok ((ok_or o tt >? λ value. ok_or (after p.ending value.1) tt >? λ rest. ok (put_at p value.0 content) rest)
+        >? λ read. pieces_in exact kind sub_kind ps read.0 read.1)
+        ≡ ((o >>= λ value. after p.ending value.1 >>= λ rest. some (put_at p value.0 content) rest) >>= λ read. pieces_put ps read.0 read.1)
+    by others None = refl
+    by others (Some value) = ends others (put_at p value.0 content) (after p.ending value.1)
+
+-- a node of a form that is read exactly
+pub form_exact : (form : Form) (text : List ℕ) → is_read form.mode ≡ true
+    → (result_ok (head_in exact form text) >>= rest_read form) ≡ form_read form text
+form_exact form text mode = by (after form.start text) ∙ sym (ap (λ (b : Bool). cond b (after form.start text >>= fields) None) mode)
+  where
+    fields : List ℕ → Option (List ℕ × List ℕ)
+    fields t = pieces_put form.pieces (blank form) t >>= rest_read form
+
+    by : (o : Option (List ℕ)) → (result_ok (ok_or o tt >? pieces_in exact form.kind form.sub_kind form.pieces (blank form)) >>= rest_read form)
+        ≡ (o >>= fields)
     by None = refl
-    by (Some x) = refl
+    by (Some rest) = ap (λ (o : Option (List ℕ × List ℕ)). o >>= rest_read form) (pieces_exact form.kind form.sub_kind form.pieces (blank form) rest)

@@ -16,18 +16,19 @@ use Rattle.uefi_node_table.specs.declared.rows.Tail.TheVariants.{Ids}
 use Rattle.uefi_device_nodes.specs.Nodes.{Node}
 use Rattle.uefi_node_reader.specs.FieldReading.{clear_run, is_clear}
 use Rattle.uefi_node_reader.specs.LenientCalls.{begins_call_name, first_tried, told_in}
-use Rattle.uefi_node_reader.specs.LenientFields.{after_ending, after_literal, pieces_set}
+use Rattle.uefi_node_reader.specs.LenientFields.{after_ending, after_literal}
 use Rattle.uefi_node_reader.specs.NamedFiles.{IsTold}
 use Rattle.uefi_node_reader.specs.OtherForms.{pasted_forms}
 use Rattle.uefi_node_reader.specs.ParsedNodes.{fitting}
+use Rattle.uefi_node_reader.specs.Notations.{head_in, lenient, pieces_in}
 use Rattle.uefi_node_reader.specs.Stops.{◌>?◌, past, stop_at}
 use Rattle.uefi_node_reader.specs.TableReading.{IsTailTold, as_ids, blank, first_of, is_empty, is_read, is_sound, tail_read}
-use Rattle.uefi_node_reader.specs.TextCalls.{call_left, head_set, holds_ids, holds_text, left_of, or_commas, stop_before, text_call_told, text_stop, text_told, text_tried, texts_tried, uid_call_told, uid_told, uid_tried}
+use Rattle.uefi_node_reader.specs.TextCalls.{call_left, holds_ids, holds_text, left_of, or_commas, stop_before, text_call_told, text_stop, text_told, text_tried, texts_tried, uid_call_told, uid_told, uid_tried}
 use Rattle.uefi_node_reader.specs.declared.faults.Expected.TheVariants as expected
 use Rattle.uefi_node_reader.specs.declared.faults.Stop.{Stop}
 use Rattle.uefi_node_reader.proofs.ClearTexts.{clear_bytes, clear_takes}
 use Rattle.uefi_node_reader.proofs.Groups.{table_sound}
-use Rattle.uefi_node_reader.proofs.LenientFields.{SetIn, pieces_set_bytes, set_of}
+use Rattle.uefi_node_reader.proofs.LenientFields.{SetIn, pieces_in_bytes, set_of}
 use Rattle.uefi_node_reader.proofs.Literals.{bind_ok, map_ok, ok_some}
 use Rattle.uefi_node_reader.proofs.OtherForms.{pasted_sound}
 use Rattle.uefi_node_reader.proofs.TableLaws.{Sound, sound}
@@ -35,15 +36,7 @@ use Rattle.uefi_node_reader.proofs.TailLaws.{tail_takes}
 use Rattle.uefi_node_reader.proofs.ToldForms.{all_told, next_way, of_form, told_as, told_in-fitting}
 use Rattle.uefi_node_reader.proofs.ToldNodes.{tells_told}
 
--- data that fit a node, and others
-pub fit : (found content rest : List ℕ) → ◌≡◌ {A = Option (List ℕ)} (Some found) (option_map (λ (x : List ℕ × List ℕ). x.0) (fitting (Some (content, rest))))
-    → found ≡ content
-fit found content rest e = by (leb (length content) 0xfffb) e
-  where
-    by : (b : Bool) → ◌≡◌ {A = Option (List ℕ)} (Some found) (option_map (λ (x : List ℕ × List ℕ). x.0) (cond b (Some (content, rest)) None)) → found ≡ content
-    by true p = cc
-    by false p = cc
-
+-- data that do not fit a node
 pub unfit : (form : Form) (content rest other : List ℕ) → None ≡ option_map (λ (x : List ℕ × List ℕ). x.0) (fitting (Some (content, rest)))
     → None ≡ told_in form (Some (content, other))
 unfit form content rest other e = by (leb (length content) 0xfffb) refl e
@@ -64,7 +57,7 @@ module _ (form : Form) (fixed text call : List ℕ) where
   after_pieces content all = ok_or (told_in form (Some (all.0 ++ content, all.1))) (stop_at all.1 expected.Untold)
 
   abbrev after_tail : List ℕ × List ℕ → Result Node Stop
-  after_tail tail = after_ending form.close (call_left call tail.1) >? pieces_set form.kind form.sub_kind form.rest fixed >? after_pieces tail.0
+  after_tail tail = after_ending form.close (call_left call tail.1) >? pieces_in lenient form.kind form.sub_kind form.rest fixed >? after_pieces tail.0
 
   -- in the text
   pub text_unread : (stop : Stop) → Err stop ≡ ok_or (past (tail_read form.tail form.close text)) (text_stop form.tail text)
@@ -81,42 +74,29 @@ module _ (form : Form) (fixed text call : List ℕ) where
     -- at its end
     pub end_unread : (stop : Stop) → Err stop ≡ after_ending form.close (call_left call tail.1) → Err stop ≡ text_told form fixed text call
     end_unread stop e =
-        ap (λ (r : Result (List ℕ) Stop). r >? pieces_set form.kind form.sub_kind form.rest fixed >? after_pieces tail.0) e
+        ap (λ (r : Result (List ℕ) Stop). r >? pieces_in lenient form.kind form.sub_kind form.rest fixed >? after_pieces tail.0) e
         ∙ ap (λ (o : Option (List ℕ × List ℕ)). ok_or o (text_stop form.tail text) >? after_tail) (sym read)
 
     -- in the fields after it
     pub fields_unread : (rest : List ℕ) (stop : Stop) → Ok rest ≡ after_ending form.close (call_left call tail.1)
-        → Err stop ≡ pieces_set form.kind form.sub_kind form.rest fixed rest → Err stop ≡ text_told form fixed text call
+        → Err stop ≡ pieces_in lenient form.kind form.sub_kind form.rest fixed rest → Err stop ≡ text_told form fixed text call
     fields_unread rest stop start e =
         ap (λ (r : Result (List ℕ × List ℕ) Stop). r >? after_pieces tail.0) e
-        ∙ ap (λ (r : Result (List ℕ) Stop). r >? pieces_set form.kind form.sub_kind form.rest fixed >? after_pieces tail.0) start
+        ∙ ap (λ (r : Result (List ℕ) Stop). r >? pieces_in lenient form.kind form.sub_kind form.rest fixed >? after_pieces tail.0) start
         ∙ ap (λ (o : Option (List ℕ × List ℕ)). ok_or o (text_stop form.tail text) >? after_tail) (sym read)
 
 -- a node of a form, by its text and what follows
 module _ (form : Form) (fixed text call : List ℕ) (tail : List ℕ × List ℕ) (read : tail_read form.tail form.close text ≡ Some tail)
     (rest : List ℕ) (start : Ok rest ≡ after_ending form.close (call_left call tail.1)) (all : List ℕ × List ℕ)
-    (set : Ok all ≡ pieces_set form.kind form.sub_kind form.rest fixed rest) where
-  last : Option Node → Result Node Stop
-  last o = ok_or o (stop_at all.1 expected.Untold)
-
-  from_text : last (told_in form (Some (all.0 ++ tail.0, all.1))) ≡ text_told form fixed text call
-  unfolding last
+    (set : Ok all ≡ pieces_in lenient form.kind form.sub_kind form.rest fixed rest) where
+  pub from_text : ok_or (told_in form (Some (all.0 ++ tail.0, all.1))) (stop_at all.1 expected.Untold) ≡ text_told form fixed text call
   from_text =
       ap (λ (r : Result (List ℕ × List ℕ) Stop). r >? λ x. ok_or (told_in form (Some (x.0 ++ tail.0, x.1))) (stop_at x.1 expected.Untold)) set
-      ∙ ap (λ (r : Result (List ℕ) Stop). r >? pieces_set form.kind form.sub_kind form.rest fixed
+      ∙ ap (λ (r : Result (List ℕ) Stop). r >? pieces_in lenient form.kind form.sub_kind form.rest fixed
       >? λ x. ok_or (told_in form (Some (x.0 ++ tail.0, x.1))) (stop_at x.1 expected.Untold)) start
       ∙ ap (λ (o : Option (List ℕ × List ℕ)). ok_or o (text_stop form.tail text) >? λ y. after_ending form.close (call_left call y.1)
-      >? pieces_set form.kind form.sub_kind form.rest fixed
+      >? pieces_in lenient form.kind form.sub_kind form.rest fixed
       >? λ x. ok_or (told_in form (Some (x.0 ++ y.0, x.1))) (stop_at x.1 expected.Untold)) (sym read)
-
-  pub text_by : (node : Node) → Some node ≡ told_in form (Some (all.0 ++ tail.0, all.1)) → Ok node ≡ text_told form fixed text call
-  unfolding last
-  text_by node told = ap last told ∙ from_text
-
-  pub not_text_by : (stop : Stop) → None ≡ told_in form (Some (all.0 ++ tail.0, all.1)) → stop ≡ stop_at all.1 expected.Untold
-      → Err stop ≡ text_told form fixed text call
-  unfolding last
-  not_text_by stop told is = ap (λ (s : Stop). Err s) is ∙ ap last told ∙ from_text
 
 -- a node with these data, which its text tells
 told_set : (form : Form) (content rest : List ℕ) (node : Node) → SetIn form content
@@ -141,21 +121,21 @@ module _ (form : Form) (mode : is_read form.mode ≡ true) (is_sound_form : is_s
       let read = ok_some (tail_read form.tail form.close text) (text_stop form.tail text) tail.0 tail.1 in
       let all = bind_ok _ _ node tail.2 in
       let start = bind_ok (after_ending form.close (call_left call tail.0.1)) _ all.0 all.1 in
-      let set = pieces_set_bytes form.kind form.sub_kind (length (blank form)) form.rest fixed start.0 all.0.0 all.0.1 is.rest_within size bytes start.2 in
+      let set = pieces_in_bytes form.kind form.sub_kind (length (blank form)) form.rest fixed start.0 all.0.0 all.0.1 is.rest_within size bytes start.2 in
       let told = tail_takes form.tail form.close text tail.0.0 tail.0.1 read in
       told_set form (all.0.0 ++ tail.0.0) all.0.1 node
       (set_of form all.0.0 tail.0.0 (set.0 ∙ is.size) set.1 told.1 told.2)
       (ok_some (told_in form (Some (all.0.0 ++ tail.0.0, all.0.1))) _ node all.2)
 
-  head_bytes : (call : List ℕ) (head : List ℕ × List ℕ) → head_set form call ≡ Ok head
+  head_bytes : (call : List ℕ) (head : List ℕ × List ℕ) → head_in lenient form call ≡ Ok head
       → (length head.0 ≡ length (blank form)) × All IsByte head.0
   head_bytes call head e =
       let start = bind_ok (after_literal form.start call) _ head e in
-      pieces_set_bytes form.kind form.sub_kind (length (blank form)) form.pieces (blank form) start.0 head.0 head.1 is.within refl is.bytes start.2
+      pieces_in_bytes form.kind form.sub_kind (length (blank form)) form.pieces (blank form) start.0 head.0 head.1 is.within refl is.bytes start.2
 
   text_call_is_told : (front call : List ℕ) (node : Node) → text_call_told form front call ≡ Ok node → IsTold node
   text_call_is_told front call node e =
-      let head = bind_ok (head_set form call) _ node e in
+      let head = bind_ok (head_in lenient form call) _ node e in
       let set = head_bytes call head.0 head.1 in
       text_is_told head.0.0 (or_commas form.tail (left_of front call head.0.1)) call node set.0 set.1 head.2
 
@@ -184,7 +164,7 @@ module _ (form : Form) (mode : is_read form.mode ≡ true) (is_sound_form : is_s
 
   uid_call_is_told : form.tail ≡ Ids → (front call : List ℕ) (node : Node) → uid_call_told form front call ≡ Ok node → IsTold node
   uid_call_is_told ids front call node e =
-      let head = bind_ok (head_set form call) _ node e in
+      let head = bind_ok (head_in lenient form call) _ node e in
       let set = head_bytes call head.0 head.1 in
       uid_is_told ids head.0.0 (left_of front call head.0.1) node set.0 set.1 head.2
 
@@ -219,7 +199,7 @@ uid_tried_told front call form s node e =
     uid_call_is_told form ids.0 s ids.1 front call node way.1
 
 pub texts_told : (front call : List ℕ) (node : Node) → texts_tried front call ≡ Ok node → IsTold node
-texts_told front call node e = elim (next_way (first_tried (text_tried front call) forms None) _ node e) [
-  | inl p ↦ all_told (text_tried front call) (text_tried_told front call) forms table_sound None node p
-  | inr p ↦ all_told (uid_tried front call) (uid_tried_told front call) pasted_forms pasted_sound p.0 node p.1
+texts_told front call node e = elim (next_way (first_tried (λ place. text_tried front call) 0 forms None) _ node e) [
+  | inl p ↦ all_told (text_tried front call) is_sound (text_tried_told front call) 0 forms table_sound None node p
+  | inr p ↦ all_told (uid_tried front call) is_sound (uid_tried_told front call) 0 pasted_forms pasted_sound p.0 node p.1
 ]

@@ -1,5 +1,5 @@
 -- A node that was read in a form, and that its text tells; and forms that are tried one after the other.
-use Rattle.std.proofs.Common.{◌≡◌, Bool, true, false, cond, leb, ◌&&◌, ◌⊎◌, List, [], ◌∷◌, ℕ, length, refl, sym, ap, ◌∙◌, inl, inr}
+use Rattle.std.proofs.Common.{◌≡◌, Bool, true, false, cond, leb, ◌&&◌, ◌⊎◌, List, [], ◌∷◌, ℕ, ◌+◌, length, refl, sym, ap, ◌∙◌, inl, inr}
 use Rattle.std.specs.Prelude.{Option, Some, None, Result, Ok, Err}
 use Rattle.std.specs.List.{list_all}
 use Rattle.std.proofs.lemmas.Bool.{and_parts}
@@ -11,7 +11,7 @@ use Rattle.uefi_node_reader.specs.LenientCalls.{first_tried, or_next, told_in}
 use Rattle.uefi_node_reader.specs.NamedFiles.{IsTold}
 use Rattle.uefi_node_reader.specs.ParsedNodes.{fitting}
 use Rattle.uefi_node_reader.specs.Stops.{further}
-use Rattle.uefi_node_reader.specs.TableReading.{is_empty, is_sound, prints}
+use Rattle.uefi_node_reader.specs.TableReading.{is_empty, prints}
 use Rattle.uefi_node_reader.specs.declared.faults.Stop.{Stop}
 
 -- the test for an empty text
@@ -58,15 +58,15 @@ pub next_way : (r : Result Node (Option Stop)) (next : Option Stop → Result No
 next_way (Ok x) next node e = inl e
 next_way (Err stop) next node e = inr (stop, e)
 
--- what is read in one of these forms is told, if what is read in each is
-module _ (tried : Form → Result Node (Option Stop))
-    (told : (form : Form) → is_sound form ≡ true → (node : Node) → tried form ≡ Ok node → IsTold node) where
-  pub all_told : (all : List Form) → list_all is_sound all ≡ true → (furthest : Option Stop) (node : Node)
-      → first_tried tried all furthest ≡ Ok node → IsTold node
-  all_told [] sound furthest node e = cc
-  all_told (form ∷ others) sound furthest node e =
-      let sounds = and_parts (is_sound form) (list_all is_sound others) sound in
-      elim (next_way (tried form) (λ stop. first_tried tried others (further furthest stop)) node e) [
-        | inl p ↦ told form sounds.0 node p
-        | inr p ↦ all_told others sounds.1 (further furthest p.0) node p.1
+-- what is read in one of these ways is told, if what is read in each is
+module _ {W : Type 0} (tried : W → Result Node (Option Stop)) (test : W → Bool)
+    (told : (way : W) → test way ≡ true → (node : Node) → tried way ≡ Ok node → IsTold node) where
+  pub all_told : (place : ℕ) (all : List W) → list_all test all ≡ true → (furthest : Option Stop) (node : Node)
+      → first_tried (λ place. tried) place all furthest ≡ Ok node → IsTold node
+  all_told place [] tests furthest node e = cc
+  all_told place (way ∷ others) tests furthest node e =
+      let parts = and_parts (test way) (list_all test others) tests in
+      elim (next_way (tried way) (λ stop. first_tried (λ place. tried) (place + 1) others (further furthest stop)) node e) [
+        | inl p ↦ told way parts.0 node p
+        | inr p ↦ all_told (place + 1) others parts.1 (further furthest p.0) node p.1
       ]

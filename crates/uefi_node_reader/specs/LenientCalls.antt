@@ -12,11 +12,12 @@ use Rattle.uefi_node_table.specs.declared.rows.Tail.TheVariants.{Nothing, Bytes,
 use Rattle.uefi_device_nodes.specs.Nodes.{Node, node_with}
 use Rattle.uefi_node_reader.specs.Ambiguous.{ambiguous_stop}
 use Rattle.uefi_node_reader.specs.FieldReading.{◌>>=◌}
-use Rattle.uefi_node_reader.specs.LenientFields.{after_literal, any_number, pieces_set}
+use Rattle.uefi_node_reader.specs.LenientFields.{after_literal, any_number}
 use Rattle.uefi_node_reader.specs.OtherForms.{pasted_forms}
 use Rattle.uefi_node_reader.specs.PlainNodes.{plain_rest}
+use Rattle.uefi_node_reader.specs.Notations.{head_in, lenient}
 use Rattle.uefi_node_reader.specs.Stops.{◌>?◌, exact_end, further, past, rest_end, stop_at, stop_of}
-use Rattle.uefi_node_reader.specs.TableReading.{blank, is_empty, rest_read}
+use Rattle.uefi_node_reader.specs.TableReading.{is_empty, rest_read}
 use Rattle.uefi_node_reader.specs.CompleteTexts.{tells}
 use Rattle.uefi_node_reader.specs.WordReading.{after}
 use Rattle.uefi_node_reader.specs.declared.faults.Expected.TheVariants as expected
@@ -70,8 +71,7 @@ told_in form (Some read) = if is_empty read.1 && tells form (node_with form.kind
 
 -- the node of a form, from its tidied text, or where that stops
 abbrev pub form_told : Form → List ℕ → Result Node Stop
-form_told form text = after_literal form.start text
-    >? pieces_set form.kind form.sub_kind form.pieces (blank form)
+form_told form text = head_in lenient form text
     >? λ read. ok_or (told_in form (rest_read form read)) (stop_of (rest_end form.tail form.close read.1))
 
 -- whether a text begins with the name of a call, up to its `(`, in either case
@@ -93,23 +93,23 @@ named_told Display form text = Err None
 abbrev pub form_tried : Form → List ℕ → Result Node (Option Stop)
 form_tried form text = if begins_call_name form.start text then named_told form.mode form text else Err None
 
--- the node that was read, or else the next reading, given where the first stopped
-abbrev pub or_next : Result Node (Option Stop) → (Option Stop → Result Node (Option Stop))
-    → Result Node (Option Stop)
-or_next (Ok node) next = Ok node
+-- what was read, or else the next reading, given where the first stopped
+abbrev pub or_next : {A : Type 0} → Result A (Option Stop) → (Option Stop → Result A (Option Stop))
+    → Result A (Option Stop)
+or_next (Ok read) next = Ok read
 or_next (Err stop) next = next stop
 
--- the node of a call in the first form that can be read, or else where the call stops in the form that was
--- read furthest, at least `furthest`
-abbrev pub first_tried : (Form → Result Node (Option Stop)) → List Form → Option Stop
-    → Result Node (Option Stop)
-first_tried tried [] furthest = Err furthest
-first_tried tried (form ∷ forms) furthest =
-    or_next (tried form) (λ stop. first_tried tried forms (further furthest stop))
+-- the first reading of a text that succeeds, in one of these ways, which have the indices from `place` on; or
+-- else where the text stops in the way in which it was read furthest, at least `furthest`
+abbrev pub first_tried : {W A : Type 0} → (ℕ → W → Result A (Option Stop)) → ℕ → List W → Option Stop
+    → Result A (Option Stop)
+first_tried tried place [] furthest = Err furthest
+first_tried tried place (way ∷ ways) furthest =
+    or_next (tried place way) (λ stop. first_tried tried (place + 1) ways (further furthest stop))
 
 -- the node of a tidied text in the first form that can be read, or where the text stops
 abbrev pub forms_tried : List Form → Option Stop → List ℕ → Result Node (Option Stop)
-forms_tried forms furthest text = first_tried (λ form. form_tried form text) forms furthest
+forms_tried forms furthest text = first_tried (λ place form. form_tried form text) 0 forms furthest
 
 -- the node that was read, if nothing is left of the text
 abbrev pub whole : Option (Node × List ℕ) → Option Node
@@ -151,10 +151,8 @@ plain_told kind (Ok rest) = ok_or (whole (types_told kind rest)) (Some (stop_of 
 -- the node of a tidied text that begins with one of these names, or else where the text stops, at least
 -- `furthest`
 abbrev pub names_tried : List (List ℕ × Option ℕ) → Option Stop → List ℕ → Result Node (Option Stop)
-names_tried [] furthest text = Err furthest
-names_tried (name ∷ names) furthest text =
-    or_next (plain_told name.1 (after_literal name.0 text))
-    (λ stop. names_tried names (further furthest stop) text)
+names_tried names furthest text =
+    first_tried (λ place name. plain_told name.1 (after_literal name.0 text)) 0 names furthest
 
 -- the node of a tidied text, in a form of the table, in a form that people paste, or of no known kind, or
 -- where the text stops; a call that becomes ambiguous stops there

@@ -1,11 +1,10 @@
 -- Fields of nodes as people write them: in either case, with numbers in either base, and without the last
 -- ones.
 use Rattle.std.specs.Prelude.{ℕ, ◌-◌, ◌*◌, ◌^◌, Bool, true, false, ◌==◌, ◌&&◌, ◌||◌, if◌then◌else◌, List, [], ◌∷◌, codes, Option, Some, None, Result, Ok}
-use Rattle.std.specs.Option.{ok_or, option_map}
+use Rattle.std.specs.Option.{ok_or}
 use Rattle.std.specs.Result.{is_ok, result_ok}
 use Rattle.std.proofs.Math.ListN.{replicate}
 use Rattle.std.specs.Char.{to_ascii_uppercase}
-use Rattle.uefi_node_table.specs.Rows.{Piece}
 use Rattle.uefi_node_table.specs.declared.rows.Shape.{Shape}
 use Rattle.uefi_node_table.specs.declared.rows.Shape.TheVariants.{Hexadecimal, Decimal, OrDefault, Back, Forth, Dashed, Next, Eisa, Word}
 use Rattle.uefi_node_table.specs.declared.words.Words.{Words}
@@ -15,7 +14,7 @@ use Rattle.uefi_node_table.specs.Words.{words_of}
 use Rattle.uefi_node_reader.specs.FieldReading.{◌>>=◌, as_bytes, field_read, less_one}
 use Rattle.uefi_node_reader.specs.Numerals.{digits_after, has_digit}
 use Rattle.uefi_node_reader.specs.Stops.{◌>?◌, stop_at}
-use Rattle.uefi_node_reader.specs.TableReading.{first_of, is_empty, put_at}
+use Rattle.uefi_node_reader.specs.TableReading.{first_of, is_empty}
 use Rattle.uefi_node_reader.specs.WordReading.{after, or_word}
 use Rattle.uefi_node_reader.specs.declared.faults.Expected.{Expected}
 use Rattle.uefi_node_reader.specs.declared.faults.Expected.TheVariants as expected
@@ -118,24 +117,3 @@ expected_field Dashed width = expected.DashedDigits (width * 2)
 expected_field Next width = expected.NumberFromOne 256
 expected_field Eisa width = expected.Id
 expected_field (Word list) width = expected_word list
-
--- the data of a node of a kind with a field from a text, and the rest of the text, or where the text stops
-abbrev pub value_set : ℕ → ℕ → Piece → List ℕ → List ℕ → Result (List ℕ × List ℕ) Stop
-value_set kind sub_kind piece content text =
-    ok_or (option_map (λ value. (put_at piece value.0 content, value.1))
-    (value_or_spare piece.shape (left_out kind sub_kind piece.place) piece.width text))
-    (stop_at text (expected_field piece.shape piece.width))
-
--- the data with a field from a text, and the rest of the text after the field's ending, or where the text
--- stops
-abbrev pub piece_set : ℕ → ℕ → Piece → List ℕ → List ℕ → Result (List ℕ × List ℕ) Stop
-piece_set kind sub_kind piece content text = value_set kind sub_kind piece content text
-    >? λ set. after_ending piece.ending set.1
-    >? λ rest. Ok (set.0, rest)
-
--- the data with several fields from a text, and the rest of the text after their endings, or where the text
--- stops
-abbrev pub pieces_set : ℕ → ℕ → List Piece → List ℕ → List ℕ → Result (List ℕ × List ℕ) Stop
-pieces_set kind sub_kind [] content text = Ok (content, text)
-pieces_set kind sub_kind (piece ∷ pieces) content text =
-    piece_set kind sub_kind piece content text >? λ read. pieces_set kind sub_kind pieces read.0 read.1

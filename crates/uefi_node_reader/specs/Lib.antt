@@ -8,6 +8,7 @@ pub mod NamedFiles
 pub mod Laws
 pub mod Stops
 pub mod LenientFields
+pub mod Notations
 pub mod CompleteTexts
 pub mod OtherForms
 pub mod ShortAddresses

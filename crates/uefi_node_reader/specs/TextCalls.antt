@@ -11,10 +11,11 @@ use Rattle.uefi_node_table.specs.declared.rows.Tail.TheVariants.{Ids, Padded}
 use Rattle.uefi_device_nodes.specs.Nodes.{Node}
 use Rattle.uefi_node_reader.specs.FieldReading.{clear_run}
 use Rattle.uefi_node_reader.specs.LenientCalls.{begins_call_name, first_tried, is_textless, or_next, place_at, tidied, told_in}
-use Rattle.uefi_node_reader.specs.LenientFields.{after_ending, after_literal, pieces_set}
+use Rattle.uefi_node_reader.specs.LenientFields.{after_ending}
 use Rattle.uefi_node_reader.specs.OtherForms.{pasted_forms}
+use Rattle.uefi_node_reader.specs.Notations.{head_in, lenient, pieces_in}
 use Rattle.uefi_node_reader.specs.Stops.{◌>?◌, stop_at}
-use Rattle.uefi_node_reader.specs.TableReading.{as_ids, blank, first_of, is_empty, tail_read}
+use Rattle.uefi_node_reader.specs.TableReading.{as_ids, first_of, is_empty, tail_read}
 use Rattle.uefi_node_reader.specs.declared.faults.Expected.{Expected}
 use Rattle.uefi_node_reader.specs.declared.faults.Expected.TheVariants as expected
 use Rattle.uefi_node_reader.specs.declared.faults.Stop.{Stop}
@@ -67,7 +68,7 @@ text_stop tail text = stop_before text expected.AsPrinted
 abbrev pub text_told : Form → List ℕ → List ℕ → List ℕ → Result Node Stop
 text_told form fixed text call = ok_or (tail_read form.tail form.close text) (text_stop form.tail text)
     >? λ tail. after_ending form.close (call_left call tail.1)
-    >? pieces_set form.kind form.sub_kind form.rest fixed
+    >? pieces_in lenient form.kind form.sub_kind form.rest fixed
     >? λ all. ok_or (told_in form (Some (all.0 ++ tail.0, all.1))) (stop_at all.1 expected.Untold)
 
 -- the node of a form with this fixed part, if the call contains only the ID string of _UID, or where the call
@@ -78,20 +79,16 @@ uid_told form fixed text = if is_empty (clear_run (first_of form.close) text).1
     (stop_before [] expected.Untold)
     else Err (stop_before (clear_run (first_of form.close) text).1 (expected.Byte (first_of form.close)))
 
--- the fixed part of a form, and the rest of a tidied call after it, or where the call stops
-abbrev pub head_set : Form → List ℕ → Result (List ℕ × List ℕ) Stop
-head_set form call =
-    after_literal form.start call >? pieces_set form.kind form.sub_kind form.pieces (blank form)
-
 -- the node of a form that contains a text, from the part of a call before its `)` and the tidied call, or
 -- where the call stops
 abbrev pub text_call_told : Form → List ℕ → List ℕ → Result Node Stop
-text_call_told form front call = head_set form call
+text_call_told form front call = head_in lenient form call
     >? λ head. text_told form head.0 (or_commas form.tail (left_of front call head.1)) call
 
 -- the node of a form whose call contains only the ID string of _UID, or where the call stops
 abbrev pub uid_call_told : Form → List ℕ → List ℕ → Result Node Stop
-uid_call_told form front call = head_set form call >? λ head. uid_told form head.0 (left_of front call head.1)
+uid_call_told form front call =
+    head_in lenient form call >? λ head. uid_told form head.0 (left_of front call head.1)
 
 -- the node of a form, if it contains a text and has the name of the call, or where the call stops
 abbrev pub text_tried : List ℕ → List ℕ → Form → Result Node (Option Stop)
@@ -107,5 +104,5 @@ uid_tried front call form = if holds_ids form.mode form.tail && begins_call_name
 -- the node of a call in the first form that contains a text: a form of the table, or a form that people
 -- paste, which contains only one ID; or where the call stops
 abbrev pub texts_tried : List ℕ → List ℕ → Result Node (Option Stop)
-texts_tried front call = or_next (first_tried (text_tried front call) forms None)
-    (λ stop. first_tried (uid_tried front call) pasted_forms stop)
+texts_tried front call = or_next (first_tried (λ place. text_tried front call) 0 forms None)
+    (λ stop. first_tried (λ place. uid_tried front call) 0 pasted_forms stop)

@@ -20,11 +20,11 @@ use crate::texts::Text;
 use crate::tidied::{Tidied, cut_call, place_at, tidy};
 
 /// Reads a node from a tidied call that contains no text, or fails with where the call stops.
-fn try_textless<T: NameText>(front: T, call: Tidied<T>) -> Result<ReadNode<T>, Option<Stop>>
+fn try_textless<T: NameText>(call: Tidied<T>) -> Result<ReadNode<T>, Option<Stop>>
     ensures { let call = ⟦<Tidied<T> as Text>⟧.bytes call in result_map_both node_from_text (λ e. e) result
         ≡ or_short (call_told call) (short_ipv6 call) }
 {
-    let stop = match try_call(front, call) {
+    let stop = match try_call(call) {
         Ok(node) => return Ok(node),
         Err(stop) => stop,
     };
@@ -43,7 +43,7 @@ fn read_call<T: NameText>(front: T, call: Tidied<T>) -> Result<ReadNode<T>, Opti
     match try_texts(front, call) {
         Ok(node) => Ok(node),
         Err(Some(stop)) => Err(Some(stop)),
-        Err(None) => try_textless(front, call),
+        Err(None) => try_textless(call),
     }
 }
 

@@ -2,15 +2,13 @@
 #![tactic(auto)]
 
 ghost use Rattle.std.specs.Prelude.{◌≡◌, ◌+◌, ◌^◌, ◌≤◌, IsTrue, if◌then◌else◌, length, map};
-ghost use Rattle.std.specs.List.{list_all};
 ghost use Rattle.std.specs.Option.{option_and_then, option_map};
 ghost use Rattle.std.specs.Result.{result_map_both};
 ghost use Rattle.std.proofs.Math.ListN.{replicate};
 ghost use Rattle.uefi_node_table.specs.Fields.{fits_shape};
-ghost use Rattle.uefi_node_table.specs.Rows.{as_piece, is_within};
 ghost use Rattle.uefi_node_table.specs.Words.{as_word, words_of};
 ghost use Rattle.uefi_node_reader.specs.FieldReading.{as_bytes, less_one};
-ghost use Rattle.uefi_node_reader.specs.LenientFields.{after_ending, after_letter, after_literal, any_field, any_number, any_word, begins_base, expected_field, expected_word, is_number, left_out, number_or_word, past_base, piece_set, pieces_set, some_digits, value_or_spare, value_set};
+ghost use Rattle.uefi_node_reader.specs.LenientFields.{after_ending, after_letter, after_literal, any_field, any_number, any_word, begins_base, expected_field, expected_word, is_number, left_out, number_or_word, past_base, some_digits, value_or_spare};
 
 use crate::clear_texts::first_of;
 use crate::faults::{Expected, Stop};
@@ -18,7 +16,7 @@ use crate::fields::{after, last, put_low, read_value};
 use crate::numerals::{digit_of, digits_after};
 use crate::stops::stop_at;
 use crate::texts::Text;
-use uefi_node_table::rows::{Piece, Shape};
+use uefi_node_table::rows::Shape;
 use uefi_node_table::word_lists::words_of;
 use uefi_node_table::words::{Word, Words};
 
@@ -250,9 +248,9 @@ fn expected_word(words: Words) -> Expected
 }
 
 /// Returns what is expected where a field is required.
-fn expected_field(shape: Shape, width: usize) -> Expected
+pub(crate) fn expected_field(shape: Shape, width: usize) -> Expected
     requires fits { IsTrue (fits_shape shape width) }
-    requires few { width ≤ 64 }
+    requires few { width ≤ 255 }
     ensures { result ≡ expected_field shape width }
 {
     match shape {
@@ -266,62 +264,4 @@ fn expected_field(shape: Shape, width: usize) -> Expected
         Shape::Eisa => Expected::Id,
         Shape::Word(words) => expected_word(words),
     }
-}
-
-/// Puts the bytes of a field at their place in the data of a node of a kind. Returns the rest of the text.
-fn set_value<T: Text>(
-    kind: u8,
-    sub_kind: u8,
-    piece: &Piece,
-    content: &mut [u8],
-    text: T,
-) -> Result<T, Stop>
-    requires within { IsTrue (is_within (length content.old) (as_piece piece.now)) }
-    requires few { length content.old ≤ 64 }
-    ensures { result_map_both (λ rest. (content.new, T.bytes rest)) (λ e. e) result
-        ≡ value_set kind sub_kind (as_piece piece.now) content.old (T.bytes text) }
-{
-    let (from, width) = (piece.place as usize, piece.width as usize);
-    let spare = left_out(kind, sub_kind, from);
-    match value_or_spare(piece.shape, spare, &mut content[from..from + width], text) {
-        Some(rest) => Ok(rest),
-        None => Err(stop_at(text, expected_field(piece.shape, width))),
-    }
-}
-
-/// Puts a field into the data of a node of a kind, and reads its ending. Returns the rest of the text.
-fn set_piece<T: Text>(
-    kind: u8,
-    sub_kind: u8,
-    piece: &Piece,
-    content: &mut [u8],
-    text: T,
-) -> Result<T, Stop>
-    requires within { IsTrue (is_within (length content.old) (as_piece piece.now)) }
-    requires few { length content.old ≤ 64 }
-    ensures { result_map_both (λ rest. (content.new, T.bytes rest)) (λ e. e) result
-        ≡ piece_set kind sub_kind (as_piece piece.now) content.old (T.bytes text) }
-{
-    let rest = set_value(kind, sub_kind, piece, content, text)?;
-    after_ending(piece.ending.as_bytes(), rest)
-}
-
-/// Puts fields into the data of a node of a kind, and reads their endings. Returns the rest of the text.
-pub(crate) fn set_pieces<T: Text>(
-    kind: u8,
-    sub_kind: u8,
-    pieces: &[Piece],
-    content: &mut [u8],
-    text: T,
-) -> Result<T, Stop>
-    requires within { IsTrue (list_all (is_within (length content.old)) (map as_piece pieces.now)) }
-    requires few { length content.old ≤ 64 }
-    ensures { result_map_both (λ rest. (content.new, T.bytes rest)) (λ e. e) result
-        ≡ pieces_set kind sub_kind (map as_piece pieces.now) content.old (T.bytes text) }
-{
-    let mut rest = text;
-    for piece in pieces {
-        rest = set_piece(kind, sub_kind, piece, content, rest)?;
-    }
-    Ok(rest)
 }

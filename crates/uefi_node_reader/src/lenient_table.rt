@@ -4,6 +4,7 @@
 ghost use Rattle.std.specs.Option.{option_map};
 ghost use Rattle.std.specs.Prelude.{◌≡◌, IfSome, IsTrue, map};
 ghost use Rattle.std.specs.Result.{result_map_both};
+ghost use Rattle.uefi_device_nodes.specs.Nodes.{Node};
 ghost use Rattle.uefi_node_table.specs.Rows.{as_form};
 ghost use Rattle.uefi_node_reader.specs.LenientFields.{after_literal};
 ghost use Rattle.uefi_node_reader.specs.LenientCalls.{begins_call_name, call_told, form_told, form_tried, is_textless, named_told, names_tried, plain_names, plain_told, told_in, whole};
@@ -15,13 +16,17 @@ use crate::ambiguous::ambiguous_stop;
 use crate::attempts::{Attempt, try_pasted, try_table};
 use crate::complete_texts::tells;
 use crate::faults::{Expected, Stop};
-use crate::lenient_fields::{after_letter, after_literal, set_pieces};
+use crate::first_letters::begins_in_either_case;
+use crate::form_heads::read_head;
+use crate::lenient_fields::{after_letter, after_literal};
 use crate::named_files::NameText;
+use crate::notations::Lenient;
 use crate::parsed_node::ParsedNode;
 use crate::plain_nodes::{told_types, types_end};
 use crate::read_node::ReadNode;
-use crate::stops::{further, rest_end, stop_at, stop_of};
+use crate::stops::{further, stop_at};
 use crate::table_reader::{finish_row, fixed_part, read_row};
+use crate::tail_stops::{rest_end, stop_of};
 use crate::texts::{Text, is_empty};
 use crate::tidied::Tidied;
 use uefi_node_table::rows::{Mode, Row, Tail};
@@ -77,10 +82,8 @@ fn told_row<T: Text>(row: &Row, text: T) -> Result<ParsedNode<T>, Stop>
     requires read { IsTrue (is_read row.now.mode) }
     ensures { result_map_both parsed_node (λ e. e) result ≡ form_told (as_form row.now) (T.bytes text) }
 {
-    let rest = after_literal(row.start.as_bytes(), text)?;
     let mut fixed = fixed_part(row);
-    let content = &mut fixed[..row.least as usize];
-    let rest = set_pieces(row.kind, row.sub_kind, row.pieces.as_slice(), content, rest)?;
+    let rest = read_head::<Lenient, T>(row, &mut fixed[..row.least as usize], text)?;
     match told(row, finish_row(row, fixed, rest)) {
         Some(node) => Ok(node),
         None => Err(stop_of(rest_end(row.tail, row.close.as_bytes(), rest))),
@@ -140,24 +143,31 @@ fn try_row<T: Text>(row: &Row, text: T) -> Result<ParsedNode<T>, Option<Stop>>
     Err(None)
 }
 
-/// An attempt that reads only the tidied call.
-struct TextlessCall;
+/// An attempt to read a tidied call that contains no text.
+#[derive(Clone, Copy)]
+struct TextlessCall<T: NameText> {
+    call: Tidied<T>,
+}
 
-impl Attempt for TextlessCall {
-    ghost tried = { λ front call form. form_tried form call };
+impl<T: NameText> Attempt for TextlessCall<T> {
+    type Read = ReadNode<T>;
 
-    fn attempt<T: NameText>(
-        _front: T,
-        call: Tidied<T>,
-        row: &Row,
-    ) -> Result<ReadNode<T>, Option<Stop>> {
-        match try_row(row, call) {
+    ghost Seen = { Node };
+
+    ghost seen = { node_from_text };
+
+    ghost tried = { λ attempt place form. form_tried form (⟦<Tidied<T> as Text>⟧.bytes attempt.call) };
+
+    fn may_begin(&self, letters: u64) -> bool {
+        begins_in_either_case(letters, self.call)
+    }
+
+    fn attempt(&self, _place: usize, row: &Row) -> Result<ReadNode<T>, Option<Stop>> {
+        match try_row(row, self.call) {
             Ok(node) => Ok(ReadNode::Tidied(node)),
             Err(stop) => Err(stop),
         }
     }
-
-    fn names_are_needed() {}
 }
 
 /// Returns the node that was read, if nothing is left of the text.
@@ -228,17 +238,18 @@ fn try_plain<T: Text>(furthest: Option<Stop>, text: T) -> Result<ParsedNode<T>, 
 
 /// Reads a node from a tidied call, or fails with where the call stops. A call that programs print for
 /// different nodes stops where it becomes ambiguous.
-pub(crate) fn try_call<T: NameText>(front: T, call: Tidied<T>) -> Result<ReadNode<T>, Option<Stop>>
+pub(crate) fn try_call<T: NameText>(call: Tidied<T>) -> Result<ReadNode<T>, Option<Stop>>
     ensures { result_map_both node_from_text (λ e. e) result ≡ call_told (⟦<Tidied<T> as Text>⟧.bytes call) }
 {
     if let Some(stop) = ambiguous_stop(call) {
         return Err(Some(stop));
     }
-    let furthest = match try_table::<T, TextlessCall>(front, call) {
+    let attempt = TextlessCall { call };
+    let furthest = match try_table(&attempt) {
         Ok(node) => return Ok(node),
         Err(stop) => stop,
     };
-    let furthest = match try_pasted::<T, TextlessCall>(furthest, front, call) {
+    let furthest = match try_pasted(&attempt, furthest) {
         Ok(node) => return Ok(node),
         Err(stop) => stop,
     };

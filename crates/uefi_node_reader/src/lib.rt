@@ -18,6 +18,8 @@ pub mod faults;
 mod fields;
 #[doc(hidden)]
 pub mod file_node;
+mod first_letters;
+mod form_heads;
 mod form_places;
 mod lenient_fields;
 mod lenient_names;
@@ -31,6 +33,7 @@ mod near_names;
 mod node_tails;
 #[doc(hidden)]
 pub mod nodes;
+mod notations;
 mod numerals;
 mod other_forms;
 #[doc(hidden)]
@@ -43,6 +46,7 @@ mod stops;
 #[doc(hidden)]
 pub mod styles;
 mod table_reader;
+mod tail_stops;
 mod text_calls;
 #[doc(hidden)]
 pub mod texts;

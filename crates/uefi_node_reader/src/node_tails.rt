@@ -1,49 +1,24 @@
-//! Fields of nodes at their places in the data, and the data after the fixed part. The data is put into a
-//! buffer, and counted.
+//! The data of a node after its fixed part. The data is put into a buffer, and counted.
 #![tactic(auto)]
 
 ghost use Rattle.std.specs.List.{list_all};
 ghost use Rattle.std.specs.Option.{option_and_then, option_map};
-ghost use Rattle.std.specs.Prelude.{◌≡◌, ◌≤◌, ◌∷◌, [], IsTrue, length, map};
+ghost use Rattle.std.specs.Prelude.{◌≡◌, ◌≤◌, ◌∷◌, [], IsTrue, length};
 ghost use Rattle.std.proofs.Math.ListN.{replicate};
-ghost use Rattle.uefi_node_table.specs.Rows.{as_item, as_piece, is_within};
+ghost use Rattle.uefi_node_table.specs.Rows.{as_item, is_within};
 ghost use Rattle.uefi_node_reader.specs.Counted.{pushed_bytes, put_on};
 ghost use Rattle.uefi_node_reader.specs.FieldReading.{clear_run, comma_read, run_read};
-ghost use Rattle.uefi_node_reader.specs.TableReading.{as_ids, as_padded, ids_read, list_read, piece_put, pieces_put, tail_read};
+ghost use Rattle.uefi_node_reader.specs.TableReading.{as_ids, as_padded, ids_read, list_read, pieces_put, tail_read};
 
 use crate::clear_texts::{
     cut_clear, first_of, past_clear, push_clear, push_clear_name, push_clear_units,
 };
 use crate::counted_bytes::{push, push_all};
-use crate::fields::{after, byte, read_value};
+use crate::fields::{after, byte};
+use crate::form_heads::exact_pieces;
 use crate::texts::Text;
-use uefi_node_table::rows::{Item, Piece, Tail};
+use uefi_node_table::rows::{Item, Tail};
 use uefi_node_table::table::item_of;
-
-/// Puts the field at the start of a text into data, and reads its ending. Returns the rest of the text.
-fn read_piece<T: Text>(piece: &Piece, content: &mut [u8], text: T) -> Option<T>
-    requires { IsTrue (is_within (length content.old) (as_piece piece.now)) }
-    ensures { option_map (λ rest. (content.new, T.bytes rest)) result
-        ≡ piece_put (as_piece piece.now) content.old (T.bytes text) }
-{
-    let from = piece.place as usize;
-    let to = from + piece.width as usize;
-    let rest = read_value(piece.shape, &mut content[from..to], text)?;
-    after(piece.ending.as_bytes(), rest)
-}
-
-/// Puts the fields at the start of a text into data, and reads their endings. Returns the rest of the text.
-pub(crate) fn read_pieces<T: Text>(pieces: &[Piece], content: &mut [u8], text: T) -> Option<T>
-    requires { IsTrue (list_all (is_within (length content.old)) (map as_piece pieces.now)) }
-    ensures { option_map (λ rest. (content.new, T.bytes rest)) result
-        ≡ pieces_put (map as_piece pieces.now) content.old (T.bytes text) }
-{
-    let mut rest = text;
-    for piece in pieces {
-        rest = read_piece(piece, content, rest)?;
-    }
-    Some(rest)
-}
 
 /// Puts all bytes of two digits each at the start of a text after `len` others. Returns the new number of
 /// bytes, and the rest of the text.
@@ -82,7 +57,7 @@ fn push_item<T: Text>(places: &mut [u8], len: usize, item: &Item, text: T) -> Op
 {
     let mut buffer = [0; 16];
     let bytes = &mut buffer[..item.size];
-    let rest = read_pieces(item.pieces.as_slice(), bytes, text)?;
+    let rest = exact_pieces(item.pieces.as_slice(), bytes, text)?;
     Some((push_all(places, len, bytes), rest))
 }
 

@@ -14,7 +14,8 @@ ghost use Rattle.uefi_node_reader.specs.ParsedNodes.{IsDecoded, all_data, fittin
 use crate::clear_texts::first_of;
 use crate::counted_bytes::push_all;
 use crate::data_form::DataForm;
-use crate::node_tails::{push_tail, push_uid, read_pieces};
+use crate::form_heads::exact_pieces;
+use crate::node_tails::{push_tail, push_uid};
 use crate::texts::Text;
 use std::marker::Model;
 use uefi_node_table::rows::{Piece, Tail};
@@ -98,7 +99,7 @@ impl<T: Text> ParsedNode<T> {
             (take self.fixed (text_node_data self)) (T.bytes text)) }
     {
         let mut head = self.head;
-        let rest = read_pieces(pieces, &mut head[..usize::from(self.fixed)], text)?;
+        let rest = exact_pieces(pieces, &mut head[..usize::from(self.fixed)], text)?;
         let node = ParsedNode {
             device_type: self.device_type,
             sub_type: self.sub_type,

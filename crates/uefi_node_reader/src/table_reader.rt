@@ -2,26 +2,27 @@
 #![tactic(auto)]
 
 ghost use Rattle.std.specs.List.{list_all};
-ghost use Rattle.std.specs.Option.{option_map};
-ghost use Rattle.std.specs.Prelude.{◌≡◌, None, false, ◌<◌, ◌≤◌, ◌+◌, ◌^◌, IfSome, IsTrue, length, map, take};
-ghost use Rattle.uefi_node_table.specs.Rows.{as_form, as_piece, is_within};
-ghost use Rattle.uefi_node_table.specs.Table.{forms, group_forms};
-ghost use Rattle.uefi_device_nodes.specs.Nodes.{node_with};
-ghost use Rattle.uefi_node_reader.specs.TableReading.{are_within, blank, form_place, form_read, forms_read, is_filled, is_sound, kept, prints, put_all, rest_read, table_read};
-ghost use Rattle.uefi_node_reader.specs.FirstLetters.{all_begin_in, begins_in, begins_in_either_case, is_in};
+ghost use Rattle.std.specs.Option.{ok_or, option_map};
+ghost use Rattle.std.specs.Prelude.{◌≡◌, None, false, ◌≤◌, ℕ, IfSome, IsTrue, List, length, take};
+ghost use Rattle.uefi_node_table.specs.Rows.{as_form, is_within};
+ghost use Rattle.uefi_node_table.specs.Table.{forms};
+ghost use Rattle.uefi_device_nodes.specs.Nodes.{Node, node_with};
+ghost use Rattle.uefi_node_reader.specs.TableReading.{are_within, blank, form_place, form_read, is_filled, is_sound, kept, prints, put_all, rest_read, table_read};
 ghost use Rattle.uefi_node_reader.specs.ParsedNodes.{fitting};
 ghost use Rattle.uefi_node_reader.specs.WordReading.{after};
 ghost use Rattle.uefi_node_reader.specs.ParsedNodeViews.{text_node_data, parsed_node};
 
+use crate::attempts::{Attempt, try_table};
+use crate::faults::Stop;
 use crate::fields::after;
+use crate::first_letters::begins_in;
+use crate::form_heads::read_head;
 use crate::form_places::{FormTest, form_place};
-use crate::node_tails::read_pieces;
+use crate::notations::Exact;
 use crate::parsed_node::ParsedNode;
 use crate::texts::Text;
-use uefi_node_table::packed::FIRST_LETTERS;
 use uefi_node_table::printing::{begin_with_kind, matches};
 use uefi_node_table::rows::{Mode, Row};
-use uefi_node_table::table::{GROUPS, group};
 
 /// Puts bytes at their places in data.
 fn put_bytes(content: &mut [u8], bytes: &[(u8, u8)])
@@ -79,13 +80,8 @@ pub(crate) fn read_row<T: Text>(row: &Row, text: T) -> Option<(ParsedNode<T>, T)
     let Mode::Read = row.mode else {
         return None;
     };
-    let rest = after(row.start.as_bytes(), text)?;
     let mut fixed = fixed_part(row);
-    let rest = read_pieces(
-        row.pieces.as_slice(),
-        &mut fixed[..row.least as usize],
-        rest,
-    )?;
+    let rest = read_head::<Exact, T>(row, &mut fixed[..row.least as usize], text).ok()?;
     finish_row(row, fixed, rest)
 }
 
@@ -153,95 +149,37 @@ fn read_kept<T: Text>(row: &Row, place: usize, text: T) -> Option<(ParsedNode<T>
     Some((node, rest))
 }
 
-/// Reads the node at the start of a text in one of these forms, which have the indices from `before` on in
-/// the table.
-fn read_group<T: Text>(rows: &[Row], before: usize, text: T) -> Option<(ParsedNode<T>, T)>
-    requires sound { IsTrue (list_all is_sound (map as_form rows.now)) }
-    requires filled { IsTrue (list_all is_filled (map as_form rows.now)) }
-    requires few { before + length rows.now < 2 ^ 64 }
-    ensures { option_map (λ x. (parsed_node x.0, T.bytes x.1)) result
-        ≡ forms_read forms before (map as_form rows.now) (T.bytes text) }
-{
-    for (place, row) in rows.iter().enumerate() {
-        if begin_alike(row.start.as_bytes(), text) {
-            if let Some(read) = read_kept(row, before + place, text) {
-                return Some(read);
-            }
-        }
-    }
-    None
-}
-
-/// Returns whether a byte is one of these letters.
-fn is_in(letters: u64, byte: u8) -> bool
-    ensures { result ≡ is_in letters byte }
-{
-    (letters >> (byte % 64)) % 2 == 1
-}
-
-/// Returns whether a text begins with one of these letters.
-fn begins_in<T: Text>(letters: u64, text: T) -> bool
-    ensures { result ≡ begins_in letters (T.bytes text) }
-{
-    match text.split_first() {
-        Some((first, _)) => is_in(letters, first),
-        None => false,
-    }
-}
-
-/// Returns whether a text begins with one of these letters, in either case.
-pub(crate) fn begins_in_either_case<T: Text>(letters: u64, text: T) -> bool
-    ensures { result ≡ begins_in_either_case letters (T.bytes text) }
-{
-    match text.split_first() {
-        Some((first, _)) => {
-            is_in(letters, first.to_ascii_uppercase()) || is_in(letters, first.to_ascii_lowercase())
-        }
-        None => false,
-    }
-}
-
-/// Returns the letters that the texts of the forms in a group begin with. Most groups have no form that
-/// begins with the first letter of a text.
-pub(crate) fn first_letters(index: usize) -> u64
-    requires { index < 12 }
-    ensures { IsTrue (all_begin_in result (group_forms index)) }
-{
-    FIRST_LETTERS[index]
-}
-
-/// Reads the node at the start of a text in one of these forms, as [`read_group`] does. Their texts begin
-/// with these letters.
-fn read_letters<T: Text>(
-    letters: u64,
-    rows: &[Row],
-    before: usize,
+/// An attempt to read the start of a text exactly as it is printed.
+#[derive(Clone, Copy)]
+struct ExactText<T: Text> {
     text: T,
-) -> Option<(ParsedNode<T>, T)>
-    requires letters { IsTrue (all_begin_in letters (map as_form rows.now)) }
-    requires sound { IsTrue (list_all is_sound (map as_form rows.now)) }
-    requires filled { IsTrue (list_all is_filled (map as_form rows.now)) }
-    requires few { before + length rows.now < 2 ^ 64 }
-    ensures { option_map (λ x. (parsed_node x.0, T.bytes x.1)) result
-        ≡ forms_read forms before (map as_form rows.now) (T.bytes text) }
-{
-    if !begins_in(letters, text) {
-        return None;
+}
+
+impl<T: Text> Attempt for ExactText<T> {
+    type Read = (ParsedNode<T>, T);
+
+    ghost Seen = { Node × List ℕ };
+
+    ghost seen = { λ read. (parsed_node read.0, T.bytes read.1) };
+
+    ghost tried = { λ exact place form.
+        ok_or (kept forms place form (form_read form (T.bytes exact.text))) None };
+
+    fn may_begin(&self, letters: u64) -> bool {
+        begins_in(letters, self.text)
     }
-    read_group(rows, before, text)
+
+    fn attempt(&self, place: usize, row: &Row) -> Result<(ParsedNode<T>, T), Option<Stop>> {
+        if !begin_alike(row.start.as_bytes(), self.text) {
+            return Err(None);
+        }
+        read_kept(row, place, self.text).ok_or(None)
+    }
 }
 
 /// Reads the node at the start of a text in a form of the table, and returns the rest of the text too.
 pub(crate) fn by_table<T: Text>(text: T) -> Option<(ParsedNode<T>, T)>
     ensures { option_map (λ x. (parsed_node x.0, T.bytes x.1)) result ≡ table_read forms (T.bytes text) }
 {
-    let mut before = 0;
-    for index in 0..GROUPS {
-        let rows = group(index);
-        if let Some(read) = read_letters(first_letters(index), rows, before, text) {
-            return Some(read);
-        }
-        before += rows.len();
-    }
-    None
+    try_table(&ExactText { text }).ok()
 }

@@ -3,27 +3,33 @@
 #![tactic(auto)]
 
 ghost use Rattle.std.specs.Option.{ok_or, option_and_then, option_map};
-ghost use Rattle.std.specs.Prelude.{◌≡◌, ◌≤◌, IfSome, IsTrue, length, take};
+ghost use Rattle.std.specs.Prelude.{◌≡◌, ◌++◌, ◌≤◌, ℕ, IfSome, IsTrue, List, Some, take};
 ghost use Rattle.std.specs.Result.{result_map_both};
+ghost use Rattle.uefi_device_nodes.specs.Nodes.{Node};
 ghost use Rattle.uefi_node_table.specs.Rows.{as_form};
-ghost use Rattle.uefi_node_reader.specs.LenientCalls.{begins_call_name, tidied};
+ghost use Rattle.uefi_node_reader.specs.LenientCalls.{told_in};
 ghost use Rattle.uefi_node_reader.specs.ParsedNodeViews.{parsed_node, text_node_data};
 ghost use Rattle.uefi_node_reader.specs.ParsedNodes.{fitting};
-ghost use Rattle.uefi_node_reader.specs.Stops.{past};
+ghost use Rattle.uefi_node_reader.specs.Stops.{past, stop_at};
+ghost use Rattle.uefi_node_reader.specs.declared.faults.Expected.TheVariants.{Untold};
 ghost use Rattle.uefi_node_reader.specs.ReadNodes.{node_from_text};
-ghost use Rattle.uefi_node_reader.specs.TableReading.{added, blank, is_filled, is_read, is_sound, tail_read};
-ghost use Rattle.uefi_node_reader.specs.TextCalls.{are_left_out, call_left, head_set, holds_ids, holds_text, left_of, or_commas, past_second, stop_before, text_call_told, text_stop, text_told, text_tried, texts_tried, uid_call_told, uid_told, uid_tried};
+ghost use Rattle.uefi_node_reader.specs.TableReading.{added, is_filled, is_read, is_sound, tail_read};
+ghost use Rattle.uefi_node_reader.specs.TextCalls.{are_left_out, call_left, holds_ids, holds_text, left_of, or_commas, past_second, stop_before, text_call_told, text_stop, text_told, text_tried, texts_tried, uid_call_told, uid_told, uid_tried};
 
 use crate::attempts::{Attempt, try_pasted, try_table};
 use crate::clear_texts::{first_of, past_clear};
 use crate::faults::{Expected, Stop};
-use crate::lenient_fields::{after_ending, after_literal, set_pieces};
+use crate::first_letters::begins_in_either_case;
+use crate::form_heads::{read_head, read_pieces};
+use crate::lenient_fields::after_ending;
 use crate::lenient_table::{begins_call_name, is_textless, told};
 use crate::named_files::NameText;
+use crate::notations::Lenient;
 use crate::parsed_node::ParsedNode;
 use crate::read_node::ReadNode;
-use crate::stops::{stop_at, tail_rest};
+use crate::stops::stop_at;
 use crate::table_reader::fixed_part;
+use crate::tail_stops::tail_rest;
 use crate::texts::{Text, is_empty};
 use crate::tidied::{Tidied, place_at, tidy};
 use uefi_node_table::rows::{Mode, Row, Tail};
@@ -133,6 +139,27 @@ fn with_words<T: NameText>(row: &Row, fixed: [u8; 56], words: T) -> Option<Parse
     Some(node)
 }
 
+/// Returns the node of a form with this fixed part and the text in its call, if nothing is left of the call
+/// and the node's own text describes it completely.
+fn words_told<T: NameText>(
+    row: &Row,
+    fixed: [u8; 56],
+    words: T,
+    rest: Tidied<T>,
+) -> Result<ParsedNode<T>, Stop>
+    requires { row.now.least ≤ 56 }
+    ensures { (tail : List ℕ × List ℕ)
+        → tail_read row.now.tail (as_form row.now).close (or_commas row.now.tail (T.bytes words)) ≡ Some tail
+        → let left = ⟦<Tidied<T> as Text>⟧.bytes rest in result_map_both parsed_node (λ e. e) result
+        ≡ ok_or (told_in (as_form row.now) (Some (take row.now.least fixed ++ tail.0, left)))
+        (stop_at left Untold) }
+{
+    let Some(node) = with_words(row, fixed, words) else {
+        return Err(stop_at(rest, Expected::Untold));
+    };
+    told(row, Some((node, rest))).ok_or(stop_at(rest, Expected::Untold))
+}
+
 /// Reads a node of a form with this fixed part, from the text in its call on and from the tidied call.
 fn text_told<T: NameText>(
     row: &Row,
@@ -151,15 +178,14 @@ fn text_told<T: NameText>(
     let end = words_end(row.tail, close, words)?;
     let rest = after_ending(close, call_left(call, end))?;
     let mut whole = fixed;
-    let content = &mut whole[..row.least as usize];
-    let rest = set_pieces(row.kind, row.sub_kind, row.rest.as_slice(), content, rest)?;
-    let Some(node) = with_words(row, whole, words) else {
-        return Err(stop_at(rest, Expected::Untold));
-    };
-    match told(row, Some((node, rest))) {
-        Some(node) => Ok(node),
-        None => Err(stop_at(rest, Expected::Untold)),
-    }
+    let rest = read_pieces::<Lenient, Tidied<T>>(
+        row.kind,
+        row.sub_kind,
+        row.rest.as_slice(),
+        &mut whole[..row.least as usize],
+        rest,
+    )?;
+    words_told(row, whole, words, rest)
 }
 
 /// Reads a node of a form with this fixed part, if the call contains only the ID string of `_UID`.
@@ -190,19 +216,6 @@ fn uid_told<T: NameText>(row: &Row, fixed: [u8; 56], words: T) -> Result<ParsedN
     }
 }
 
-/// Puts the fields before a text into the fixed part of a form. Returns the rest of the tidied call.
-fn set_head<T: Text>(row: &Row, content: &mut [u8], call: T) -> Result<T, Stop>
-    requires sound { IsTrue (is_sound (as_form row.now)) }
-    requires read { IsTrue (is_read row.now.mode) }
-    requires blank { content.old ≡ blank (as_form row.now) }
-    requires few { length content.old ≤ 56 }
-    ensures { result_map_both (λ rest. (content.new, T.bytes rest)) (λ e. e) result
-        ≡ head_set (as_form row.now) (T.bytes call) }
-{
-    let rest = after_literal(row.start.as_bytes(), call)?;
-    set_pieces(row.kind, row.sub_kind, row.pieces.as_slice(), content, rest)
-}
-
 /// Reads a node of a form that contains a text, from the part of a call before its `)` and the tidied call.
 fn text_call<T: NameText>(row: &Row, front: T, call: Tidied<T>) -> Result<ParsedNode<T>, Stop>
     requires sound { IsTrue (is_sound (as_form row.now)) }
@@ -212,7 +225,7 @@ fn text_call<T: NameText>(row: &Row, front: T, call: Tidied<T>) -> Result<Parsed
         ≡ text_call_told (as_form row.now) (T.bytes front) (⟦<Tidied<T> as Text>⟧.bytes call) }
 {
     let mut fixed = fixed_part(row);
-    let rest = set_head(row, &mut fixed[..row.least as usize], call)?;
+    let rest = read_head::<Lenient, Tidied<T>>(row, &mut fixed[..row.least as usize], call)?;
     text_told(row, fixed, left_of(front, call, rest), call)
 }
 
@@ -225,54 +238,74 @@ fn uid_call<T: NameText>(row: &Row, front: T, call: Tidied<T>) -> Result<ParsedN
         ≡ uid_call_told (as_form row.now) (T.bytes front) (⟦<Tidied<T> as Text>⟧.bytes call) }
 {
     let mut fixed = fixed_part(row);
-    let rest = set_head(row, &mut fixed[..row.least as usize], call)?;
+    let rest = read_head::<Lenient, Tidied<T>>(row, &mut fixed[..row.least as usize], call)?;
     uid_told(row, fixed, left_of(front, call, rest))
 }
 
-/// An attempt that reads a call with its text.
-struct TextCall;
-
-impl Attempt for TextCall {
-    ghost tried = { text_tried };
-
-    fn attempt<T: NameText>(
-        front: T,
-        call: Tidied<T>,
-        row: &Row,
-    ) -> Result<ReadNode<T>, Option<Stop>> {
-        if !(holds_text(row.mode, row.tail) && begins_call_name(row.start.as_bytes(), call)) {
-            return Err(None);
-        }
-        match text_call(row, front, call) {
-            Ok(node) => Ok(ReadNode::Exact(node)),
-            Err(stop) => Err(Some(stop)),
-        }
-    }
-
-    fn names_are_needed() {}
+/// An attempt to read a call that contains a text.
+#[derive(Clone, Copy)]
+struct TextCall<T: NameText> {
+    /// The part of the call before its `)`.
+    front: T,
+    call: Tidied<T>,
 }
 
-/// An attempt that reads a call whose only ID string is `_UID`.
-struct UidCall;
+impl<T: NameText> Attempt for TextCall<T> {
+    type Read = ReadNode<T>;
 
-impl Attempt for UidCall {
-    ghost tried = { uid_tried };
+    ghost Seen = { Node };
 
-    fn attempt<T: NameText>(
-        front: T,
-        call: Tidied<T>,
-        row: &Row,
-    ) -> Result<ReadNode<T>, Option<Stop>> {
-        if !(holds_ids(row.mode, row.tail) && begins_call_name(row.start.as_bytes(), call)) {
+    ghost seen = { node_from_text };
+
+    ghost tried = { λ attempt place.
+        text_tried (T.bytes attempt.front) (⟦<Tidied<T> as Text>⟧.bytes attempt.call) };
+
+    fn may_begin(&self, letters: u64) -> bool {
+        begins_in_either_case(letters, self.call)
+    }
+
+    fn attempt(&self, _place: usize, row: &Row) -> Result<ReadNode<T>, Option<Stop>> {
+        if !(holds_text(row.mode, row.tail) && begins_call_name(row.start.as_bytes(), self.call)) {
             return Err(None);
         }
-        match uid_call(row, front, call) {
+        match text_call(row, self.front, self.call) {
             Ok(node) => Ok(ReadNode::Exact(node)),
             Err(stop) => Err(Some(stop)),
         }
     }
+}
 
-    fn names_are_needed() {}
+/// An attempt to read a call whose only ID string is `_UID`.
+#[derive(Clone, Copy)]
+struct UidCall<T: NameText> {
+    /// The part of the call before its `)`.
+    front: T,
+    call: Tidied<T>,
+}
+
+impl<T: NameText> Attempt for UidCall<T> {
+    type Read = ReadNode<T>;
+
+    ghost Seen = { Node };
+
+    ghost seen = { node_from_text };
+
+    ghost tried = { λ attempt place.
+        uid_tried (T.bytes attempt.front) (⟦<Tidied<T> as Text>⟧.bytes attempt.call) };
+
+    fn may_begin(&self, letters: u64) -> bool {
+        begins_in_either_case(letters, self.call)
+    }
+
+    fn attempt(&self, _place: usize, row: &Row) -> Result<ReadNode<T>, Option<Stop>> {
+        if !(holds_ids(row.mode, row.tail) && begins_call_name(row.start.as_bytes(), self.call)) {
+            return Err(None);
+        }
+        match uid_call(row, self.front, self.call) {
+            Ok(node) => Ok(ReadNode::Exact(node)),
+            Err(stop) => Err(Some(stop)),
+        }
+    }
 }
 
 /// Reads a call in a form that contains a text, from the part before its `)` and the tidied call. Fails with
@@ -281,8 +314,8 @@ pub(crate) fn try_texts<T: NameText>(front: T, call: Tidied<T>) -> Result<ReadNo
     ensures { result_map_both node_from_text (λ e. e) result
         ≡ texts_tried (T.bytes front) (⟦<Tidied<T> as Text>⟧.bytes call) }
 {
-    match try_table::<T, TextCall>(front, call) {
+    match try_table(&TextCall { front, call }) {
         Ok(node) => Ok(node),
-        Err(stop) => try_pasted::<T, UidCall>(stop, front, call),
+        Err(stop) => try_pasted(&UidCall { front, call }, stop),
     }
 }

@@ -5,8 +5,8 @@ use Rattle.uefi_node_reader.proofs.attempts.try_group.Goals as goal
 
 pub attempt-requires-clause-sound : goal.attempt-requires-clause-sound
 attempt-requires-clause-sound g c =
-    all_at as_form is_sound c.args.rows.now c.loop-row.row-index _ c.loop-row-test.true c.requires.sound
+    all_at as_form is_sound c.args.rows.now c.loop-place.place _ c.loop-place-test.true c.requires.sound
 
 pub attempt-requires-clause-filled : goal.attempt-requires-clause-filled
 attempt-requires-clause-filled g c =
-    all_at as_form is_filled c.args.rows.now c.loop-row.row-index _ c.loop-row-test.true c.requires.filled
+    all_at as_form is_filled c.args.rows.now c.loop-place.place _ c.loop-place-test.true c.requires.filled

@@ -1,9 +1,0 @@
-use Rattle.std.proofs.Common.{length}
-use Rattle.uefi_node_table.specs.Rows.{as_piece, is_within}
-use Rattle.uefi_node_table.proofs.Lists.{all_at_same}
-use Rattle.uefi_node_reader.proofs.lenient_fields.set_pieces.Goals as goal
-
-pub set_piece-requires-clause-within : goal.set_piece-requires-clause-within
-set_piece-requires-clause-within g c =
-    all_at_same as_piece is_within (length c.args.content.now) (length c.loop-piece.content)
-    c.loop-piece.auto.content c.args.pieces.now c.loop-piece.piece-index _ c.loop-piece-test.true c.requires.within
