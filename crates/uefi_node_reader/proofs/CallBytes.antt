@@ -13,7 +13,7 @@ use Rattle.std.proofs.lemmas.Int.Digits.{digits_value-lt}
 use Rattle.std.proofs.lemmas.List.Elements.{All-append, All-cons, All-nil, All-replicate}
 use Rattle.uefi_node_reader.specs.FieldReading.{◌>>=◌, low_bytes}
 use Rattle.uefi_node_reader.specs.LenientFields.{any_number}
-use Rattle.uefi_node_reader.specs.ShortAddresses.{address_octets, address_read, at_end, bare_address, call_data, closed_address, connection, ends_address, gateway_read, closes_call, last_fields, local_read, no_address, origin_read, protocol_read, settings_read}
+use Rattle.uefi_node_reader.specs.ShortAddresses.{address_octets, address_read, at_end, bare_address, call_data, closed_address, closes_call, connection, ends_address, last_fields, last_part, last_read, local_read, no_address, origin_on, origin_read, protocol_read, settings_read}
 use Rattle.uefi_node_reader.specs.TableReading.{first_of}
 use Rattle.uefi_node_reader.specs.WordReading.{after, or_word}
 use Rattle.uefi_node_reader.proofs.LenientNumbers.{number_small}
@@ -110,27 +110,34 @@ last_bytes text prefix gateway e =
     then_byte prefix gateway (subst (λ (n : ℕ). n < 256) parts.0 (number_small 256 text number.0 number.1 (omega arith) is))
     (subst AreBytes value (address_bytes rest read.0 read.1 address))
 
-gateway_bytes : (text : List ℕ) (prefix : ℕ) (gateway : List ℕ) → gateway_read text ≡ Some (prefix, gateway) → AreBytes (prefix ∷ gateway)
-gateway_bytes text prefix gateway e =
-    and_then_some last_fields (after (codes ",") text) (prefix, gateway) e λ rest is more. last_bytes rest prefix gateway more
+-- the end of the data
+end_bytes : (text last : List ℕ) → last_read text ≡ Some last → AreBytes last
+end_bytes text last e = by (closes_call text) e
+  where
+    by : (b : Bool) → cond b (Some []) (after (codes ",") text >>= last_fields >>= λ gateway. Some (last_part (Some gateway))) ≡ Some last → AreBytes last
+    by true p = subst AreBytes (same_Some _ _ p) no_bytes
+    by false p =
+        and_then_some _ (after (codes ",") text >>= last_fields) last p λ gateway is same.
+        and_then_some last_fields (after (codes ",") text) gateway is λ rest comma read.
+        subst AreBytes (same_Some _ _ same) (last_bytes rest gateway.0 gateway.1 read)
 
 -- the local address, and what follows it
-abbrev IsLast : List ℕ × ℕ × List ℕ → Type 0
-IsLast local = AreBytes local.0 × AreBytes (local.1 ∷ local.2)
+abbrev IsLast : List ℕ × List ℕ → Type 0
+IsLast local = AreBytes local.0 × AreBytes local.1
 
-abbrev with_gateway : List ℕ × List ℕ → Option (List ℕ × ℕ × List ℕ)
-with_gateway address = gateway_read address.1 >>= λ gateway. Some (address.0, gateway.0, gateway.1)
+abbrev with_last : List ℕ × List ℕ → Option (List ℕ × List ℕ)
+with_last address = last_read address.1 >>= λ last. Some (address.0, last)
 
-local_bytes : (text : List ℕ) (local : List ℕ × ℕ × List ℕ) → local_read text ≡ Some local → IsLast local
+local_bytes : (text : List ℕ) (local : List ℕ × List ℕ) → local_read text ≡ Some local → IsLast local
 local_bytes text local e = by (closes_call text) e
   where
-    by : (b : Bool) → cond b (Some (no_address, 0, no_address)) (after (codes ",") text >>= address_read >>= with_gateway) ≡ Some local → IsLast local
+    by : (b : Bool) → cond b (Some (no_address, 0 ∷ no_address)) (after (codes ",") text >>= address_read >>= with_last) ≡ Some local → IsLast local
     by true p = subst IsLast (same_Some _ _ p) (zeros 16, zeros 17)
     by false p =
-        and_then_some with_gateway (after (codes ",") text >>= address_read) local p λ address is others.
+        and_then_some with_last (after (codes ",") text >>= address_read) local p λ address is others.
         and_then_some address_read (after (codes ",") text) address is λ rest comma read.
-        and_then_some _ (gateway_read address.1) local others λ gateway got same.
-        subst IsLast (same_Some _ _ same) (address_bytes rest address.0 address.1 read, gateway_bytes address.1 gateway.0 gateway.1 got)
+        and_then_some _ (last_read address.1) local others λ last got same.
+        subst IsLast (same_Some _ _ same) (address_bytes rest address.0 address.1 read, end_bytes address.1 last got)
 
 -- the number of a word, or another
 or_small : (n : ℕ) (a : Option (List ℕ)) (other : Option (ℕ × List ℕ)) (m : ℕ) (rest : List ℕ) → n < 256
@@ -144,33 +151,38 @@ origin_small text m rest e =
     (or_small 1 (after (codes "STATELESSAUTOCONFIGURE") text) _ m rest (omega arith)
     (or_small 2 (after (codes "STATEFULAUTOCONFIGURE") text) None m rest (omega arith) (λ (p : None ≡ Some (m, rest)). absurd (none-some _ p)))) e
 
-connection_bytes : (remote : List ℕ) (protocol origin : ℕ) (local : List ℕ × ℕ × List ℕ) → AreBytes remote → origin < 256 → IsLast local
+connection_bytes : (remote : List ℕ) (protocol origin : ℕ) (local : List ℕ × List ℕ) → AreBytes remote → origin < 256 → IsLast local
     → AreBytes (connection remote protocol origin local)
 connection_bytes remote protocol origin local r o l =
-    let last : List ℕ = local.1 ∷ local.2 in
-    let settings : List ℕ = low_bytes 2 protocol ++ (origin ∷ last) in
+    let settings : List ℕ = low_bytes 2 protocol ++ (origin ∷ local.1) in
     both local.0 (remote ++ (0 ∷ 0 ∷ 0 ∷ 0 ∷ settings)) l.0 (both remote (0 ∷ 0 ∷ 0 ∷ 0 ∷ settings) r (both (0 ∷ 0 ∷ 0 ∷ 0 ∷ []) settings (zeros 4)
-    (then_byte (protocol % 256) (protocol / 256 % 256 ∷ origin ∷ last) (omega arith)
-    (then_byte (protocol / 256 % 256) (origin ∷ last) (omega arith) (then_byte origin last o l.1)))))
+    (then_byte (protocol % 256) (protocol / 256 % 256 ∷ origin ∷ local.1) (omega arith)
+    (then_byte (protocol / 256 % 256) (origin ∷ local.1) (omega arith) (then_byte origin local.1 o l.1)))))
 
 abbrev with_local : List ℕ → ℕ → ℕ × List ℕ → Option (List ℕ)
 with_local remote protocol origin = local_read origin.1 >>= λ local. Some (connection remote protocol origin.0 local)
 
-abbrev with_origin : List ℕ → ℕ × List ℕ → Option (List ℕ)
-with_origin remote protocol = after (codes ",") protocol.1 >>= origin_read >>= with_local remote protocol.0
+origin_bytes : (remote : List ℕ) (protocol : ℕ) (text content : List ℕ) → AreBytes remote → origin_on remote protocol text ≡ Some content → AreBytes content
+origin_bytes remote protocol text content r e = by (closes_call text) e
+  where
+    by : (b : Bool) → cond b (Some (connection remote protocol 2 (no_address, 0 ∷ no_address))) (after (codes ",") text >>= origin_read >>= with_local remote protocol) ≡ Some content
+        → AreBytes content
+    by true p = subst AreBytes (same_Some _ _ p) (connection_bytes remote protocol 2 (no_address, 0 ∷ no_address) r (omega arith) (zeros 16, zeros 17))
+    by false p =
+        and_then_some (with_local remote protocol) (after (codes ",") text >>= origin_read) content p λ origin got left.
+        and_then_some origin_read (after (codes ",") text) origin got λ rest comma read.
+        and_then_some _ (local_read origin.1) content left λ local found same.
+        subst AreBytes (same_Some _ _ same) (connection_bytes remote protocol origin.0 local r (origin_small rest origin.0 origin.1 read) (local_bytes origin.1 local found))
 
 settings_bytes : (remote text content : List ℕ) → AreBytes remote → settings_read remote text ≡ Some content → AreBytes content
 settings_bytes remote text content r e = by (closes_call text) e
   where
-    by : (b : Bool) → cond b (Some (connection remote 0 2 (no_address, 0, no_address))) (after (codes ",") text >>= protocol_read >>= with_origin remote) ≡ Some content
+    by : (b : Bool) → cond b (origin_on remote 0 text) (after (codes ",") text >>= protocol_read >>= λ protocol. origin_on remote protocol.0 protocol.1) ≡ Some content
         → AreBytes content
-    by true p = subst AreBytes (same_Some _ _ p) (connection_bytes remote 0 2 (no_address, 0, no_address) r (omega arith) (zeros 16, zeros 17))
+    by true p = origin_bytes remote 0 text content r p
     by false p =
-        and_then_some (with_origin remote) (after (codes ",") text >>= protocol_read) content p λ protocol is others.
-        and_then_some (with_local remote protocol.0) (after (codes ",") protocol.1 >>= origin_read) content others λ origin got left.
-        and_then_some origin_read (after (codes ",") protocol.1) origin got λ rest comma read.
-        and_then_some _ (local_read origin.1) content left λ local found same.
-        subst AreBytes (same_Some _ _ same) (connection_bytes remote protocol.0 origin.0 local r (origin_small rest origin.0 origin.1 read) (local_bytes origin.1 local found))
+        and_then_some _ (after (codes ",") text >>= protocol_read) content p λ protocol is others.
+        origin_bytes remote protocol.0 protocol.1 content r others
 
 pub call_bytes : (text content : List ℕ) → call_data text ≡ Some content → AreBytes content
 call_bytes text content e =

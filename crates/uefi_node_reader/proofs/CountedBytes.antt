@@ -120,16 +120,15 @@ copied old new bytes len e l few =
           ∙ take_all (length old) bytes l,
     )
 
--- four parts one after the other, at the start of zeros
+-- four parts one after the other
 pub four_put : (z a b m g : List ℕ) (s t u v : List ℕ × ℕ) → s ≡ pushed_bytes (z, 0) a → t ≡ pushed_bytes s b → u ≡ pushed_bytes t m
-    → v ≡ pushed_bytes u g → length a + (length b + (length m + length g)) ≡ 56 → length z ≡ 56 → take 56 v.0 ≡ a ++ (b ++ (m ++ g))
+    → v ≡ pushed_bytes u g → length a + (length b + (length m + length g)) ≤ 56 → length z ≡ 56 → (v.1 ≤ 56) × (take v.1 v.0 ≡ a ++ (b ++ (m ++ g)))
 four_put z a b m g s t u v e f h k size room =
     let all : List ℕ = a ++ (b ++ (m ++ g)) in
-    let whole : length all ≡ 56 = length-append a (b ++ (m ++ g)) ∙ ap (λ (n : ℕ). length a + n) (length-append b (m ++ g) ∙ ap (λ (n : ℕ). length b + n) (length-append m g)) ∙ size in
+    let whole : length all ≡ length a + (length b + (length m + length g)) =
+    length-append a (b ++ (m ++ g)) ∙ ap (λ (n : ℕ). length a + n) (length-append b (m ++ g) ∙ ap (λ (n : ℕ). length b + n) (length-append m g)) in
     let put : v ≡ pushed_bytes (z, 0) all =
     k ∙ ap (λ (x : List ℕ × ℕ). pushed_bytes x g) (h ∙ ap (λ (x : List ℕ × ℕ). pushed_bytes x m) (f ∙ ap (λ (x : List ℕ × ℕ). pushed_bytes x b) e))
     ∙ sym (pushed_bytes-append (z, 0) a (b ++ (m ++ g)) ∙ pushed_bytes-append (pushed_bytes (z, 0) a) b (m ++ g) ∙ pushed_bytes-append (pushed_bytes (pushed_bytes (z, 0) a) b) m g) in
-    ap (λ (x : List ℕ × ℕ). take 56 x.0) put
-    ∙ ap (λ (n : ℕ). take n (pushed_bytes (z, 0) all).0) {x = 56} {y = 0 + length all} (omega (arith, whole))
-    ∙ first_shown all z 0 (omega arith) (omega (arith, whole))
-    ∙ take_all (length z) all (omega (arith, whole, room))
+    let is = copied z v.0 all v.1 put (omega (arith, whole, size, room)) (omega (arith, whole, size)) in
+    (omega (arith, is.0, room), is.1)

@@ -1,6 +1,6 @@
 -- Nodes of IPv6 connections as people write them, in tidied calls: with addresses in any form of RFC 4291,
 -- section 2.2, and without the fields that people omit.
-use Rattle.std.specs.Prelude.{ℕ, Bool, true, false, ◌==◌, ◌&&◌, ◌||◌, if◌then◌else◌, List, ◌∷◌, ◌++◌, codes, drop, length, slice_index, take, Option, Some, None}
+use Rattle.std.specs.Prelude.{ℕ, Bool, true, false, ◌==◌, ◌&&◌, ◌||◌, if◌then◌else◌, List, [], ◌∷◌, ◌++◌, codes, drop, length, slice_index, take, Option, Some, None}
 use Rattle.std.specs.List.{position_or_len}
 use Rattle.std.specs.Net.Addr.{octets_of}
 use Rattle.std.specs.Net.Reader.{read_ipv6, whole_value}
@@ -67,30 +67,42 @@ abbrev pub last_fields : List ℕ → Option (ℕ × List ℕ)
 last_fields text = any_number 256 text >>= λ prefix. after (codes ",") prefix.1 >>= address_read >>= at_end
     >>= λ gateway. Some (prefix.0, gateway)
 
--- the prefix length and the gateway at the end of a call, after a comma; a node without them has other data,
--- and is read only with whole addresses
-abbrev pub gateway_read : List ℕ → Option (ℕ × List ℕ)
-gateway_read text = after (codes ",") text >>= last_fields
+-- the end of a connection's data: the prefix length and the gateway, which a short node lacks
+abbrev pub last_part : Option (ℕ × List ℕ) → List ℕ
+last_part None = []
+last_part (Some gateway) = gateway.0 ∷ gateway.1
 
--- the local address, the prefix length and the gateway at the end of a call, or zeros if all are omitted
-abbrev pub local_read : List ℕ → Option (List ℕ × ℕ × List ℕ)
-local_read text = if closes_call text then Some (no_address, 0, no_address)
+-- the end of the data, from the end of a call after the local address; a call that ends there is a short node
+abbrev pub last_read : List ℕ → Option (List ℕ)
+last_read text = if closes_call text then Some (last_part None)
+    else (after (codes ",") text >>= last_fields >>= λ gateway. Some (last_part (Some gateway)))
+
+-- the local address and the end of the data, from the end of a call after the origin, or zeros if all are
+-- omitted
+abbrev pub local_read : List ℕ → Option (List ℕ × List ℕ)
+local_read text = if closes_call text then Some (no_address, 0 ∷ no_address)
     else (after (codes ",") text >>= address_read >>= λ local.
-    gateway_read local.1 >>= λ gateway. Some (local.0, gateway.0, gateway.1))
+    last_read local.1 >>= λ last. Some (local.0, last))
 
 -- the data of a connection without ports, from the remote address, the protocol, the origin of the local
--- address, and the local address, the prefix length and the gateway (UEFI Specification 2.10, section 10.3.4)
-abbrev pub connection : List ℕ → ℕ → ℕ → List ℕ × ℕ × List ℕ → List ℕ
+-- address, and the local address and the end of the data (UEFI Specification 2.10, section 10.3.4)
+abbrev pub connection : List ℕ → ℕ → ℕ → List ℕ × List ℕ → List ℕ
 connection remote protocol origin local = local.0 ++ (remote ++ (0 ∷ 0 ∷ 0 ∷ 0 ∷
-    (low_bytes 2 protocol ++ (origin ∷ local.1 ∷ local.2))))
+    (low_bytes 2 protocol ++ (origin ∷ local.1))))
+
+-- the data of a connection, from the end of its call after the protocol; if that is all, EDK II reads a
+-- stateful configuration
+abbrev pub origin_on : List ℕ → ℕ → List ℕ → Option (List ℕ)
+origin_on remote protocol text =
+    if closes_call text then Some (connection remote protocol 2 (no_address, 0 ∷ no_address))
+    else (after (codes ",") text >>= origin_read >>= λ origin.
+    local_read origin.1 >>= λ local. Some (connection remote protocol origin.0 local))
 
 -- the data of a connection, from the end of its call after the remote address; if that is all, EDK II reads
--- protocol 0 and a stateful configuration
+-- protocol 0
 abbrev pub settings_read : List ℕ → List ℕ → Option (List ℕ)
-settings_read remote text = if closes_call text then Some (connection remote 0 2 (no_address, 0, no_address))
-    else (after (codes ",") text >>= protocol_read >>= λ protocol.
-    after (codes ",") protocol.1 >>= origin_read >>= λ origin.
-    local_read origin.1 >>= λ local. Some (connection remote protocol.0 origin.0 local))
+settings_read remote text = if closes_call text then origin_on remote 0 text
+    else (after (codes ",") text >>= protocol_read >>= λ protocol. origin_on remote protocol.0 protocol.1)
 
 -- the data of a connection, from its whole call
 abbrev pub call_data : List ℕ → Option (List ℕ)

@@ -2,16 +2,16 @@
 //! 2.2.
 #![tactic(auto)]
 
-ghost use Rattle.std.specs.Prelude.{◌≡◌, ◌≤◌, length, take};
+ghost use Rattle.std.specs.Prelude.{◌≡◌, ◌≤◌, IfSome, length, take};
 ghost use Rattle.std.specs.List.{position_or_len};
 ghost use Rattle.std.specs.Option.{option_map};
 ghost use Rattle.uefi_node_reader.specs.LenientFields.{any_number};
-ghost use Rattle.uefi_node_reader.specs.ShortAddresses.{address_read, bare_address, call_data, closed_address, connection, ends_address, gateway_read, closes_call, is_fixed, last_fields, local_read, no_address, origin_read, protocol_read, settings_read, short_ipv6, told_fixed};
+ghost use Rattle.uefi_node_reader.specs.ShortAddresses.{address_read, bare_address, call_data, closed_address, closes_call, connection, ends_address, is_fixed, last_fields, last_part, last_read, local_read, origin_on, origin_read, protocol_read, settings_read, short_ipv6, told_fixed};
 ghost use Rattle.uefi_node_reader.specs.ParsedNodeViews.{parsed_node};
 
 use crate::address_texts::{Address, whole_address};
 use crate::complete_texts::tells;
-use crate::counted_bytes::push_all;
+use crate::counted_bytes::{push, push_all};
 use crate::fields::after;
 use crate::lenient_fields::any_number;
 use crate::parsed_node::ParsedNode;
@@ -21,6 +21,9 @@ use uefi_node_table::rows::Tail;
 
 /// The address `::`.
 const NO_ADDRESS: Address = Address { octets: [0; 16] };
+
+/// The prefix length 0 and the gateway `::`.
+const NO_GATEWAY: Option<(u8, Address)> = Some((0, NO_ADDRESS));
 
 /// Returns whether a byte ends an address.
 fn ends_address(byte: u8) -> bool
@@ -125,62 +128,91 @@ fn last_fields<T: Text>(text: T) -> Option<(u8, Address)>
     Some((prefix_length as u8, gateway))
 }
 
-/// Reads the prefix length and the gateway at the end of a call, after a comma. A node without them has
-/// other data, and is read only with whole addresses.
-fn gateway<T: Text>(text: T) -> Option<(u8, Address)>
-    ensures { option_map (λ x. (x.0, x.1.octets)) result ≡ gateway_read (T.bytes text) }
+/// Reads the prefix length and the gateway at the end of a call, after a comma. A call that ends there is a
+/// short node, which lacks them.
+fn last<T: Text>(text: T) -> Option<Option<(u8, Address)>>
+    ensures { option_map (λ x. last_part (option_map (λ y. (y.0, y.1.octets)) x)) result
+        ≡ last_read (T.bytes text) }
 {
-    last_fields(after(b",", text)?)
+    if closes_call(text) {
+        return Some(None);
+    }
+    let gateway = last_fields(after(b",", text)?)?;
+    Some(Some(gateway))
 }
 
 /// Reads the local address, the prefix length and the gateway at the end of a call, or zeros if all are
 /// omitted.
-fn local<T: Text>(text: T) -> Option<(Address, u8, Address)>
-    ensures { option_map (λ x. (x.0.octets, x.1, x.2.octets)) result ≡ local_read (T.bytes text) }
+fn local<T: Text>(text: T) -> Option<(Address, Option<(u8, Address)>)>
+    ensures { option_map (λ x. (x.0.octets, last_part (option_map (λ y. (y.0, y.1.octets)) x.1))) result
+        ≡ local_read (T.bytes text) }
 {
     if closes_call(text) {
-        return Some((NO_ADDRESS, 0, NO_ADDRESS));
+        return Some((NO_ADDRESS, NO_GATEWAY));
     }
     let (local, rest) = address(after(b",", text)?)?;
-    let (prefix_length, gateway) = gateway(rest)?;
-    Some((local, prefix_length, gateway))
+    let last = last(rest)?;
+    Some((local, last))
 }
 
-/// Returns the data of a connection without ports, and eight zeros.
-fn connection(remote: Address, protocol: u16, origin: u8, local: (Address, u8, Address)) -> [u8; 56]
-    ensures { take 56 result
-        ≡ connection remote.octets protocol origin (local.0.octets, local.1, local.2.octets) }
+/// Returns the data of a connection without ports, and zeros up to 56 bytes. Returns the number of bytes of
+/// the data too.
+fn connection(
+    remote: Address,
+    protocol: u16,
+    origin: u8,
+    local: (Address, Option<(u8, Address)>),
+) -> ([u8; 56], usize)
+    ensures data { take result.1 result.0 ≡ connection remote.octets protocol origin
+        (local.0.octets, last_part (option_map (λ y. (y.0, y.1.octets)) local.1)) }
+    ensures few { result.1 ≤ 56 }
 {
     let mut data = [0; 56];
-    let (local, prefix_length, gateway) = local;
+    let (local, last) = local;
     let len = push_all(&mut data, 0, &local.octets);
     let len = push_all(&mut data, len, &remote.octets);
     let (low, high) = ((protocol % 256) as u8, (protocol / 256) as u8);
-    let len = push_all(
-        &mut data,
-        len,
-        &[0, 0, 0, 0, low, high, origin, prefix_length],
-    );
-    push_all(&mut data, len, &gateway.octets);
-    data
+    let len = push_all(&mut data, len, &[0, 0, 0, 0, low, high, origin]);
+    match last {
+        Some((prefix_length, gateway)) => {
+            let len = push(&mut data, len, prefix_length);
+            let len = push_all(&mut data, len, &gateway.octets);
+            (data, len)
+        }
+        None => (data, len),
+    }
 }
 
-/// Reads the end of a call after the remote address. Returns the data of the connection, and eight zeros.
-fn settings<T: Text>(remote: Address, text: T) -> Option<[u8; 56]>
-    ensures { option_map (λ x. take 56 x) result ≡ settings_read remote.octets (T.bytes text) }
+/// Reads the end of a call after the protocol. Returns the data of the connection as [`connection`] does.
+fn origin_on<T: Text>(remote: Address, protocol: u16, text: T) -> Option<([u8; 56], usize)>
+    ensures data { option_map (λ x. take x.1 x.0) result ≡ origin_on remote.octets protocol (T.bytes text) }
+    ensures few { IfSome result (λ x. x.1 ≤ 56) }
 {
     if closes_call(text) {
-        return Some(connection(remote, 0, 2, (NO_ADDRESS, 0, NO_ADDRESS)));
+        return Some(connection(remote, protocol, 2, (NO_ADDRESS, NO_GATEWAY)));
     }
-    let (protocol, rest) = protocol(after(b",", text)?)?;
-    let (origin, rest) = origin(after(b",", rest)?)?;
+    let (origin, rest) = origin(after(b",", text)?)?;
     let local = local(rest)?;
     Some(connection(remote, protocol, origin, local))
 }
 
-/// Reads a whole call. Returns the data of the connection, and eight zeros.
-fn call_data<T: Text>(text: T) -> Option<[u8; 56]>
-    ensures { option_map (λ x. take 56 x) result ≡ call_data (T.bytes text) }
+/// Reads the end of a call after the remote address. Returns the data of the connection as [`connection`]
+/// does.
+fn settings<T: Text>(remote: Address, text: T) -> Option<([u8; 56], usize)>
+    ensures data { option_map (λ x. take x.1 x.0) result ≡ settings_read remote.octets (T.bytes text) }
+    ensures few { IfSome result (λ x. x.1 ≤ 56) }
+{
+    if closes_call(text) {
+        return origin_on(remote, 0, text);
+    }
+    let (protocol, rest) = protocol(after(b",", text)?)?;
+    origin_on(remote, protocol, rest)
+}
+
+/// Reads a whole call. Returns the data of the connection as [`connection`] does.
+fn call_data<T: Text>(text: T) -> Option<([u8; 56], usize)>
+    ensures data { option_map (λ x. take x.1 x.0) result ≡ call_data (T.bytes text) }
+    ensures few { IfSome result (λ x. x.1 ≤ 56) }
 {
     let (remote, rest) = address(after(b"IPV6(", text)?)?;
     settings(remote, rest)
@@ -210,7 +242,7 @@ fn told_fixed<T: Text>(node: ParsedNode<T>) -> Option<ParsedNode<T>>
 pub(crate) fn short_ipv6<T: Text>(text: T) -> Option<ParsedNode<T>>
     ensures { option_map parsed_node result ≡ short_ipv6 (T.bytes text) }
 {
-    let fixed = call_data(text)?;
-    let (node, _) = ParsedNode::with_tail(3, 13, fixed, 56, Tail::Nothing, "", text)?;
+    let (fixed, len) = call_data(text)?;
+    let (node, _) = ParsedNode::with_tail(3, 13, fixed, len, Tail::Nothing, "", text)?;
     told_fixed(node)
 }
