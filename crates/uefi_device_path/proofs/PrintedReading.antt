@@ -1,5 +1,5 @@
 -- In the style of printed texts, a text is read as the nodes whose text it is, or it stops where it stops being one.
-use Rattle.std.proofs.Common.{◌≡◌, ℕ, Bool, true, false, cond, List, [], ◌∷◌, ◌++◌, drop, refl, sym, ap, subst, ◌∙◌, true≢false}
+use Rattle.std.proofs.Common.{◌≡◌, ℕ, Bool, true, false, cond, List, [], ◌∷◌, ◌++◌, drop, refl, sym, ap, subst, ◌∙◌}
 use Rattle.std.specs.Prelude.{Some, None, Ok, Err, nat_lt, ◌==◌, ◌||◌}
 use Rattle.uefi_device_nodes.specs.Nodes.{Node}
 use Rattle.uefi_device_path.specs.Laws.{NeverBoth, PrintedStops, ReadIsPrinted, ReadTold}
