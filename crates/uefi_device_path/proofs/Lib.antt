@@ -16,7 +16,6 @@ pub mod PathReading
 pub mod TextStops
 pub mod TextLengths
 mod PushedAt
-pub mod PushedTexts
 pub mod NamesInARow
 pub mod ShownPaths
 mod LoweredTexts
@@ -24,6 +23,6 @@ mod AroundNodes
 mod FirstBytes
 mod PastedTexts
 pub mod StyledReading
-pub mod StyledPushes
+pub mod HeldPaths
 pub mod PrintedReading
 pub mod TextRoom

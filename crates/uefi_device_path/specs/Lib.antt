@@ -38,6 +38,7 @@ pub mod PathTexts
 pub mod PathReading
 pub mod AroundNodes
 pub mod StyledReading
+pub mod NodeSinks
 pub mod LenientErrorTexts
 pub mod Matching
 pub mod Laws

@@ -1,11 +1,10 @@
 -- Device paths read from texts in a style.
-use Rattle.std.specs.Prelude.{◌≡◌, ◌≤◌, ◌^◌, min, ℕ, zero, suc, drop, take, ◌+◌, ◌-◌, Bool, true, false, nat_lt, ◌==◌, ◌&&◌, if◌then◌else◌, List, [], ◌∷◌, ◌++◌, length, slice_index, codes, Option, Some, None, Result, Ok, Err, is_ok}
+use Rattle.std.specs.Prelude.{◌≡◌, ℕ, zero, suc, take, ◌+◌, ◌-◌, Bool, true, false, nat_lt, ◌==◌, ◌&&◌, if◌then◌else◌, List, [], ◌∷◌, ◌++◌, length, slice_index, codes, Option, Some, None, Result, Ok, Err, is_ok}
 use Rattle.uefi_device_nodes.specs.Nodes.{Node}
 use Rattle.uefi_device_path.specs.AroundNodes.{before_closing, first_place}
 use Rattle.uefi_device_path.specs.Building.{path_length}
 use Rattle.uefi_device_path.specs.PathReading.{end_instance, is_after_instance}
 use Rattle.uefi_device_path.specs.Faults.{RefusedFor}
-use Rattle.uefi_device_path.specs.Paths.{IsPath, nodes_bytes, nodes_in, without_end}
 use Rattle.uefi_device_path.specs.declared.lenient_errors.LenientTextError.{LenientTextError}
 use Rattle.uefi_device_path.specs.declared.lenient_errors.LenientTextError.TheVariants.{NoNode, OutOfMemory}
 use Rattle.uefi_device_path.specs.declared.lenient_errors.PushLenientTextError.{PushLenientTextError}
@@ -112,21 +111,12 @@ abbrev pub StopsBeingRead : TextStyle → List ℕ → TextFault → Type 0
 StopsBeingRead style text fault = (nodes : List Node) × (at_start : Bool) × (rest : List ℕ)
     × ReadingStops style text fault nodes at_start rest
 
--- how many bytes a path of `len` bytes has with these nodes, as far as a `usize` counts
-abbrev pub grown_length : ℕ → List Node → ℕ
-grown_length len nodes = min (len + length (nodes_bytes nodes)) (2 ^ 64 - 1)
-
--- the nodes of the path that the first bytes of a buffer are
-abbrev pub nodes_up_to : ℕ → List ℕ → List Node
-nodes_up_to len buffer = nodes_in (without_end (take len buffer))
-
--- a buffer that was `old` begins with the path of these nodes, and what follows it is unchanged
-pub record Holds (old : List ℕ) (nodes : List Node) (new : List ℕ) (end : ℕ) : Type 0 where
-  pub within : end ≤ length new
-  pub path : IsPath (take end new)
-  pub shown : nodes_up_to end new ≡ nodes
-  pub same : length new ≡ length old
-  pub rest : drop end new ≡ drop end old
+-- the result of putting the nodes of a text into a sink: what is true of the nodes and the result if the text
+-- is read, or the text's fault
+abbrev pub PutsText : {V : Type 0} → (List Node → V → Type 0) → Result V TextFault
+    → Result (List Node) TextFault → Type 0
+PutsText takes (Ok value) read = (nodes : List Node) × (read ≡ Ok nodes) × takes nodes value
+PutsText takes (Err fault) read = read ≡ Err fault
 
 -- the result is the path that a text is read as, or the text's fault, unless memory ran out
 abbrev pub GivesText : Result (List Node) LenientTextError → Result (List Node) TextFault → Type 0

@@ -38,19 +38,6 @@ impl<A: Allocator> Model for DevicePathBuf<A> {
     ghost invariant = { λ path. IsPath path.bytes.items };
 }
 
-/// Returns this many bytes, beginning with the device path without nodes. Allocates once.
-pub(crate) fn empty_path<A: Allocator>(alloc: A, len: usize) -> Result<Vec<u8, A>, AllocError>
-    requires { 4 ≤ len }
-    ensures begins { IfOk result (λ bytes. take 4 bytes.items ≡ node_bytes end_entire) }
-    ensures len { IfOk result (λ bytes. length bytes.items ≡ len) }
-{
-    let mut bytes = Vec::with_capacity(alloc, len)?;
-    // These fail only if they need more memory, and it is proved here that they never do.
-    bytes.extend_from_slice(&[0x7f, 0xff, 4, 0]).unwrap();
-    bytes.resize(len, 0).unwrap();
-    Ok(bytes)
-}
-
 /// Writes a node over the last four bytes, and the node that ends a path after it.
 fn put_node<N: BuildNode, A: Allocator>(bytes: &mut Vec<u8, A>, header: [u8; 4], node: &N)
     requires end { 4 ≤ vec_len bytes.old }
@@ -120,17 +107,17 @@ impl<A: Allocator> DevicePathBuf<A> {
     pub fn new(alloc: A) -> Result<Self, AllocError>
         ensures { IfOk result (λ path. path ≡ []) }
     {
-        Ok(DevicePathBuf {
-            bytes: Vec::from_slice(alloc, &[0x7f, 0xff, 4, 0])?,
-        })
+        Self::with_room(alloc, 4)
     }
 
-    /// Creates the path from its bytes.
-    pub(crate) fn of_bytes(bytes: Vec<u8, A>) -> Self
-        requires { IsPath bytes.items }
-        ensures { result ≡ nodes_in (without_end bytes.items) }
+    /// Creates the device path without nodes, with room for a path of `room` bytes. Allocates once if
+    /// `room` is at least four.
+    pub(crate) fn with_room(alloc: A, room: usize) -> Result<Self, AllocError>
+        ensures { IfOk result (λ path. path ≡ []) }
     {
-        DevicePathBuf { bytes }
+        let mut bytes = Vec::with_capacity(alloc, room)?;
+        bytes.extend_from_slice(&[0x7f, 0xff, 4, 0])?;
+        Ok(DevicePathBuf { bytes })
     }
 
     /// Adds a node before the end: a built node, or a node of another path.
@@ -155,9 +142,16 @@ impl<A: Allocator> DevicePathBuf<A> {
         if let Err(error) = check_node(node) {
             return Err(error);
         }
-        if self.bytes.reserve(node.data_len() + 4).is_err() {
-            return Err(BuildError::OutOfMemory);
-        }
+        self.grow(node).map_err(|_| BuildError::OutOfMemory)
+    }
+
+    /// Adds a node that may be before the end. Allocates if the path has no room.
+    pub(crate) fn grow<N: BuildNode>(&mut self, node: &N) -> Result<(), AllocError>
+        requires { build_refusal (N.node node.now) ≡ None }
+        ensures ok { OnOk result (self.new ≡ self.old ++ N.node node.now ∷ []) }
+        ensures err { OnErr result (self.new ≡ self.old) }
+    {
+        self.bytes.reserve(node.data_len() + 4)?;
         let header = node_header(node);
         put_node(&mut self.bytes, header, node);
         Ok(())

@@ -38,10 +38,13 @@ impl<A: Allocator + Copy> DevicePathBuf<A> {
     /// A text that [`DevicePathBuf::from_text`] reads is read as the same path. The path that is
     /// read prints as a text that `from_text` reads as that path.
     ///
-    /// Checks the text first, and fails with `NoNode` if a node can't be read: the error has the
-    /// start of the first such node, the byte that is wrong, and what must be there, which may be
-    /// one of some words, or a name that differs in one letter. Then allocates once, for the whole
-    /// path, and fails with `OutOfMemory` only there.
+    /// Fails with `NoNode` if a node can't be read: the error has the start of the first such node,
+    /// the byte that is wrong, and what must be there, which may be one of some words, or a name that
+    /// differs in one letter. Fails with `OutOfMemory` if memory runs out and the whole text can be
+    /// read.
+    ///
+    /// Reads the text once. Allocates first, with room for two bytes for each byte of the text, and
+    /// again only if the path needs more. An error leaves nothing allocated.
     ///
     /// ```rust
     /// let path = DevicePathBuf::from_lenient_text(rt.alloc(), "pciroot(0)/pci(31, 2)")?;

@@ -48,6 +48,7 @@ mod load_option_edits;
 mod load_option_parts;
 mod matching;
 mod node_iterator;
+mod node_sinks;
 mod path_in_buf;
 mod path_list;
 mod path_reader;

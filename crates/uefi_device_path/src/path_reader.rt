@@ -53,8 +53,7 @@ impl fmt::Display for PathTextError {
 
 impl Error for PathTextError {}
 
-/// Returns the path of a text, given as bytes. Allocates after the bytes are known to be the text
-/// of a path.
+/// Returns the path of a text, given as bytes.
 fn read_path<A: Allocator + Copy>(alloc: A, text: &[u8]) -> Result<DevicePathBuf<A>, PathTextError>
     ensures told { IfOk result (λ path. AreTold path) }
     ensures ok { IfOk result (λ path. nodes_text false false path ≡ text.now) }
@@ -72,8 +71,12 @@ impl<A: Allocator + Copy> DevicePathBuf<A> {
     /// Reads a path from its text, as it is printed to be read back, without short names (UEFI
     /// Specification 2.10, section 10.6.1).
     ///
-    /// Checks the text first: fails with `NoNode` and the byte at which it stops being the text of
-    /// a path. Then allocates once, for the whole path, and fails with `OutOfMemory` only there.
+    /// Fails with `NoNode` and the byte at which the text stops being the text of a path, and with
+    /// `OutOfMemory` if memory runs out and the whole text can be read.
+    ///
+    /// Reads the text once. Allocates first, with room for two bytes for each byte of the text, and
+    /// again only if the path needs more, as the path of `,,,,,,,,` does. An error leaves nothing
+    /// allocated.
     ///
     /// ```rust
     /// let path = DevicePathBuf::from_text(rt.alloc(), "PciRoot(0x0)/Pci(0x1F,0x2)")?;

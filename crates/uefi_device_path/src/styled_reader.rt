@@ -1,21 +1,18 @@
 //! Device paths that are read from texts in a style.
 #![tactic(auto)]
 
-ghost use Rattle.std.specs.Prelude.{take, true, false, if◌then◌else◌, drop, ◌++◌, ◌∷◌, ◌≡◌, ◌+◌, ◌-◌, ◌<◌, ◌≤◌, ◌^◌, min, [], List, IfOk, IfErr, MatchOption, OnOk, Err, length};
-ghost use Rattle.std.specs.Result.{result_map_both};
-ghost use Rattle.uefi_device_nodes.specs.Nodes.{Node};
-ghost use Rattle.uefi_device_path.specs.StyledReading.{GivesText, Holds, IsReadAs, IsStyledText, fault_from, grown_length, follows_comma, nodes_up_to, path_read, place_read};
+ghost use Rattle.std.specs.Prelude.{take, true, false, if◌then◌else◌, drop, ◌∷◌, ◌≡◌, ◌+◌, ◌-◌, ◌<◌, ◌≤◌, [], MatchOption, Err, length};
+ghost use Rattle.uefi_device_path.specs.NodeSinks.{HoldsMore};
+ghost use Rattle.uefi_device_path.specs.StyledReading.{GivesText, IsStyledText, PutsText, fault_from, follows_comma, path_read};
 ghost use Rattle.uefi_device_path.specs.PathReading.{end_instance, is_after_instance};
-ghost use Rattle.uefi_device_path.specs.Paths.{IsPath, nodes_bytes};
+ghost use Rattle.uefi_device_path.specs.Paths.{IsPath};
 ghost use Rattle.uefi_device_nodes.specs.RawNodes.{raw_node};
-ghost use Rattle.uefi_node_reader.specs.NamedFiles.{IsTold};
 ghost use Rattle.uefi_device_path.specs.declared.lenient_errors.LenientTextError.TheVariants.{OutOfMemory};
-ghost use Rattle.uefi_node_reader.specs.ReadNodes.{node_from_text};
 
 use crate::around_nodes::around_nodes;
-use crate::device_path_buf::{DevicePathBuf, empty_path};
+use crate::device_path_buf::DevicePathBuf;
 use crate::lenient_errors::{LenientTextError, TextFault};
-use crate::path_in_buf::put_if_room;
+use crate::node_sinks::{BufferedPath, NodeSink};
 use std::alloc::Allocator;
 use uefi_device_nodes::build_node::RawNode;
 use uefi_device_nodes::{DeviceSubType, DeviceType};
@@ -90,34 +87,26 @@ fn fault_at<T: Text>(text: T, rest: T, found: NodeFault) -> TextFault
     }
 }
 
-/// Adds the nodes of a text before the end of the path in the first `len` bytes of a buffer. Returns the
-/// number of bytes that the path then has, as far as a `usize` counts, or the fault of the text. The
-/// contents of the buffer are unspecified afterwards if it has no room for all nodes, or if the call fails.
-pub(crate) fn put_text<T: NameText>(
+/// Puts the nodes of a text into a sink, or fails with the fault of the text.
+pub(crate) fn put_text<S: NodeSink, T: NameText>(
     style: TextStyle,
-    buffer: &mut [u8],
-    len: usize,
+    sink: &mut S,
     text: T,
-) -> Result<usize, TextFault>
-    requires { len ≤ length buffer.now → IsPath (take len buffer.now) }
-    ensures len { result
-        ≡ result_map_both (grown_length len) (λ fault. fault) (path_read style (T.bytes text)) }
-    ensures put { (nodes : List Node) → IsReadAs style (T.bytes text) nodes
-        → IfOk result (λ end. end ≤ length buffer.old
-        → Holds buffer.old (nodes_up_to len buffer.old ++ nodes) buffer.new end) }
+) -> Result<(), TextFault>
+    requires { S.grown sink.old [] sink.old }
+    ensures { PutsText (λ nodes _. S.grown sink.old nodes sink.new) result (path_read style (T.bytes text)) }
 {
     nodes_are_read();
     styled_nodes_are_read();
     faults_lie_within();
     let (whole, mut rest) = around_nodes(style, text);
-    let mut end = len;
     let mut at_start = true;
     let mut at_comma = follows_comma(whole, rest);
     'nodes: while !is_empty(rest) {
         match after_comma(rest) {
             Some(after) => {
                 let node = instance_end();
-                end = put_if_room(buffer, end, &node);
+                sink.put(&node);
                 rest = after;
                 at_start = true;
                 at_comma = true;
@@ -128,17 +117,45 @@ pub(crate) fn put_text<T: NameText>(
                     Ok(read) => read,
                     Err(found) => return Err(fault_at(whole, place, found)),
                 };
-                end = put_if_room(buffer, end, &node);
+                sink.put(&node);
                 rest = after;
                 at_start = false;
                 at_comma = false;
             }
         }
     }
-    Ok(end)
+    Ok(())
 }
 
-/// Returns the path that a text is read as. Allocates after the text is known to be readable.
+/// Adds the nodes of a text before the end of the path in the first `len` bytes of a buffer. Returns the
+/// number of bytes that the path then has, as far as a `usize` counts, or the fault of the text. The
+/// contents of the buffer are unspecified afterwards if it has no room for all nodes, or if the call fails.
+pub(crate) fn put_text_in_buf<T: NameText>(
+    style: TextStyle,
+    buffer: &mut [u8],
+    len: usize,
+    text: T,
+) -> Result<usize, TextFault>
+    requires { len ≤ length buffer.now → IsPath (take len buffer.now) }
+    ensures { PutsText (λ nodes end. HoldsMore buffer.old len nodes buffer.new end) result
+        (path_read style (T.bytes text)) }
+{
+    let mut sink = BufferedPath { buffer, len };
+    match put_text(style, &mut sink, text) {
+        Ok(()) => Ok(sink.len),
+        Err(fault) => Err(fault),
+    }
+}
+
+/// Returns the room to ask for before a text is read. A file's name has two bytes for each character, and a
+/// header, a NUL and the end node besides. Other nodes are shorter than their texts, unless numbers are left
+/// out.
+fn room_for<T: Text>(text: T) -> usize {
+    text.len().saturating_mul(2).saturating_add(10)
+}
+
+/// Returns the path that a text is read as. If memory runs out, the text is read to its end nevertheless,
+/// because a fault of the text comes first.
 pub(crate) fn read_styled_path<A: Allocator + Copy, T: NameText>(
     style: TextStyle,
     alloc: A,
@@ -147,15 +164,9 @@ pub(crate) fn read_styled_path<A: Allocator + Copy, T: NameText>(
     ensures gives { GivesText result (path_read style (T.bytes text)) }
     ensures memory { result ≡ Err OutOfMemory → IsStyledText style (T.bytes text) }
 {
-    let len = match put_text(style, &mut [], 4, text) {
-        Ok(len) => len,
-        Err(fault) => return Err(LenientTextError::NoNode(fault)),
-    };
-    let Ok(mut bytes) = empty_path(alloc, len) else {
-        return Err(LenientTextError::OutOfMemory);
-    };
-    match put_text(style, bytes.as_mut_slice(), 4, text) {
-        Ok(_) => Ok(DevicePathBuf::of_bytes(bytes)),
+    let mut path = DevicePathBuf::with_room(alloc, room_for(text)).ok();
+    match put_text(style, &mut path, text) {
+        Ok(()) => path.ok_or(LenientTextError::OutOfMemory),
         Err(fault) => Err(LenientTextError::NoNode(fault)),
     }
 }

@@ -16,7 +16,7 @@ ghost use Rattle.uefi_device_path.specs.declared.lenient_errors.TextFault.{TextF
 use crate::laws::styled_texts;
 use crate::lenient_errors::PushLenientTextError;
 use crate::path_in_buf::path_len;
-use crate::styled_reader::put_text;
+use crate::styled_reader::put_text_in_buf;
 use uefi_node_reader::named_files::NameText;
 use uefi_node_reader::styles::TextStyle;
 
@@ -54,14 +54,14 @@ pub fn push_any_text_in_buf<T: NameText>(
         Ok(len) => len,
         Err(error) => return Err(PushLenientTextError::Path(error)),
     };
-    let needed = match put_text(style, &mut [], len, text) {
+    let needed = match put_text_in_buf(style, &mut [], len, text) {
         Ok(needed) => needed,
         Err(fault) => return Err(PushLenientTextError::NoNode(fault)),
     };
     if buffer.len() < needed {
         return Err(PushLenientTextError::BufferTooSmall(needed));
     }
-    match put_text(style, buffer, len, text) {
+    match put_text_in_buf(style, buffer, len, text) {
         Ok(len) => Ok(len),
         Err(fault) => Err(PushLenientTextError::NoNode(fault)),
     }

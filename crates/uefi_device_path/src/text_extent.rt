@@ -7,7 +7,7 @@ ghost use Rattle.uefi_node_reader.specs.declared.styles.TextStyle.TheVariants.{L
 
 use crate::laws::styled_texts;
 use crate::lenient_errors::{Expected, TextFault};
-use crate::styled_reader::put_text;
+use crate::styled_reader::put_text_in_buf;
 use uefi_node_reader::named_files::NameText;
 use uefi_node_reader::styles::TextStyle;
 
@@ -32,7 +32,7 @@ pub fn styled_text_extent<T: NameText>(style: TextStyle, text: T) -> Result<usiz
 {
     // The law says that the wrong byte is in the text, or at its end.
     styled_texts();
-    let fault = match put_text(style, &mut [], 4, text) {
+    let fault = match put_text_in_buf(style, &mut [], 4, text) {
         Ok(_) => return Ok(text.len()),
         Err(fault) => fault,
     };
@@ -40,7 +40,7 @@ pub fn styled_text_extent<T: NameText>(style: TextStyle, text: T) -> Result<usiz
         return Err(fault);
     }
     let (path, _) = text.split_at(fault.byte);
-    match put_text(style, &mut [], 4, path) {
+    match put_text_in_buf(style, &mut [], 4, path) {
         Ok(_) => Ok(fault.byte),
         Err(_) => Err(fault),
     }

@@ -2,7 +2,9 @@
 //! in turn; and long ones, with ample memory.
 
 use crate::option_builder::END;
-use for_tests::{Refusing, is_answered, out_of_memory, repeated, requests};
+use for_tests::{
+    Refusals, Refusing, is_answered, out_of_memory, refused_in_turn, repeated, requests,
+};
 use std::alloc::{AllocError, Global};
 use std::test::Fail;
 use uefi_device_path::{
@@ -175,20 +177,52 @@ const ROWS: &[(Call<'static>, u64)] = &[
     (Call::FromText(""), 1),
     (Call::FromText("PciRoot(0x0)/Pci(0x1F,0x2)"), 1),
     (Call::FromText("USB(0x1,0x0),,\\a"), 1),
-    (Call::NoText("PciRoot(0x0)/Pci(0x1F,0x2)/", 27), 0),
-    (Call::NoText("\\a/Path(3,99,0F", 3), 0),
+    // The path of ten commas is more than four times as long.
+    (Call::FromText(",,,,,,,,,,"), 2),
     (Call::FromLenientText(""), 1),
     (Call::FromLenientText("pciroot(0)/pci(31,2)/File(a)"), 1),
     (
         Call::FromLibefivarText("NVMe(0x1,00-25-38-5B-71-B0-03-1C)/File(a)"),
         1,
     ),
-    (Call::NoLenientText("pciroot(0)/pci(31,2)/", 21), 0),
-    (Call::NoLenientText("file(a)/Uri(\u{e9})", 8), 0),
+    (Call::FromLenientText("sas(1)"), 2),
+    (
+        Call::FromLenientText("sas(1)/sas(1)/sas(1)/sas(1)/sas(1)"),
+        3,
+    ),
+    (Call::FromLibefivarText("USB(1,0),,,,,,,,,,,,,,"), 2),
     (Call::Description(OPTION), 1),
     // One request for the units, and one for a text of as many bytes.
     (Call::DescriptionLossy(OPTION), 2),
 ];
+
+/// Calls that refuse a text, and how many requests each makes. The fault of the text comes first, whatever
+/// memory there is.
+const FAULTS: &[(Call<'static>, u64)] = &[
+    (Call::NoText("Pci", 0), 1),
+    (Call::NoText("PciRoot(0x0)/Pci(0x1F,0x2)/", 27), 1),
+    (Call::NoText("\\a/Path(3,99,0F", 3), 1),
+    (Call::NoText(",,,,,,,,,,/", 10), 2),
+    (Call::NoLenientText("pciroot(0)/pci(31,2)/", 21), 1),
+    (Call::NoLenientText("file(a)/Uri(\u{e9})", 8), 1),
+    (
+        Call::NoLenientText("sas(1)/sas(1)/sas(1)/sas(1)/sas(1)/", 35),
+        3,
+    ),
+];
+
+#[test]
+fn faults_of_texts(rt: HostRuntime) -> Result<(), Fail> {
+    for (row, (call, want)) in FAULTS.iter().enumerate() {
+        let refusals = refused_in_turn(rt.alloc(), 0, |heap| answers(*call, heap))?;
+        let answered = Refusals {
+            failed: 0,
+            answered: *want,
+        };
+        assert_eq!(rt; refusals, answered, "{row}");
+    }
+    Ok(())
+}
 
 #[test]
 fn requests_of_each_call(rt: HostRuntime) -> Result<(), Fail> {
@@ -272,7 +306,8 @@ const TEXTS: &[(bool, &str, &str, u64, &str)] = &[
     (false, "file(", "中", 32_763, ")"),
 ];
 
-/// Reading a text makes one request, for the path.
+/// Reading one of these texts makes one request, because no path is more than about twice as long as its
+/// text.
 #[test]
 fn texts_of_each_size(rt: HostRuntime) -> Result<(), Fail> {
     for (is_printed, front, piece, count, back) in TEXTS {

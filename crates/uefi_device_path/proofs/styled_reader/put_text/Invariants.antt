@@ -1,11 +1,13 @@
-use Rattle.std.proofs.Common.{◌≡◌, false, length, true}
+use Rattle.std.proofs.Common.{◌≡◌, List, false, length, true}
+use Rattle.uefi_device_nodes.specs.Nodes.{Node}
 use Rattle.uefi_device_path.specs.StyledReading.{follows_comma}
-use Rattle.uefi_device_path.proofs.StyledPushes.{Puts}
+use Rattle.uefi_device_path.proofs.StyledReading.{Going}
 use Rattle.uefi_device_path.proofs.styled_reader.put_text.Given as goal
 
 abbrev pub invariant-nodes : goal.invariant-nodes
-invariant-nodes g l =
-    Puts l.style (g.T.Text.bytes l.fn.text) l.fn.buffer l.len l.buffer l.end l.at_start (g.T.Text.bytes l.rest)
+invariant-nodes g l = (nodes : List Node)
+    × Going l.style (g.T.Text.bytes l.fn.text) nodes l.at_start (g.T.Text.bytes l.rest)
+    × g.S.NodeSink.grown l.fn.sink nodes l.sink
     × (l.at_start ≡ true → l.at_comma ≡ follows_comma (g.T.Text.bytes l.whole) (g.T.Text.bytes l.rest))
     × (l.at_start ≡ false → l.at_comma ≡ false)
 

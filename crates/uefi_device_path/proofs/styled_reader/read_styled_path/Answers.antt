@@ -1,35 +1,40 @@
--- The bytes that were asked for are the path, once the nodes are added to its end.
-use Rattle.std.proofs.Common.{◌≡◌, ◌++◌, ◌∙◌, List, ℕ, ap, drop, length, subst, sym, take}
-use Rattle.std.proofs.lemmas.List.{take_at}
-use Rattle.uefi_device_path.specs.Paths.{IsPath, nodes_in, without_end}
-use Rattle.uefi_device_path.specs.StyledReading.{IsReadAs}
+-- The path without nodes takes those of the text, unless memory ran out.
+use Rattle.std.proofs.Common.{◌≡◌, ◌++◌, ◌∙◌, [], List, ap, refl, subst, sym}
+use Rattle.std.proofs.lemmas.List.{append-nil}
+use Rattle.std.specs.Option.{ok_or}
+use Rattle.std.specs.Prelude.{IfOk, Option, Some, None, Result, Ok, Err}
+use Rattle.std.specs.Result.{result_ok}
 use Rattle.uefi_device_nodes.specs.Nodes.{Node}
-use Rattle.uefi_device_path.proofs.Building.{path_empty}
-use Rattle.uefi_device_path.proofs.StyledPushes.{path_held}
+use Rattle.uefi_device_path.specs.NodeSinks.{IsLonger}
+use Rattle.uefi_device_path.specs.StyledReading.{GivesText, path_read}
+use Rattle.uefi_device_path.specs.declared.lenient_errors.LenientTextError.{LenientTextError}
+use Rattle.uefi_device_path.specs.declared.lenient_errors.LenientTextError.TheVariants.{OutOfMemory}
+use Rattle.uefi_device_path.specs.declared.lenient_errors.TextFault.{TextFault}
 use Rattle.uefi_device_path.proofs.styled_reader.read_styled_path.Goals as goal
 
-pub put_text-requires-2 : goal.put_text-requires-2
-put_text-requires-2 g c = λ fits.
-    (path_empty (take 4 c.as_mut_slice.result.now) (ap (take 4) c.as_mut_slice.ensures.value ∙ c.in-Ok-empty_path.ensures.begins)).0
+-- a path takes no node
+longer_none : (path : Option (List Node)) → IsLonger path [] path
+longer_none None = tt
+longer_none (Some nodes) = (nodes, refl, sym (append-nil nodes))
 
-pub of_bytes-requires : goal.of_bytes-requires
-of_bytes-requires g c =
-    let bytes = c.in-Ok-empty_path.bytes in
-    let new = c.put_text-2.new.buffer in
-    let whole : take bytes.len (new ++ drop (length new) bytes.items) ≡ new =
-    take_at new (drop (length new) bytes.items) bytes.len (c.put_text-2.auto.buffer ∙ c.as_mut_slice.ensures.len) in
-    subst IsPath (sym whole) (path_held c.args.style (g.T.Text.bytes c.args.text) c.as_mut_slice.result.now new c.in-Ok.len c.in-Ok-put_text.field-0
-    c.in-Ok.ensures.len c.in-Ok-put_text.ensures.len (ap (take 4) c.as_mut_slice.ensures.value ∙ c.in-Ok-empty_path.ensures.begins)
-    (ap length c.as_mut_slice.ensures.value ∙ c.in-Ok-empty_path.ensures.len) c.in-Ok-put_text.ensures.put).0
+-- the path that took the nodes of a text
+gives : {E : Type 0} (made : Result (List Node) E) (path : Option (List Node)) (nodes : List Node) (read : Result (List Node) TextFault)
+    → IfOk made (λ first. first ≡ []) → IsLonger (result_ok made) nodes path → read ≡ Ok nodes → GivesText (ok_or path OutOfMemory) read
+gives made None nodes read empty longer is = tt
+gives (Ok first) (Some path) nodes read empty (start, same, longer) is =
+    let begins : first ≡ start = cc in
+    is ∙ ap (λ (ns : List Node). Ok ns) (sym (longer ∙ ap (λ (ns : List Node). ns ++ nodes) (sym begins ∙ empty)))
+gives (Err error) (Some path) nodes read empty (start, same, longer) is = cc
 
-pub returns-in-Ok-put_text-clause-gives : goal.returns-in-Ok-put_text-clause-gives
-returns-in-Ok-put_text-clause-gives g c =
-    let bytes = c.in-Ok-empty_path.bytes in
-    let new = c.put_text-2.new.buffer in
-    let whole : take bytes.len (new ++ drop (length new) bytes.items) ≡ new =
-    take_at new (drop (length new) bytes.items) bytes.len (c.put_text-2.auto.buffer ∙ c.as_mut_slice.ensures.len) in
-    subst (λ (ns : List Node). IsReadAs c.args.style (g.T.Text.bytes c.args.text) ns)
-    (sym (c.of_bytes.ensures ∙ ap (λ (l : List ℕ). nodes_in (without_end l)) whole))
-    (path_held c.args.style (g.T.Text.bytes c.args.text) c.as_mut_slice.result.now new c.in-Ok.len c.in-Ok-put_text.field-0
-    c.in-Ok.ensures.len c.in-Ok-put_text.ensures.len (ap (take 4) c.as_mut_slice.ensures.value ∙ c.in-Ok-empty_path.ensures.begins)
-    (ap length c.as_mut_slice.ensures.value ∙ c.in-Ok-empty_path.ensures.len) c.in-Ok-put_text.ensures.put).1
+pub put_text-requires : goal.put_text-requires
+put_text-requires g c = longer_none _
+
+pub returns-in-Ok-clause-gives : goal.returns-in-Ok-clause-gives
+returns-in-Ok-clause-gives g c =
+    let (nodes, is, longer) = c.in-Ok.ensures in
+    subst (λ (r : Result (List Node) LenientTextError). GivesText r (path_read c.args.style (g.T.Text.bytes c.args.text))) (sym c.ok_or.ensures.value)
+    (gives c.with_room.result c.put_text.new.sink nodes _ c.with_room.ensures
+    (subst (λ (first : Option (List Node)). IsLonger first nodes c.put_text.new.sink) c.ok-path.ensures.value longer) is)
+
+pub returns-in-Ok-clause-memory : goal.returns-in-Ok-clause-memory
+returns-in-Ok-clause-memory g c = λ _. let (nodes, is, longer) = c.in-Ok.ensures in (nodes, is)
