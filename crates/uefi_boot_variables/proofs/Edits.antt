@@ -3,7 +3,6 @@ use Rattle.std.proofs.Common.{◌≡◌, ℕ, zero, suc, sym, ◌+◌, ◌<◌, 
 use Rattle.std.proofs.lemmas.Bool.{false≢true}
 use Rattle.std.proofs.lemmas.Bool.Decides.{nat_tests}
 use Rattle.std.proofs.lemmas.Grind.{common_steps}
-use Rattle.std.proofs.lemmas.List.Sums.{count_by-le-length, length-filter}
 use Rattle.std.proofs.lemmas.List.Edits.{get_or-insert_at}
 use Rattle.std.proofs.lemmas.List.{append-nil, drop_all, length-append, length-take, drop_more, set_at, take_all, take_more}
 use Rattle.std.proofs.lemmas.Slice.{drop-append-drop}

@@ -2,7 +2,7 @@
 use Rattle.std.proofs.Common.{◌≡◌, ◌≢◌, ℕ, zero, suc, ◌+◌, ◌<◌, ◌≤◌, ◌↔◌, ◌∙◌, ap, sym, refl, ⊎_elim, Bool, true, false, ◌&&◌, ◌||◌, not, cond, eqb, List, [], ◌∷◌, ◌++◌, length, set, take, drop, get_or, Option, Some, None, position, Contains, append_assoc, arith}
 use Rattle.std.proofs.lemmas.Bool.{cases_eq, eq-eqb, eqb-false, eqb-true, false≢true, ne_eqb, or_from, or_left, or_parts, or_right}
 use Rattle.std.proofs.lemmas.Bool.Decides.{nat_tests}
-use Rattle.std.proofs.lemmas.List.{append-nil, drop_all, drop_more, get_or_default, length-append, length-take, set_at, take-append-drop, take_all, take_more}
+use Rattle.std.proofs.lemmas.List.{append-nil, drop_all, drop_more, get_or_default, length-append, set_at, take-append-drop, take_all, take_more}
 use Rattle.std.proofs.lemmas.List.Quantifiers.{position-Some}
 use Rattle.std.proofs.lemmas.List.Sums.{count_by-le-length, fails_before_first, length-filter, position_or_len_is}
 use Rattle.std.proofs.lemmas.List.Elements.{filter-append, filter_more}
@@ -216,14 +216,6 @@ pushed_new xs ys n p once absent end e =
     let none : drop p xs ≡ [] = drop_all p xs (omega arith) in
     e ∙ rw (all, none) (sym (once_each-new xs n absent ∙ ap (λ (l : List ℕ). l ++ n ∷ []) (once_each-same xs once)))
 
--- one number more of an order
-once_each-twice : (s : Bool) (xs : List ℕ) (n : ℕ) → stands_in n xs ≡ s → once_each (once_each xs ++ n ∷ []) ≡ once_each (xs ++ n ∷ [])
-once_each-twice true xs n e =
-    once_each-again (once_each xs) n (stands-once_each n xs ∙ e) ∙ once_each-same (once_each xs) (no_twice-once_each xs) ∙ sym (once_each-again xs n e)
-once_each-twice false xs n e =
-    once_each-new (once_each xs) n (stands-once_each n xs ∙ e)
-    ∙ ap (λ (l : List ℕ). l ++ n ∷ []) (once_each-same (once_each xs) (no_twice-once_each xs)) ∙ sym (once_each-new xs n e)
-
 -- a list without a number is no longer than the list
 pub within : (n : ℕ) (xs : List ℕ) → length (without n xs) ≤ length xs
 within n xs =
@@ -257,10 +249,6 @@ next_fits all i n inside here absent =
       once_each-grows (take (i + 1) all) (drop (i + 1) all),
       ap (λ (l : List ℕ). length (once_each l)) (take-append-drop (i + 1) all),
     )
-
--- a beginning of a list is no longer than the list
-pub take_within : (n : ℕ) (xs : List ℕ) → length (take n xs) ≤ length xs
-take_within n xs = omega (arith, length-take n xs)
 
 -- a number stands in a list exactly where the list contains it
 contains_first : (b : Bool) (x n : ℕ) (xs : List ℕ) → eqb x n ≡ b → (b || stands_in n xs) ≡ true

@@ -118,16 +118,6 @@ pub record LastSeen (text : List ℕ) (place last end : ℕ) : Type 0 where
   pub end_is : end ≡ size - 1
   pub last_is : last ≡ get_or (take size text) (size - 1) 0
 
-pub seen_none : (text : List ℕ) → LastSeen text 0 0 0
-seen_none text = record {
-  size = 0;
-  within = omega arith;
-  blank = λ k from to. absurd (omega (arith, to));
-  stops = λ some. absurd (omega (arith, some));
-  end_is = refl;
-  last_is = refl;
-}
-
 module _ (text : List ℕ) (place last end : ℕ) (seen : LastSeen text place last end) where
   pub seen_blank : is_ascii_whitespace (get_or text place 0) ≡ true → LastSeen text (place + 1) last end
   seen_blank is = record {

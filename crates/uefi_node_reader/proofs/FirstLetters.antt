@@ -1,46 +1,15 @@
--- A group of forms reads no text that begins with another letter.
-use Rattle.std.proofs.Common.{◌≡◌, ℕ, ◌+◌, ◌&&◌, ◌||◌, ◌⊎◌, inl, inr, Bool, true, false, cond, eqb, List, [], ◌∷◌, sym, ap, ◌∙◌, refl, true≢false, arith}
+-- A group of forms reads no call that begins with another letter.
+use Rattle.std.proofs.Common.{◌≡◌, ℕ, ◌+◌, ◌&&◌, ◌||◌, ◌⊎◌, inl, inr, Bool, true, false, eqb, List, [], ◌∷◌, sym, ap, ◌∙◌, refl, true≢false, arith}
 use Rattle.std.specs.Prelude.{Err, None, Option, Result, Some}
 use Rattle.std.specs.Char.{to_ascii_lowercase, to_ascii_uppercase}
 use Rattle.std.proofs.lemmas.Bool.{and_parts, or_parts}
 use Rattle.std.proofs.lemmas.Bool.Decides.{nat_tests}
 use borrow.Author.Tests.{eqb-true}
 use Rattle.uefi_node_table.specs.Rows.{Form}
-use Rattle.uefi_node_reader.specs.FieldReading.{◌>>=◌}
 use Rattle.uefi_node_reader.specs.FirstLetters.{all_begin_in, begins_in, begins_in_either_case, is_in}
 use Rattle.uefi_node_reader.specs.LenientCalls.{begins_call_name, first_tried, or_next}
 use Rattle.uefi_node_reader.specs.Stops.{further}
-use Rattle.uefi_node_reader.specs.TableReading.{blank, form_read, is_read, kept, pieces_put, rest_read}
-use Rattle.uefi_node_reader.specs.WordReading.{after}
 use Rattle.uefi_node_reader.specs.declared.faults.Stop.{Stop}
-
--- a text that begins with another letter than a literal
-after_none : (letters : ℕ) (start text : List ℕ) → begins_in letters start ≡ true → begins_in letters text ≡ false → after start text ≡ None
-after_none letters [] text s t = cc
-after_none letters (c ∷ cs) [] s t = refl
-after_none letters (c ∷ cs) (d ∷ ds) s t = by (eqb c d) refl
-  where
-    by : (b : Bool) → eqb c d ≡ b → cond b (after cs ds) None ≡ None
-    by true e = absurd (true≢false (sym s ∙ ap (λ (x : ℕ). begins_in letters (x ∷ [])) (eqb-true c d e) ∙ t))
-    by false e = refl
-
--- no node is read of a text that does not begin with the start of its form
-pub form_unread : (form : Form) (text : List ℕ) → after form.start text ≡ None → form_read form text ≡ None
-form_unread form text e =
-    ap (λ (o : Option (List ℕ)). cond (is_read form.mode) (o >>= λ t. pieces_put form.pieces (blank form) t >>= rest_read form) None) e
-    ∙ by (is_read form.mode)
-  where
-    nothing : Option (List ℕ × List ℕ)
-    nothing = None
-
-    by : (b : Bool) → cond b nothing nothing ≡ nothing
-    by true = refl
-    by false = refl
-
--- nor of one that begins with another letter
-pub not_begun : (letters : ℕ) (all : List Form) (place : ℕ) (form : Form) (text : List ℕ) → begins_in letters form.start ≡ true
-    → begins_in letters text ≡ false → kept all place form (form_read form text) ≡ None
-not_begun letters all place form text s t = ap (kept all place form) (form_unread form text (after_none letters form.start text s t))
 
 -- a letter in either case is a letter in that case
 cased : (c t : ℕ) → eqb (to_ascii_uppercase c) (to_ascii_uppercase t) ≡ true → (c ≡ to_ascii_uppercase t) ⊎ (c ≡ to_ascii_lowercase t)

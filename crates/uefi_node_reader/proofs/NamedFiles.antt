@@ -1,12 +1,12 @@
 -- Names of files are read back.
 use Rattle.std.proofs.Common.{◌≡◌, ◌≢◌, ℕ, ◌+◌, ◌-◌, ◌/◌, ◌%◌, ◌*◌, ◌^◌, ◌<◌, ◌≤◌, Bool, true, false, cond, eqb, leb, ltb, min, not, ◌&&◌, List, [], ◌∷◌, ◌++◌, length, take, drop, slice_index, refl, ap, sym, subst, ◌∙◌, arith, ◌⊎◌, true≢false}
-use Rattle.std.specs.Prelude.{Some, None}
+use Rattle.std.specs.Prelude.{Some}
 use Rattle.std.specs.Option.{unwrap_or}
 use Rattle.std.specs.Char.Escape.{encode_utf16}
 use Rattle.std.specs.Char.Utf16.{is_high_surrogate, is_low_surrogate, lone_unit_char, surrogate_pair_char, utf16_chars, utf16_lossy_chars}
 use Rattle.std.specs.List.{flat_map, list_all, position_or_len}
 use Rattle.std.specs.Str.{all_scalars, chars, is_utf8, IsUtf8}
-use Rattle.std.proofs.lemmas.Bool.{and_from, and_left, and_parts, leb-true, not-true}
+use Rattle.std.proofs.lemmas.Bool.{and_from, and_left, and_parts, not-true}
 use Rattle.std.proofs.lemmas.Bool.Decides.{nat_tests}
 use Rattle.std.proofs.lemmas.List.{drop_at, flat_map_more, length-drop, take_at, take_more, take-append-drop}
 use Rattle.std.proofs.lemmas.List.Folds.{list_all-append}
@@ -226,20 +226,6 @@ units_counted state text places k count e small full l =
 pub text_end : (name : List ℕ) → unit_bytes (flat_map encode_utf16 name) ++ 0 ∷ 0 ∷ [] ≡ name_data name
 text_end name = sym (unit_bytes-append (flat_map encode_utf16 name) (0 ∷ []))
 
--- bytes that are no text
-pub no_text : (text front : List ℕ) → front ≡ name_bytes text → ¬ IsUtf8 front → None ≡ name_read text
-no_text text front same refused = by (is_utf8 (name_bytes text)) refl
-  where
-    made : Node
-    made = node_with 4 4 (name_data (chars (name_bytes text)))
-
-    left : List ℕ
-    left = drop (position_or_len ends_name text) text
-
-    by : (t : Bool) → is_utf8 (name_bytes text) ≡ t → None ≡ read_if (is_utf8 (name_bytes text) && is_name (chars (name_bytes text))) made left
-    by false e = ap (λ (t : Bool). read_if (t && is_name (chars (name_bytes text))) made left) (sym e)
-    by true e = absurd (refused (subst (λ (x : List ℕ). IsUtf8 x) (sym same) (IsUtf8-from_is_utf8 (name_bytes text) e)))
-
 -- a name
 pub name_found : (text front items rest : List ℕ) → front ≡ name_bytes text → IsUtf8 front → begins_name (chars front) ≡ true
     → list_all is_name_char (chars front) ≡ true → items ≡ name_data (chars front) → length items ≤ 0xfffb
@@ -250,12 +236,3 @@ name_found text front items rest same utf8 begins all held fits left =
     let valid = is_utf8-from_IsUtf8 front utf8 in
     (λ i. read_if (sym valid i && (sym begins i && (sym all i && sym yes i))) (node_with 4 4 (held i)) (left i))
     ∙ ap (λ (x : List ℕ). read_if (is_utf8 x && is_name (chars x)) (node_with 4 4 (name_data (chars x))) (drop (position_or_len ends_name text) text)) same
-
--- a node that was made of a name
-pub made_of : (bytes : List ℕ) (node made : Node) → Some node ≡ cond (leb (length bytes) 0xfffb) (Some made) None
-    → (node ≡ made) × (length bytes ≤ 0xfffb)
-made_of bytes node made e = by (leb (length bytes) 0xfffb) refl e
-  where
-    by : (t : Bool) → leb (length bytes) 0xfffb ≡ t → Some node ≡ cond t (Some made) None → (node ≡ made) × (length bytes ≤ 0xfffb)
-    by true h p = (cc, leb-true (length bytes) 0xfffb h)
-    by false h p = cc

@@ -1,4 +1,4 @@
-use Rattle.std.proofs.Common.{length, arith}
+use Rattle.std.proofs.Common.{arith}
 use Rattle.uefi_boot_variables.proofs.OrderLists.{once_each-short}
 use Rattle.uefi_boot_variables.specs.Views.{numbers_of}
 use Rattle.uefi_boot_variables.proofs.order_edits.copy.Goals.{else-places-len-via-then-places-len+else-places-different_len, else-places-len-via-else-places-len}
