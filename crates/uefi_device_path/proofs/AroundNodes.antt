@@ -6,8 +6,8 @@ use Rattle.std.specs.List.{prefix_len, suffix_len}
 use Rattle.std.proofs.lemmas.Bool.{cases_lt, not-true, or_parts}
 use Rattle.std.proofs.lemmas.List.{drop-drop, get_or-take, length-take, take-take}
 use Rattle.std.proofs.lemmas.List.Sums.{suffix_len_is}
-use Rattle.uefi_device_path.specs.AroundNodes.{after_first, before_closing, before_last, before_spaces, first_byte, first_place, is_mark, is_quoted, is_slashed, last_byte, past_slash}
-use Rattle.uefi_node_reader.specs.NamedFiles.{is_after_node, past_spaces}
+use Rattle.uefi_device_path.specs.AroundNodes.{after_first, before_closing, before_last, first_byte, first_place, is_mark, is_quoted, is_slashed, last_byte, may_begin, past_slash}
+use Rattle.uefi_node_reader.specs.NamedFiles.{before_spaces, is_after_node, past_spaces}
 use Rattle.uefi_node_reader.specs.TableReading.{first_of, is_empty}
 use Rattle.uefi_node_reader.specs.declared.styles.TextStyle.{TextStyle}
 use Rattle.uefi_node_reader.specs.declared.styles.TextStyle.TheVariants.{Printed, Lenient, Libefivar}
@@ -96,7 +96,7 @@ all_of_clear (c ∷ cs) e =
     let mark : is_mark (first_byte (c ∷ cs)) ≡ false = ap (λ (x : List ℕ). is_mark (first_of x)) none ∙ others.0 in
     let slash : (first_byte (c ∷ cs) == 47) ≡ false = ap (λ (x : List ℕ). first_of x == 47) none ∙ others.1 in (
       ap (λ (b : Bool). (b && (last_byte (c ∷ cs) == first_byte (c ∷ cs))) && not (is_empty (past_spaces (after_first (before_last (c ∷ cs)))))) mark,
-      ap (λ (b : Bool). b && not (is_after_node (past_spaces (after_first (c ∷ cs))))) slash,
+      ap (λ (b : Bool). b && may_begin (past_spaces (after_first (c ∷ cs)))) slash,
     )
 
 pub all_is_read : (style : TextStyle) (text : List ℕ) → is_clear text ≡ true
@@ -108,48 +108,3 @@ all_is_read Lenient text e =
     )
 all_is_read Printed text e = (refl, refl)
 all_is_read Libefivar text e = (refl, refl)
-
--- the last byte before `place` that is no blank, and its index, or 0 and 0
-pub record LastSeen (text : List ℕ) (place last end : ℕ) : Type 0 where
-  pub size : ℕ
-  pub within : size ≤ place
-  pub blank : (k : ℕ) → size ≤ k → k < place → is_ascii_whitespace (get_or text k 0) ≡ true
-  pub stops : 0 < size → is_ascii_whitespace (get_or text (size - 1) 0) ≡ false
-  pub end_is : end ≡ size - 1
-  pub last_is : last ≡ get_or (take size text) (size - 1) 0
-
-module _ (text : List ℕ) (place last end : ℕ) (seen : LastSeen text place last end) where
-  pub seen_blank : is_ascii_whitespace (get_or text place 0) ≡ true → LastSeen text (place + 1) last end
-  seen_blank is = record {
-    size = seen.size;
-    within = omega (arith, seen.within);
-    blank = λ k from to. elim (cases_lt k place) [
-      | inl less ↦ seen.blank k from less
-      | inr more ↦ let same : place ≡ k = omega (arith, to, more) in ap (λ (n : ℕ). is_ascii_whitespace (get_or text n 0)) (sym same) ∙ is
-    ];
-    stops = seen.stops;
-    end_is = seen.end_is;
-    last_is = seen.last_is;
-  }
-
-  pub seen_other : place < length text → is_ascii_whitespace (get_or text place 0) ≡ false → LastSeen text (place + 1) (get_or text place 0) place
-  seen_other fits other =
-      let before : place + 1 - 1 ≡ place = omega arith in record {
-        size = place + 1;
-        within = omega arith;
-        blank = λ k from to. absurd (omega (arith, from, to));
-        stops = λ some. ap (λ (n : ℕ). is_ascii_whitespace (get_or text n 0)) before ∙ other;
-        end_is = sym before;
-        last_is = sym (ap (λ (n : ℕ). get_or (take (place + 1) text) n 0) before ∙ get_or-take (place + 1) text place 0 (omega arith));
-      }
-
-pub seen_all : (text : List ℕ) (last end : ℕ) → LastSeen text (length text) last end → (last ≡ last_byte text) × (take end text ≡ before_last text)
-seen_all text last end seen =
-    let blanks = suffix_len_is is_ascii_whitespace text seen.size 0 seen.within seen.blank seen.stops in
-    let left : length text - suffix_len is_ascii_whitespace text ≡ seen.size = omega (arith, blanks, seen.within) in
-    let kept : before_spaces text ≡ take seen.size text = ap (λ (n : ℕ). take n text) left in
-    let long : length (before_spaces text) ≡ seen.size = omega (arith, ap length kept, length-take seen.size text, seen.within) in
-    let fewer : seen.size - 1 ≤ seen.size = omega arith in (
-      seen.last_is ∙ (λ i. get_or (sym kept i) (sym long i - 1) 0),
-      ap (λ (n : ℕ). take n text) seen.end_is ∙ sym (take-take (seen.size - 1) seen.size text fewer) ∙ (λ i. take (sym long i - 1) (sym kept i)),
-    )

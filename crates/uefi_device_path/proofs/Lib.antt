@@ -19,6 +19,7 @@ mod PushedAt
 pub mod NamesInARow
 pub mod ShownPaths
 mod LoweredTexts
+mod TurnedNodes
 mod AroundNodes
 mod FirstBytes
 mod PastedTexts

@@ -5,20 +5,20 @@ use Rattle.std.proofs.Math.Seq.{get_or-append_seam}
 use Rattle.std.specs.Prelude.{Result, Ok, Err, ◌==◌, ◌&&◌, not, nat_lt, slice_index}
 use Rattle.std.specs.Char.{is_ascii_whitespace}
 use Rattle.std.specs.List.{suffix_len}
-use Rattle.std.proofs.lemmas.Bool.{and_from, and_parts, lt-ltb, ltb-true, or_parts}
+use Rattle.std.proofs.lemmas.Bool.{and_from, and_parts, lt-ltb, ltb-true, not-true, or_parts}
 use Rattle.std.proofs.lemmas.Bool.Decides.{nat_tests}
 use Rattle.std.proofs.lemmas.List.{get_or-append-add, get_or-append_right, length-append, take_at}
 use Rattle.std.proofs.lemmas.List.Folds.{list_all_at}
 use Rattle.std.proofs.lemmas.List.Sums.{suffix_len_is}
 use borrow.Author.Tests.{eq-eqb, ltb-false}
 use Rattle.uefi_device_nodes.specs.Nodes.{Node}
-use Rattle.uefi_device_path.specs.AroundNodes.{after_first, before_closing, before_last, before_spaces, first_byte, first_place, is_mark, is_quoted, is_slashed, is_spaces, last_byte, past_slash}
+use Rattle.uefi_device_path.specs.AroundNodes.{after_first, before_closing, before_last, first_byte, first_place, is_mark, is_quoted, is_slashed, is_spaces, last_byte, may_begin, past_slash}
 use Rattle.uefi_device_path.specs.Laws.{QuotedIsRead, SlashedIsRead, fault_after, read_after}
 use Rattle.uefi_device_path.specs.PathReading.{end_instance}
 use Rattle.uefi_device_path.specs.StyledReading.{fault_from, follows_comma, more_nodes, node_then, nodes_of_rest, path_read, place_read}
 use Rattle.uefi_device_path.proofs.AroundNodes.{past_slash-within}
 use Rattle.uefi_device_path.proofs.StyledReading.{Nodes, failing}
-use Rattle.uefi_node_reader.specs.NamedFiles.{is_after_node, past_spaces}
+use Rattle.uefi_node_reader.specs.NamedFiles.{before_spaces, is_after_node, past_spaces}
 use Rattle.uefi_node_reader.specs.Styles.{StyledEnds, styled_read}
 use Rattle.uefi_node_reader.specs.declared.faults.NodeFault.{NodeFault}
 use Rattle.uefi_node_reader.specs.declared.styles.TextStyle.{TextStyle}
@@ -136,7 +136,7 @@ plain_first : (text : List ℕ) → is_quoted text ≡ false → first_place Len
 plain_first text e = ap (λ (b : Bool). past_slash (cond b (after_first (before_last text)) text)) e
 
 -- a text after a slash
-module _ (before text : List ℕ) (blank : is_spaces before ≡ true) (follows : is_after_node (past_spaces text) ≡ false) where
+module _ (before text : List ℕ) (blank : is_spaces before ≡ true) (follows : may_begin (past_spaces text) ≡ true) where
   abbrev slashed : List ℕ
   slashed = before ++ (47 ∷ text)
 
@@ -150,15 +150,15 @@ module _ (before text : List ℕ) (blank : is_spaces before ≡ true) (follows :
   slash_passed =
       let first : (first_byte slashed == 47) ≡ true = ap (λ (l : List ℕ). first_of l == 47) slash_is in
       let rest : after_first slashed ≡ text = ap (drop 1) slash_is in
-      let passed : is_slashed slashed ≡ true = and_from _ _ first (ap not (ap (λ (l : List ℕ). is_after_node (past_spaces l)) rest ∙ follows)) in
+      let passed : is_slashed slashed ≡ true = and_from _ _ first (ap (λ (l : List ℕ). may_begin (past_spaces l)) rest ∙ follows) in
       ap (λ (b : Bool). cond b (after_first slashed) slashed) passed ∙ rest
 
   no_other : past_slash text ≡ text
-  no_other = ap (λ (b : Bool). cond b (after_first text) text) (by (past_spaces text) follows)
+  no_other = ap (λ (b : Bool). cond b (after_first text) text) (by (past_spaces text) (not-true _ (and_parts _ _ follows).0))
     where
-      by : (l : List ℕ) → is_after_node l ≡ false → (first_of l == 47) && not (is_after_node (past_spaces (after_first text))) ≡ false
+      by : (l : List ℕ) → is_after_node l ≡ false → (first_of l == 47) && may_begin (past_spaces (after_first text)) ≡ false
       by [] e = absurd (true≢false e)
-      by (c ∷ cs) e = ap (λ (b : Bool). b && not (is_after_node (past_spaces (after_first text)))) (or_parts (c == 47) (c == 44) e).0
+      by (c ∷ cs) e = ap (λ (b : Bool). b && may_begin (past_spaces (after_first text))) (or_parts (c == 47) (c == 44) e).0
 
 -- what is read of a text where other bytes stand before it, unless the last of these is a comma
 module _ (style : TextStyle) (front text : List ℕ) (some : 0 < length front) (other : (get_or front (length front - 1) 0 == 44) ≡ false)

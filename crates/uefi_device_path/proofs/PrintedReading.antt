@@ -60,7 +60,7 @@ read_is_printed styled_starts exactly ends takes fits starts text nodes read = p
 
 none_begins : NodeAgain → StyledAgain → (text place : List ℕ) (found : NodeFault) → place_read Printed text place ≡ Err found → NoneBegins place
 none_begins again styled text place found refused node after is =
-    let read = styled Printed refl (follows_comma text place) place node after
+    let read = styled Printed (follows_comma text place) place refl node after
     (ap node_read is.splits ∙ again node is.told after is.ends) is.ends in
     no (node, after) (sym refused ∙ read)
   where

@@ -10,10 +10,11 @@ use Rattle.uefi_device_nodes.specs.NodeTexts.{is_file_node, node_text}
 use Rattle.uefi_device_nodes.specs.ShownNodes.{NodesShown}
 use Rattle.uefi_device_path.specs.Instances.{instances}
 use Rattle.uefi_device_path.specs.Laws.{InstancesShown, LibefivarShown, PathsShown}
-use Rattle.uefi_device_path.specs.LibefivarTexts.{is_partition, libefivar_node_text, lowered_text}
+use Rattle.uefi_device_path.specs.LibefivarTexts.{is_namespace, is_partition, libefivar_node_text, lowered_text, with_reversed_id}
 use Rattle.uefi_device_path.specs.PathTexts.{instance_text, libefivar_text, nodes_text}
 use Rattle.uefi_field_texts.proofs.ShownTexts.{shown_utf8}
 use Rattle.uefi_device_path.proofs.LoweredTexts.{lowered_shown}
+use Rattle.uefi_device_path.proofs.TurnedNodes.{turned_content}
 
 -- what holds of all elements holds of those of each part
 module _ {X : Type 0} (P : X → Type 0) (test : X → Bool) where
@@ -54,13 +55,16 @@ module _ (joined : JoinedShown) (ascii : AsciiShown) (nodes_shown : NodesShown) 
   -- a node as libefivar prints it
   pub own_shown : (node : Node) → HasBytes node → IsShown (libefivar_node_text node)
   unfolding libefivar_node_text
-  own_shown node all = by (node_text false false node) (is_file_node node) (is_partition node) (nodes_shown false false node all)
+  own_shown node all =
+      by (node_text false false node) (node_text false false (with_reversed_id node)) (is_file_node node) (is_partition node) (is_namespace node)
+      (nodes_shown false false node all) (nodes_shown false false (with_reversed_id node) (turned_content node all))
     where
-      by : (text : List ℕ) (a b : Bool) → IsShown text
-          → IsShown (cond a (codes "File(" ++ (text ++ codes ")")) (cond b (lowered_text 2 text) text))
-      by text true b shown = joined (codes "File(") (text ++ codes ")") (ascii (codes "File(") refl) (joined text (codes ")") shown (ascii (codes ")") refl))
-      by text false true shown = lowered_shown 2 text (shown_utf8 text shown) shown
-      by text false false shown = shown
+      by : (text other : List ℕ) (a b c : Bool) → IsShown text → IsShown other
+          → IsShown (cond a (codes "File(" ++ (text ++ codes ")")) (cond b (lowered_text 2 text) (cond c other text)))
+      by text other true b c shown also = joined (codes "File(") (text ++ codes ")") (ascii (codes "File(") refl) (joined text (codes ")") shown (ascii (codes ")") refl))
+      by text other false true c shown also = lowered_shown 2 text (shown_utf8 text shown) shown
+      by text other false false true shown also = also
+      by text other false false false shown also = shown
 
   libefivar_instance_shown : (nodes : List Node) → All HasBytes nodes → IsShown (join_by libefivar_node_text (codes "/") nodes)
   libefivar_instance_shown nodes all = join_shown HasBytes libefivar_node_text own_shown (codes "/") (ascii (codes "/") refl) nodes all

@@ -1,9 +1,9 @@
 -- A text is read in a style in one way: what the function says is what the relation says.
 use Rattle.std.proofs.Common.{◌≡◌, ◌↔◌, ℕ, zero, suc, ◌+◌, ◌-◌, ◌<◌, ◌≤◌, Bool, true, false, cond, List, [], ◌∷◌, ◌++◌, length, drop, get_or, slice_index, inl, inr, refl, ap, sym, subst, ◌∙◌, append_assoc, arith, true≢false}
-use Rattle.std.specs.Prelude.{None, Result, Ok, Err, ◌==◌, ◌&&◌, ◌||◌}
+use Rattle.std.specs.Prelude.{All, None, Result, Ok, Err, ◌==◌, ◌&&◌, ◌||◌}
 use Rattle.std.proofs.lemmas.Bool.{lt-ltb}
 use Rattle.std.proofs.lemmas.List.{append-nil, drop_at, get_or-drop, length-append, length-drop}
-use Rattle.std.proofs.lemmas.List.Elements.{All-head, All-nil, All-push, All-tail}
+use Rattle.std.proofs.lemmas.List.Elements.{All-cons, All-head, All-nil, All-push, All-tail}
 use Rattle.std.proofs.lemmas.Result.{IfErr-at_err}
 use borrow.Author.Tests.{eqb-true}
 use Rattle.uefi_device_nodes.specs.Nodes.{Node}
@@ -18,9 +18,11 @@ use Rattle.uefi_device_path.proofs.FirstBytes.{node_clear}
 use Rattle.uefi_device_path.proofs.PathReading.{IsToldOrEnd, path_text_is, place_is, printed, rest_text, separator}
 use Rattle.uefi_device_path.proofs.TextStops.{end_first, told_first, whole_after}
 use Rattle.uefi_node_reader.specs.Laws.{NodeAgain, NodeFits, NodeStarts}
+use Rattle.uefi_node_reader.proofs.StyledLaws.{takes_more}
 use Rattle.uefi_node_reader.specs.Styles.{StyledAgain, takes_printed, StyledEnds, StyledFaultWithin, StyledStarts, StyledTakes}
 use Rattle.uefi_node_reader.specs.declared.faults.NodeFault.{NodeFault}
 use Rattle.uefi_node_reader.specs.declared.styles.TextStyle.{TextStyle}
+use Rattle.uefi_node_reader.specs.declared.styles.TextStyle.TheVariants.{Printed}
 use Rattle.uefi_node_reader.specs.NamedFiles.{is_after_node}
 
 -- what is read of a text, or of what is left of it
@@ -357,14 +359,23 @@ module _ (style : TextStyle) (text : List ℕ) where
   all_read nodes s [] on none = sym on.all ∙ ap (λ (l : List Node). Ok l) (append-nil nodes)
   all_read nodes s (c ∷ cs) on none = absurd (omega (arith, none))
 
+-- the nodes whose printed texts a style reads
+abbrev pub IsTaken : TextStyle → Node → Type 0
+IsTaken style node = takes_printed style (printed node) ≡ true
+
+-- the style of printed texts reads all of them
+pub all_taken : (nodes : List Node) → All (IsTaken Printed) nodes
+all_taken [] = All-nil (IsTaken Printed)
+all_taken (n ∷ ns) = All-cons (IsTaken Printed) n ns refl (all_taken ns)
+
 -- what is printed is read
 module _ (fits : NodeFits) (starts : NodeStarts) (again : NodeAgain) (styled : StyledAgain) (ends : StyledEnds) where
-  printed_left : (style : TextStyle) → takes_printed style ≡ true → (text : List ℕ) (s : Bool) (nodes : List Node) → AreTold nodes
+  printed_left : (style : TextStyle) (text : List ℕ) (s : Bool) (nodes : List Node) → All (IsTaken style) nodes → AreTold nodes
       → left style text s (rest_text s nodes) ≡ Ok nodes
-  printed_left style takes text s [] told = refl
-  printed_left style takes text s (n ∷ ns) told =
-      one (All-head IsToldOrEnd n ns told) (printed_left style takes text true ns (All-tail IsToldOrEnd n ns told))
-      (printed_left style takes text false ns (All-tail IsToldOrEnd n ns told))
+  printed_left style text s [] taken told = refl
+  printed_left style text s (n ∷ ns) taken told =
+      one (All-head IsToldOrEnd n ns told) (printed_left style text true ns (All-tail (IsTaken style) n ns taken) (All-tail IsToldOrEnd n ns told))
+      (printed_left style text false ns (All-tail (IsTaken style) n ns taken) (All-tail IsToldOrEnd n ns told))
     where
       one : IsToldOrEnd n → left style text true (rest_text true ns) ≡ Ok ns → left style text false (rest_text false ns) ≡ Ok ns
           → left style text s (rest_text s (n ∷ ns)) ≡ Ok (n ∷ ns)
@@ -373,7 +384,8 @@ module _ (fits : NodeFits) (starts : NodeStarts) (again : NodeAgain) (styled : S
       one (inl told) r q =
           let after = rest_text false ns in
           let place = printed n ++ after in
-          let read = styled style takes (follows_comma text place) place n after (again n told after (whole_after ns None)) (whole_after ns None) in
+          let takes = takes_more style (printed n) after (All-head (IsTaken style) n ns taken) (whole_after ns None) in
+          let read = styled style (follows_comma text place) place takes n after (again n told after (whole_after ns None)) (whole_after ns None) in
           ap (left style text s) (told_first fits s n ns None told)
           ∙ left_node style text s (separator s ++ place) place (other s) (at_place s place) ends n after read
           ∙ ap (more_nodes n) q
@@ -395,8 +407,8 @@ module _ (fits : NodeFits) (starts : NodeStarts) (again : NodeAgain) (styled : S
 
   pub printed_is_read : PrintedIsRead
   unfolding path_read
-  printed_is_read style takes text nodes told is =
+  printed_is_read style text nodes taken told is =
       let same : rest_text true nodes ≡ text = sym (path_text_is nodes) ∙ is in
       let all = all_is_read style text (subst (λ (x : List ℕ). is_clear x ≡ true) same (printed_clear nodes told)) in
       (λ i. left style (all.0 i) true (all.1 i))
-      ∙ subst (λ (x : List ℕ). left style text true x ≡ Ok nodes) same (printed_left style takes text true nodes told)
+      ∙ subst (λ (x : List ℕ). left style text true x ≡ Ok nodes) same (printed_left style text true nodes taken told)

@@ -20,9 +20,10 @@ use Rattle.uefi_device_nodes.specs.Nodes.{Node, end_entire, is_end_instance, nod
 use Rattle.uefi_device_nodes.specs.NodeTexts.{is_file_node, node_text}
 use Rattle.uefi_device_nodes.specs.ShownNodes.{NodesShown}
 use Rattle.uefi_device_path.specs.Instances.{instances}
-use Rattle.uefi_device_path.specs.LibefivarTexts.{all_lowered, commas_after, is_partition, libefivar_node_text, lowered, lowered_text}
+use Rattle.uefi_device_path.specs.LibefivarTexts.{all_lowered, commas_after, is_namespace, is_partition, libefivar_node_text, lowered, lowered_text, with_reversed_id}
 use Rattle.uefi_device_path.specs.Paths.{IsPath, nodes_bytes, nodes_in, path_bytes, without_end}
 use Rattle.uefi_device_path.specs.PathTexts.{instance_text, libefivar_text, nodes_text}
+use Rattle.uefi_device_path.proofs.TurnedNodes.{turned_bytes, turned_within}
 use Rattle.uefi_device_path.proofs.ShownPaths.{libefivar_shown, own_shown, parts_all, paths_shown}
 
 -- what is printed holds no character that texts escape, so that it is a Rust text
@@ -95,18 +96,20 @@ specified_node display_only shortcuts node all =
 
 libefivar_node : (node : Node) → AreBytes node → length (libefivar_node_text node) < 4 * length (node_bytes node)
 unfolding libefivar_node_text
-libefivar_node node all = by (is_file_node node) (is_partition node) refl
+libefivar_node node all = by (is_file_node node) (is_partition node) (is_namespace node) refl refl
   where
-    by : (a b : Bool) → is_file_node node ≡ a
-        → length (cond a (codes "File(" ++ (node_text false false node ++ codes ")")) (cond b (lowered_text 2 (node_text false false node)) (node_text false false node)))
+    by : (a b c : Bool) → is_file_node node ≡ a → is_namespace node ≡ c
+        → length (cond a (codes "File(" ++ (node_text false false node ++ codes ")"))
+        (cond b (lowered_text 2 (node_text false false node)) (cond c (node_text false false (with_reversed_id node)) (node_text false false node))))
         < 4 * length (node_bytes node)
-    by true b e = omega (arith, name_room false false node e, length-append (node_text false false node) (codes ")"))
-    by false true e = omega (
+    by true b c e f = omega (arith, name_room false false node e, length-append (node_text false false node) (codes ")"))
+    by false true c e f = omega (
       arith,
       specified_node false false node all,
       lowered_length 2 (node_text false false node) (nodes_shown false false node (content_bytes node all)),
     )
-    by false false e = specified_node false false node all
+    by false false true e f = omega (arith, specified_node false false (with_reversed_id node) (turned_bytes node (content_bytes node all)), turned_within node f)
+    by false false false e f = specified_node false false node all
 
 -- a slash stands between nodes
 module _ (text : Node → List ℕ) (fits : (node : Node) → AreBytes node → length (text node) < 4 * length (node_bytes node)) where

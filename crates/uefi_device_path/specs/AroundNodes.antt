@@ -1,15 +1,12 @@
 -- What people paste around the nodes of a text: quotation marks, and a slash before the first node.
-use Rattle.std.specs.Prelude.{ℕ, ◌-◌, Bool, not, ◌==◌, ◌&&◌, ◌||◌, if◌then◌else◌, List, length, slice_index, take, drop}
+use Rattle.std.specs.Prelude.{ℕ, ◌-◌, Bool, not, ◌==◌, ◌&&◌, ◌||◌, if◌then◌else◌, List, codes, length, slice_index, take, drop}
 use Rattle.std.specs.Char.{is_ascii_whitespace}
-use Rattle.std.specs.List.{list_all, suffix_len}
-use Rattle.uefi_node_reader.specs.NamedFiles.{is_after_node, past_spaces}
+use Rattle.std.specs.List.{list_all}
+use Rattle.uefi_node_reader.specs.Ambiguous.{begins_with}
+use Rattle.uefi_node_reader.specs.NamedFiles.{before_spaces, is_after_node, past_spaces}
 use Rattle.uefi_node_reader.specs.TableReading.{first_of, is_empty}
 use Rattle.uefi_node_reader.specs.declared.styles.TextStyle.{TextStyle}
 use Rattle.uefi_node_reader.specs.declared.styles.TextStyle.TheVariants.{Printed, Lenient, Libefivar}
-
--- a text without the blanks and line ends at its end
-abbrev pub before_spaces : List ℕ → List ℕ
-before_spaces text = take (length text - suffix_len is_ascii_whitespace text) text
 
 -- the first byte of a text that is no blank, or 0
 abbrev pub first_byte : List ℕ → ℕ
@@ -41,9 +38,17 @@ abbrev pub is_quoted : List ℕ → Bool
 is_quoted text = (is_mark (first_byte text) && (last_byte text == first_byte text))
     && not (is_empty (past_spaces (after_first (before_last text))))
 
+-- the test for a call of GRUB for a PCI device, which has the function before the device, and no `0x`
+abbrev pub is_grub_pci : List ℕ → Bool
+is_grub_pci text = begins_with (codes "PCI(") text && not (begins_with (codes "PCI(0x") text)
+
+-- the test for a text that may begin a node after a slash at the start of a path
+abbrev pub may_begin : List ℕ → Bool
+may_begin text = not (is_after_node text) && not (is_grub_pci text)
+
 -- the test for a text that begins with a slash, after which a node may begin
 abbrev pub is_slashed : List ℕ → Bool
-is_slashed text = (first_byte text == 47) && not (is_after_node (past_spaces (after_first text)))
+is_slashed text = (first_byte text == 47) && may_begin (past_spaces (after_first text))
 
 -- a text without such a slash
 abbrev pub past_slash : List ℕ → List ℕ

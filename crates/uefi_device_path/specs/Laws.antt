@@ -13,7 +13,7 @@ use Rattle.uefi_device_nodes.specs.declared.errors.NodeError.{NodeError}
 use Rattle.uefi_device_nodes.specs.declared.errors.NodeError.TheVariants.{Missing, TruncatedHeader, UnknownEnd, LengthBelowHeader, EndWithData, BeyondEnd}
 use Rattle.uefi_device_path.specs.Building.{grow_refusal, push_at_refusal, push_refusal, pushed_at}
 use Rattle.uefi_device_path.specs.CheckedNodes.{path_of_bytes}
-use Rattle.uefi_device_path.specs.AroundNodes.{is_mark, is_quoted, is_spaces}
+use Rattle.uefi_device_path.specs.AroundNodes.{is_mark, is_quoted, is_spaces, may_begin}
 use Rattle.uefi_device_path.specs.StyledReading.{IsReadAs, Reads, ReadingStopsAt, StopsBeingRead, path_read}
 use Rattle.uefi_device_path.specs.PathReading.{AreTold, StopsAt}
 use Rattle.uefi_text.specs.Packed.{IsByte}
@@ -147,7 +147,8 @@ ReadTold = (style : TextStyle) (text : List ℕ) (nodes : List Node) → IsReadA
 
 -- a printed text that tells all of its nodes is read in such a style as these nodes
 abbrev pub PrintedIsRead : Type 0
-PrintedIsRead = (style : TextStyle) → takes_printed style ≡ true → (text : List ℕ) (nodes : List Node)
+PrintedIsRead = (style : TextStyle) (text : List ℕ) (nodes : List Node)
+    → All (λ node. takes_printed style (node_text false false node) ≡ true) nodes
     → AreTold nodes → nodes_text false false nodes ≡ text → IsReadAs style text nodes
 
 -- a fault where this many bytes stand before the text
@@ -172,7 +173,7 @@ QuotedIsRead = (mark : ℕ) (before text after : List ℕ) → is_mark mark ≡ 
 
 -- and so is a text after a slash, where a node may begin
 abbrev pub SlashedIsRead : Type 0
-SlashedIsRead = (before text : List ℕ) → is_spaces before ≡ true → is_after_node (past_spaces text) ≡ false
+SlashedIsRead = (before text : List ℕ) → is_spaces before ≡ true → may_begin (past_spaces text) ≡ true
     → is_quoted text ≡ false
     → path_read Lenient (before ++ (47 ∷ text)) ≡ read_after (length before + 1) (path_read Lenient text)
 

@@ -1,9 +1,11 @@
 -- What libefivar prints of nodes, and efibootmgr with it.
-use Rattle.std.specs.Prelude.{ℕ, ◌-◌, ◌==◌, ◌&&◌, Bool, false, if◌then◌else◌, List, [], ◌∷◌, ◌++◌, codes}
+use Rattle.std.specs.Prelude.{◌≡◌, ℕ, ◌-◌, ◌==◌, Bool, true, false, if◌then◌else◌, List, [], ◌∷◌, ◌++◌, codes, drop, reverse, take, Option, Some, None}
 use Rattle.std.specs.Char.{to_ascii_lowercase}
 use Rattle.std.specs.Str.{chars, encode_utf8_all}
-use Rattle.uefi_device_nodes.specs.Nodes.{Node}
+use Rattle.uefi_node_table.specs.declared.layouts.TheConstants.{HARD_DRIVE, HARD_DRIVE_LEAST, MEDIA_TYPE, MESSAGING_TYPE, NVME_NAMESPACE, NVME_NAMESPACE_LEAST}
+use Rattle.uefi_device_nodes.specs.Nodes.{Node, node_bytes, node_with}
 use Rattle.uefi_device_nodes.specs.NodeTexts.{is_file_node, node_text}
+use Rattle.uefi_device_nodes.specs.TypedNodes.{is_kind}
 
 -- how many of these commas are still to come after a character
 abbrev pub commas_after : ℕ → ℕ → ℕ
@@ -29,12 +31,27 @@ lowered_text commas text = encode_utf8_all (all_lowered commas (chars text))
 
 -- the test for a node of a partition
 abbrev pub is_partition : Node → Bool
-is_partition node = (node.device_type == 4) && (node.sub_type == 1)
+is_partition node = is_kind MEDIA_TYPE HARD_DRIVE HARD_DRIVE_LEAST node
 
--- the name of a file in `File(..)`, the numbers of a partition after its kind in lower case, and any other
--- node as it is printed
+-- the test for a namespace of an NVMe controller
+abbrev pub is_namespace : Node → Bool
+is_namespace node = is_kind MESSAGING_TYPE NVME_NAMESPACE NVME_NAMESPACE_LEAST node
+
+-- the node of a namespace with the bytes of the identifier in the opposite order
+abbrev pub with_reversed_id : Node → Node
+with_reversed_id node = node_with MESSAGING_TYPE NVME_NAMESPACE
+    (take 4 node.content ++ reverse (take 8 (drop 4 node.content)))
+
+-- these are the bytes of a namespace's node, with_reversed_id, or there are none for another node
+abbrev pub AreTurned : Node → Option (List ℕ) → Type 0
+AreTurned node None = is_namespace node ≡ false
+AreTurned node (Some bytes) = (is_namespace node ≡ true) × (bytes ≡ node_bytes (with_reversed_id node))
+
+-- the name of a file in `File(..)`, the numbers of a partition after its kind in lower case, a namespace with
+-- its identifier from the first byte on, and any other node as it is printed
 unfoldable pub libefivar_node_text : Node → List ℕ
 libefivar_node_text node =
     if is_file_node node then codes "File(" ++ (node_text false false node ++ codes ")")
     else if is_partition node then lowered_text 2 (node_text false false node)
+    else if is_namespace node then node_text false false (with_reversed_id node)
     else node_text false false node

@@ -15,6 +15,7 @@ use Rattle.uefi_device_path.specs.declared.lenient_errors.TextFault.{TextFault}
 use Rattle.uefi_node_reader.specs.declared.faults.Expected.{Expected}
 use Rattle.uefi_node_reader.specs.declared.faults.Expected.TheVariants as expected
 use Rattle.uefi_node_reader.specs.declared.faults.NodeFault.{NodeFault}
+use Rattle.uefi_node_reader.specs.LenientNodes.{past_file_call}
 use Rattle.uefi_node_reader.specs.Styles.{styled_read}
 use Rattle.uefi_node_reader.specs.declared.styles.TextStyle.{TextStyle}
 
@@ -118,11 +119,12 @@ abbrev pub PutsText : {V : Type 0} → (List Node → V → Type 0) → Result V
 PutsText takes (Ok value) read = (nodes : List Node) × (read ≡ Ok nodes) × takes nodes value
 PutsText takes (Err fault) read = read ≡ Err fault
 
--- the result is the path that a text is read as, or the text's fault, unless memory ran out
+-- the result is the path that a text is read as, or the text's fault; memory runs out only for a text
+-- that is read
 abbrev pub GivesText : Result (List Node) LenientTextError → Result (List Node) TextFault → Type 0
 GivesText (Ok path) read = read ≡ Ok path
 GivesText (Err (NoNode fault)) read = read ≡ Err fault
-GivesText (Err OutOfMemory) read = Unit {0}
+GivesText (Err OutOfMemory) read = (nodes : List Node) × (read ≡ Ok nodes)
 
 -- the test for a place where a node should end
 abbrev pub is_end : Expected → Bool
@@ -137,9 +139,16 @@ extent_by style text (Err fault) =
     if is_end fault.expected && is_ok (path_read style (take fault.byte text))
     then Ok fault.byte else Err fault
 
+-- the same, given the rest of the text after the first `File(..)` after which no node may end: the path ends
+-- there, if it is read
+abbrev pub extent_before : TextStyle → List ℕ → Option (List ℕ) → Result ℕ TextFault
+extent_before style text None = extent_by style text (path_read style text)
+extent_before style text (Some rest) = if is_ok (path_read style (take (length text - length rest) text))
+    then Ok (length text - length rest) else extent_by style text (path_read style text)
+
 -- the number of bytes of the path at the start of a text, or why the text begins with none
 unfoldable pub text_extent : TextStyle → List ℕ → Result ℕ TextFault
-text_extent style text = extent_by style text (path_read style text)
+text_extent style text = extent_before style text (past_file_call text)
 
 -- why the nodes of a text are not added to the path that a buffer begins with: there is no path,
 -- the text has this fault, or there is no room for the nodes

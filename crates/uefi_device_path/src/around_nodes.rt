@@ -2,9 +2,10 @@
 #![tactic(auto)]
 
 ghost use Rattle.std.specs.Prelude.{◌≡◌};
-ghost use Rattle.uefi_device_path.specs.AroundNodes.{after_first, before_closing, before_last, first_byte, first_place, is_mark, is_quoted, is_slashed, last_byte, past_slash};
+ghost use Rattle.uefi_device_path.specs.AroundNodes.{after_first, before_closing, before_last, first_byte, first_place, is_grub_pci, is_mark, is_quoted, is_slashed, last_byte, may_begin, past_slash};
 
-use uefi_node_reader::named_files::{is_after_node, past_spaces};
+use uefi_node_reader::ambiguous::begins_with;
+use uefi_node_reader::named_files::{before_spaces, is_after_node, past_spaces};
 use uefi_node_reader::styles::TextStyle;
 use uefi_node_reader::texts::{Text, is_empty};
 
@@ -27,20 +28,12 @@ fn last_byte<T: Text>(text: T) -> (u8, T)
     ensures byte { result.0 ≡ last_byte (T.bytes text) }
     ensures before { T.bytes result.1 ≡ before_last (T.bytes text) }
 {
-    let mut last = 0;
-    let mut end = 0;
-    let mut rest = text;
-    for place in 0..text.len() {
-        if let Some((byte, after)) = rest.split_first() {
-            if !byte.is_ascii_whitespace() {
-                last = byte;
-                end = place;
-            }
-            rest = after;
-        }
+    let kept = before_spaces(text);
+    let (before, last) = kept.split_at(kept.len().saturating_sub(1));
+    match last.split_first() {
+        Some((byte, _)) => (byte, before),
+        None => (0, before),
     }
-    let (before, _) = text.split_at(end);
-    (last, before)
 }
 
 /// Returns whether a byte is a quotation mark.
@@ -63,12 +56,27 @@ fn is_quoted<T: Text>(text: T) -> bool
     last == first && !is_empty(past_spaces(inside))
 }
 
+/// Returns whether a text is a call of GRUB for a PCI device, which has the function before the device, and
+/// no `0x`.
+fn is_grub_pci<T: Text>(text: T) -> bool
+    ensures { result ≡ is_grub_pci (T.bytes text) }
+{
+    begins_with(b"PCI(", text) && !begins_with(b"PCI(0x", text)
+}
+
+/// Returns whether a text may begin a node after a slash at the start of a path.
+fn may_begin<T: Text>(text: T) -> bool
+    ensures { result ≡ may_begin (T.bytes text) }
+{
+    !is_after_node(text) && !is_grub_pci(text)
+}
+
 /// Returns whether a text begins with a slash after which a node may begin.
 fn is_slashed<T: Text>(text: T) -> bool
     ensures { result ≡ is_slashed (T.bytes text) }
 {
     let (first, after) = first_byte(text);
-    first == b'/' && !is_after_node(past_spaces(after))
+    first == b'/' && may_begin(past_spaces(after))
 }
 
 /// Returns the text after the slash at its start, if a node may follow the slash, or else the whole

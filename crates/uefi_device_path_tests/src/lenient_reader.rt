@@ -1,7 +1,7 @@
 //! Device paths read from texts that people write. The bytes follow libefivar, which efibootmgr uses, and the
 //! layouts of the UEFI Specification 2.10, section 10.3.
 
-use crate::pasted_texts::{READ_BY_EDK2, READ_BY_PEOPLE, fault_words};
+use crate::pasted_texts::{OMITTED, READ_BY_EDK2, READ_BY_PEOPLE, fault_words};
 use for_tests::{bytes, split_row};
 use std::alloc::Global;
 use std::test::Fail;
@@ -99,7 +99,7 @@ const PASTED: &str = "\
 0301080001000000 Ata(Secondary,Master)
 0301080001010000 Ata(Secondary,Slave)
 030d3c000000000000000000000000000000000020010db80000000000000000000000010000\
-    00000000020000000000000000000000000000000000 \
+    00000000004000000000000000000000000000000000 \
     IPv6(2001:0DB8:0000:0000:0000:0000:0000:0001)
 02010c00d041030a0000000001010600021f PciRoot(0x0) / Pci(0x1F,0x2)
 02010c00d041030a0000000001010600021f7f01040004040a005c0061000000 PciRoot(0x0)/Pci(0x1F,0x2) , \\a
@@ -163,6 +163,7 @@ fn texts(rt: HostRuntime) -> Result<(), Fail> {
         PASTED,
         READ_BY_EDK2,
         READ_BY_PEOPLE,
+        OMITTED,
     ] {
         for line in table.split('\n') {
             let (nodes, text) = split_row(line);
@@ -192,13 +193,12 @@ fn texts_of_libefivar(rt: HostRuntime) -> Result<(), Fail> {
 /// Texts that libefivar prints for several different nodes, texts that it never prints, and the words of the
 /// error.
 const REFUSED_OF_LIBEFIVAR: &str = "\
-SAS(5006016047273469,12,34,NoTopology): no node at offset 0: expected a shorter node, or one \
-    whose text tells all \
-    of it at offset 4
-\\a/UsbClass(781,5583,255,18): no node at offset 3: expected a shorter node, or one whose text \
-    tells all of it at \
-    offset 12
-Fibre(5,0): no node at offset 0: expected a shorter node, or one whose text tells all of it at offset 6
+SAS(5006016047273469,12,34,NoTopology): no node at offset 0: expected a form that describes \
+    the whole node, of at most 65,535 bytes at offset 4
+\\a/UsbClass(781,5583,255,18): no node at offset 3: expected a form that describes \
+    the whole node, of at most 65,535 bytes at offset 12
+Fibre(5,0): no node at offset 0: expected a form that describes the whole node, of at \
+    most 65,535 bytes at offset 6
 PciRoot(12): no node at offset 0: expected a number after `0x` at offset 8
 pcieroot( ): no node at offset 0: expected a number after `0x` at offset 10
 NVMe(1,00-25-38-5B-71-B0-03-1C): no node at offset 0: expected the exact printed form at offset 5
@@ -229,20 +229,21 @@ pub(crate) const REFUSED: &str = "\
 9 9 Unit(1) /a: the name of a file | 0 7 Unit(1) a: `/`, `,` or the end of the text | \
 0 9 HD(1,GPT,1234,0x800,0x64000): 8 hexadecimal digits | \
 0 9 PciRoot(0: `)` | 0 43 VenHw(12345678-9abc-def0-1234-56789abcdef0,): 2 hexadecimal digits | \
-11 18 PciRoot(0)/Pci(1,2,3): `)` | 0 14 Path(1,1,0102): a shorter node, or one whose text tells all of it | \
+11 18 PciRoot(0)/Pci(1,2,3): `)` | \
+0 14 Path(1,1,0102): a form that describes the whole node, of at most 65,535 bytes | \
 0 7 Path(9,0x100): a number up to 0xFF | \
 0 6 File(a: `)` | 0 7 NVMe(1,0025385b71b0031c): 16 hexadecimal digits in pairs, with dashes between them | \
-2 3 ,,(: a number after `0x` | 0 38 wi-fi(a name of more than thirty-two bytes): `)` | \
+2 2 ,,(: the name of a node | 0 38 wi-fi(a name of more than thirty-two bytes): `)` | \
 0 45 VenHw(12345678-9abc-def0-1234-56789abcdef0,abc): `)` | \
 0 17 IPv4(1.2.3.4,TCP,Dynamic,0.0.0.0): `DHCP` or `Static` | \
 0 4 Pci(f,0): a number up to 0xFF | 0 14 Uart(9600,8,N,3): stop bits (D, 1, 1.5, 2 or x) and `)` | \
 12 20 pci root(0)/pci( 31 ; 2 ): `,` | \
-0 7 HD(128,0,1032547698badcfe0102030405060708,0x0,0x0): `GPT`, `MBR` or a number | \
+0 7 HD(128,0,1032547698badcfe0102030405060708,0x0,0x0): `GPT` or `MBR` | \
 0 7 Sata(0,-1,0): a number up to 0xFFFF | 0 17 HD(1,GPT,12345678_9abc-def0-1234-56789abcdef0): `-` | \
 0 12 Ata(Primary,Third,0): `Master` or `Slave` | 0 18 AcpiAdr(0x80010100,1): the exact printed form | \
 0 23 SAS(0,0,0,SAS,Internal,Dirct,0,0): `Direct` or `Expanded` | \
 11 15 PciRoot(0)/Pci(0x100,0): a number up to 0xFF | \
-0 19 MAC(001122334455,2): a shorter node, or one whose text tells all of it | 0 13 \
+0 19 MAC(001122334455,2): a form that describes the whole node, of at most 65,535 bytes | 0 13 \
     Acpi(PNP0A03,0x): a number up to 0xFFFFFFFF | \
 0 12 uri(http://a\u{7}): `)` | 0 5 file(a\u{7}b): the name of a file | \
 0 0 a\u{202e}: the name of a file | 0 0 shim.efi: the name of a file | \
@@ -252,7 +253,8 @@ pub(crate) const REFUSED: &str = "\
 1 1 ,EFI\\a.efi: the name of a file | \
 0 0 EFI\\x)\\y: the name of a file | \
 0 9 HD(1,MBR,12345678,0x800,0x64000): a number after `0x` | \
-0 5 Acpi(12345678,0): a number after `0x` | 0 25 BluetoothLE(001122334455,10): a number after `0x` | \
+0 5 Acpi(12345678,0): an ID such as `PNP0A03`, or `0x` and 8 digits | \
+0 25 BluetoothLE(001122334455,10): a number after `0x` | \
 0 6 Fibre(5006016047273469,0): a number after `0x` | \
 0 11 Fibre(0x1, 5006016047273469): a number after `0x` | \
 0 4 SAS(5000,0,0,NoTopology,0,0,0): a number after `0x` | \

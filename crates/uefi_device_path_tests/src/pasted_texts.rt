@@ -31,33 +31,12 @@ pub(crate) const READ_BY_EDK2: &str = "\
 030b2500525400123456000000000000000000000000000000000000000000000000000001030c1b0000000000c0a80064000000\
     000600010000000000000000 MAC(525400123456,0x1)/IPv4(192.168.0.100,TCP,Static)
 030b2500525400123456000000000000000000000000000000000000000000000000000001030d3c000000000000000000000000\
-    000000000000000000000000000000000000000000000000000000020000000000000000000000000000000000 MAC(52540\
-    0123456,0x1)/IPv6(::)
-030b2500525400123456000000000000000000000000000000000000000000000000000001030d3c000000000000000000000000\
-    0000000000fe800000000000000000000000000001000000000000020000000000000000000000000000000000 MAC(52540\
-    0123456,0x1)/IPv6(fe80::1)
-030b2500525400123456000000000000000000000000000000000000000000000000000001030d3c000000000000000000000000\
-    000000000020010db8000000000000000000000001000000000000020000000000000000000000000000000000 MAC(52540\
-    0123456,0x1)/IPv6(2001:db8::1)
-030b2500525400123456000000000000000000000000000000000000000000000000000001030d3c000000000000000000000000\
-    000000000020010db8000000000000000000000001000000000000020000000000000000000000000000000000 MAC(52540\
-    0123456,0x1)/IPv6(2001:DB8:0:0:0:0:0:1)
-030b2500525400123456000000000000000000000000000000000000000000000000000001030d3c000000000000000000000000\
-    000000000000000000000000000000000000000000000000000000020000000000000000000000000000000000 MAC(52540\
-    0123456,0x1)/IPv6(0000:0000:0000:0000:0000:0000:0000:0000)
-030b2500525400123456000000000000000000000000000000000000000000000000000001030d3c000000000000000000000000\
     000000000000000000000000000000000000000000000000000000004000000000000000000000000000000000 MAC(52540\
     0123456,0x1)/IPv6(0000:0000:0000:0000:0000:0000:0000:0000,0x0,Static,0000:0000:0000:0000:0000:0000:0\
     000:0000,0x40,0000:0000:0000:0000:0000:0000:0000:0000)
 030b2500525400123456000000000000000000000000000000000000000000000000000001030d3c000000000000000000000000\
-    000000000020010db8000000000000000000000001000000000600000000000000000000000000000000000000 MAC(52540\
-    0123456,0x1)/IPv6(2001:0DB8:0000:0000:0000:0000:0000:0001,TCP,Static)
-030b2500525400123456000000000000000000000000000000000000000000000000000001030d3c000000000000000000000000\
     0000000000fe800000000000000000000000000001000000000600004000000000000000000000000000000000 MAC(52540\
     0123456,0x1)/IPv6(fe80::1,TCP,Static,::,0x40,::)
-030b2500525400123456000000000000000000000000000000000000000000000000000001030d3c000000000000000000000000\
-    0000000000fe800000000000000000000000000001000000000600000000000000000000000000000000000000 MAC(52540\
-    0123456,0x1)/IPv6(fe80::1,TCP,Static)
 030b2500525400123456000000000000000000000000000000000000000000000000000001030d3c000000000000000000000000\
     000000000000000000000000000000000000000001000000000000014000000000000000000000000000000000 MAC(52540\
     0123456,0x1)/IPv6(::1,0x0,StatelessAutoConfigure,::,0x40,::)
@@ -247,15 +226,8 @@ pub(crate) const READ_BY_PEOPLE: &str = "\
     aea-3ee4af6516a1)/fvfile(7c04a583-9e3e-4f1c-ad65-e05268d0b4d1)
 030b2500525400123456000000000000000000000000000000000000000000000000000001030c1300c0a80001c0a80064000000\
     00110000 MAC(525400123456,0x1)/IPv4(192.168.0.100,UDP,DHCP,192.168.0.1)
-030b2500525400123456000000000000000000000000000000000000000000000000000001030d3c000000000000000000000000\
-    000000000020010db8000000000000000000000001000000000000020000000000000000000000000000000000 MAC(52540\
-    0123456,0x1)/IPv6([2001:db8::1])
 030d2b0020010db800000000000000000000000220010db800000000000000000000000100000000060000 IPv6(2001:db8::1,\
     TCP,Static,2001:db8::2)
-030d3c000000000000000000000000000000000020010db800000000000000000000000100000000060002000000000000000000\
-    0000000000000000 IPv6(2001:db8::1,TCP)
-030d3c00000000000000000000000000000000000000000000000000000000000000000000000000000000000000000000000000\
-    0000000000000000 IPv6([::]:<->[::]:,0,0)
 030b2500525400123456000000000000000000000000000000000000000000000000000001 MAC(52:54:00:12:34:56,0x1)
 030b2500525400123456000000000000000000000000000000000000000000000000000000 MAC(52:54:00:12:34:56)
 030b2500525400123456000000000000000000000000000000000000000000000000000001 MAC(52-54-00-12-34-56,0x1)
@@ -314,12 +286,45 @@ pub(crate) const READ_BY_PEOPLE: &str = "\
 0104170078563412bc9af0de123456789abcdef0aabbcc VenHw(12345678-9ABC-DEF0-1234-56789ABCDEF0, AA BB CC)
 05010d00010000003032303100 Bbs(1,0201)";
 
+/// Texts of IPv6 connections that omit fields, and the node that the network library of EDK II makes of those
+/// that are left (`NetLibCreateIPv6DPathNode`): with the origin 0, a prefix length of 64, and no gateway. EDK
+/// II's own reader of texts makes other nodes.
+pub(crate) const OMITTED: &str = "\
+030b2500525400123456000000000000000000000000000000000000000000000000000001030d3c000000000000000000000000\
+    000000000000000000000000000000000000000000000000000000004000000000000000000000000000000000 MAC(52540\
+    0123456,0x1)/IPv6(::)
+030b2500525400123456000000000000000000000000000000000000000000000000000001030d3c000000000000000000000000\
+    0000000000fe800000000000000000000000000001000000000000004000000000000000000000000000000000 MAC(52540\
+    0123456,0x1)/IPv6(fe80::1)
+030b2500525400123456000000000000000000000000000000000000000000000000000001030d3c000000000000000000000000\
+    000000000020010db8000000000000000000000001000000000000004000000000000000000000000000000000 MAC(52540\
+    0123456,0x1)/IPv6(2001:db8::1)
+030b2500525400123456000000000000000000000000000000000000000000000000000001030d3c000000000000000000000000\
+    000000000020010db8000000000000000000000001000000000000004000000000000000000000000000000000 MAC(52540\
+    0123456,0x1)/IPv6(2001:DB8:0:0:0:0:0:1)
+030b2500525400123456000000000000000000000000000000000000000000000000000001030d3c000000000000000000000000\
+    000000000000000000000000000000000000000000000000000000004000000000000000000000000000000000 MAC(52540\
+    0123456,0x1)/IPv6(0000:0000:0000:0000:0000:0000:0000:0000)
+030b2500525400123456000000000000000000000000000000000000000000000000000001030d3c000000000000000000000000\
+    000000000020010db8000000000000000000000001000000000600004000000000000000000000000000000000 MAC(52540\
+    0123456,0x1)/IPv6(2001:0DB8:0000:0000:0000:0000:0000:0001,TCP,Static)
+030b2500525400123456000000000000000000000000000000000000000000000000000001030d3c000000000000000000000000\
+    0000000000fe800000000000000000000000000001000000000600004000000000000000000000000000000000 MAC(52540\
+    0123456,0x1)/IPv6(fe80::1,TCP,Static)
+030d3c000000000000000000000000000000000020010db800000000000000000000000100000000060000400000000000000000\
+    0000000000000000 IPv6(2001:db8::1,TCP)
+030d3c00000000000000000000000000000000000000000000000000000000000000000000000000000000400000000000000000\
+    0000000000000000 IPv6([::]:<->[::]:,0,0)
+030b2500525400123456000000000000000000000000000000000000000000000000000001030d3c000000000000000000000000\
+    000000000020010db8000000000000000000000001000000000000004000000000000000000000000000000000 MAC(52540\
+    0123456,0x1)/IPv6([2001:db8::1])";
+
 /// Texts with a typo, texts that don't determine their node, and the message of each error.
 const WRONG: &str = "\
 PciRoot(0x0)/Pci(0x1F,0x2 => no node at offset 13: expected `)` at offset 25
 PciRoot(0x0)/Pci(0x1F;0x2) => no node at offset 13: expected `,` at offset 21
 PciRoot(0x0)/Pci(0x1F,0x2)/Sata(0x0,0xFFFF,0x0)/HD(1,GTP,12345678-9abc-def0-1234-56789abcdef0) => no nod\
-    e at offset 48: expected `GPT`, `MBR` or a number at offset 53
+    e at offset 48: expected `GPT` or `MBR` at offset 53
 PciRoot(0x0)/Pci(1F,0x2) => no node at offset 13: expected `,` at offset 18
 PciRoot(0x0)/Pci(0x1G,0x2) => no node at offset 13: expected `,` at offset 20
 PciRoot(0x0)/Pci(0x100,0x2) => no node at offset 13: expected a number up to 0xFF at offset 17
@@ -357,8 +362,8 @@ HD(1,GPT,12345678 9abc def0 1234 56789abcdef0) => no node at offset 0: expected 
 HD(1,GPT) => no node at offset 0: expected `,` at offset 8
 HD(GPT,12345678-9abc-def0-1234-56789abcdef0) => no node at offset 0: expected a number up to 0xFFFFFFFF \
     at offset 3
-HD(1,800,64000,12345678-9abc-def0-1234-56789abcdef0) => no node at offset 0: expected `GPT`, `MBR` or a \
-    number at offset 5
+HD(1,800,64000,12345678-9abc-def0-1234-56789abcdef0) => no node at offset 0: expected `GPT` or `MBR` at \
+    offset 5
 HD(1,MBR,12345678,0x800,0x64000) => no node at offset 0: expected a number after `0x` at offset 9
 HD(1,MBR,0x123456789,0x800,0x64000) => no node at offset 0: expected `,` at offset 19
 HD(1,GPT,12345678-9abc-def0-1234-56789abcdef0,800h,0x64000) => no node at offset 0: expected `,` at offs\
@@ -369,14 +374,16 @@ HD(1,GPT,12345678-9abc-def0-1234-56789abcdef0/\\EFI\\a.efi => no node at offset 
     t 45
 HD(1,GPT,12345678-9abc-def0-1234-56789abcdef0)\\EFI\\a.efi => no node at offset 0: expected `/`, `,` or \
     the end of the text at offset 46
-HD(1,GPT,12345678-9abc-def0-1234-56789abcdef0)/EFI/BOOT/a.efi => no node at offset 47: expected the nam\
-    e of a file at offset 47
+HD(1,GPT,12345678-9abc-def0-1234-56789abcdef0)/EFI/BOOT/a.efi => no node at offset 47: expected the name \
+    of a file at offset 47
 HD(1,GPT,12345678-9abc-def0-1234-56789abcdef0)/a.efi => no node at offset 47: expected the name of a fil\
     e at offset 47
 HD(1,GPT,12345678-9abc-def0-1234-56789abcdef0)/File(\\EFI\\a.efi => no node at offset 47: expected `)` a\
     t offset 62
-MAC(52540012345,0x1) => no node at offset 0: expected `:` at offset 6
-MAC(52540012345G,0x1) => no node at offset 0: expected `:` at offset 6
+MAC(52540012345,0x1) => no node at offset 0: expected an address of 12 hexadecimal digits, such as `5254\
+    00ABCDEF` at offset 4
+MAC(52540012345G,0x1) => no node at offset 0: expected an address of 12 hexadecimal digits, such as `525\
+    400ABCDEF` at offset 4
 MAC(52:54:00:12:34,0x1) => no node at offset 0: expected `:` at offset 18
 MAC(525400123456,0x1)/IPv4(192.168.0) => no node at offset 22: expected `.` at offset 36
 MAC(525400123456,0x1)/IPv4(192.168.0.256) => no node at offset 22: expected a number up to 0xFF at offse\
@@ -384,8 +391,8 @@ MAC(525400123456,0x1)/IPv4(192.168.0.256) => no node at offset 22: expected a nu
 MAC(525400123456,0x1)/IPv4(192.168.0.1.5) => no node at offset 22: expected `,` at offset 38
 MAC(525400123456,0x1)/IPv4(192.168.0.1,TPC,DHCP) => no node at offset 22: expected `TCP`, `UDP` or a num\
     ber at offset 39
-MAC(525400123456,0x1)/IPv4(192.168.0.1,TCP,Dynamic) => no node at offset 22: expected `DHCP` or `Static\
-    ` at offset 43
+MAC(525400123456,0x1)/IPv4(192.168.0.1,TCP,Dynamic) => no node at offset 22: expected `DHCP` or `Static` \
+    at offset 43
 NVMe(0x1,00-25-38-5B-71-B0-03) => no node at offset 0: expected 16 hexadecimal digits in pairs, with das\
     hes between them at offset 9
 NVMe(0x1,0025385B71B0031C) => no node at offset 0: expected 16 hexadecimal digits in pairs, with dashes \
@@ -394,8 +401,8 @@ NVMe(0x1;00-25-38-5B-71-B0-03-1C) => no node at offset 0: expected `,` at offset
 Ata(0,0,0) => no node at offset 0: expected `Primary` or `Secondary` at offset 4
 Ata(Primary,Third,0) => no node at offset 0: expected `Master` or `Slave` at offset 12
 Uart(115200,8,N,3) => no node at offset 0: expected stop bits (D, 1, 1.5, 2 or x) and `)` at offset 16
-Uart(fast,8,N,1) => no node at offset 0: expected DEFAULT or a number up to 0xFFFFFFFFFFFFFFFF at offse\
-    t 5
+Uart(fast,8,N,1) => no node at offset 0: expected DEFAULT or a number up to 0xFFFFFFFFFFFFFFFF at offset \
+    5
 BBS(Harddisk,Foo,0x0) => no node at offset 0: expected `Floppy`, `HD`, `CDROM`, `PCMCIA`, `USB`, `Networ\
     k` or a number at offset 4
 UsbWwid(0x1234,0x5678,0,ABC) => no node at offset 0: expected `\"` at offset 24
@@ -430,11 +437,11 @@ AcpiEx(@@@0000,@@@0000,0x0,VMBus,,) => no node at offset 0: expected an ID such 
     offset 7
 HD(Part1,Sig12345678-0000-0000-0000-000000000000) => no node at offset 0: expected a number up to 0xFFFF\
     FFFF at offset 3
-HD(1,800,64000,12345678-9abc-def0-1234-56789abcdef0) => no node at offset 0: expected `GPT`, `MBR` or a \
-    number at offset 5
-HD(1,800,64000,12345678) => no node at offset 0: expected `GPT`, `MBR` or a number at offset 5
+HD(1,800,64000,12345678-9abc-def0-1234-56789abcdef0) => no node at offset 0: expected `GPT` or `MBR` at \
+    offset 5
+HD(1,800,64000,12345678) => no node at offset 0: expected `GPT` or `MBR` at offset 5
 /VenHw(e61d73b9-a384-4acc-aeab-82e828f3628b)/SCSI(0,0)/HD(0x01,0,0,0x100000,0x100000) => no node at offs\
-    et 55: expected `GPT`, `MBR` or a number at offset 63
+    et 55: expected `GPT` or `MBR` at offset 63
 HD(1,GPT,12345678-9abc-def0-1234-56789abcdef0)\\EFI\\BOOT\\BOOTX64.EFI => no node at offset 0: expected \
     `/`, `,` or the end of the text at offset 46
 UsbWwid(0x1234,0x5678,0) => no node at offset 0: expected `,` at offset 23
@@ -450,19 +457,48 @@ UnknownScsi(0,0) => no node at offset 0: expected the name of a node at offset 0
 UsbStorage(0x781,0x5583,0x6,0x50) => no node at offset 0: expected the name of a node at offset 0
 PciRoot(0)/Pci(1C.0) => no node at offset 11: expected `,` at offset 16
 Acpi(PNP0A03,0)/Pci(1|0) => no node at offset 16: expected `,` at offset 21
-Acpi(HWP0002,0) => no node at offset 0: expected `P` at offset 5
+Acpi(HWP0002,0) => no node at offset 0: expected an ID such as `PNP0A03`, or `0x` and 8 digits at offset \
+    5
 PciRoot(0x0)/Pci(0x1F,0x2)/Sata(0x0,0xFFFF,0x0)/HD(1,GPT,12345678-9abc-def0-1234-56789abcdef0,0x800,0x64\
     000)//EFI/BOOT/BOOTX64.EFI => no node at offset 109: expected the name of a node at offset 109
 VendorHw(12345678-9ABC-DEF0-1234-56789ABCDEF0) => no node at offset 0: expected the name of a node at of\
     fset 0
 Infiniband(0x0,0,0x0,0x0,0x0) => no node at offset 0: expected 8 hexadecimal digits at offset 15
-HardwarePath(1,0201) => no node at offset 0: expected a shorter node, or one whose text tells all of it \
-    at offset 20
+HardwarePath(1,0201) => no node at offset 0: expected a form that describes the whole node, of at most 6\
+    5,535 bytes at offset 20
 BbsPath(2,xy) => no node at offset 0: expected 2 hexadecimal digits at offset 10
 Boot0001* PciRoot(0) => no node at offset 0: expected the name of a node at offset 0
 NVDIMM(12345678-9ABC-DEF0-1234-56789ABCDEF0) => no node at offset 0: expected the name of a node at offs\
     et 0
-NVDIMM(0x1) => no node at offset 0: expected the name of a node at offset 0";
+NVDIMM(0x1) => no node at offset 0: expected the name of a node at offset 0
+HD(1,0x01,0,0x800,0x64000) => no node at offset 0: expected `GPT` or `MBR` at offset 5
+Acpi(0x1F,0x1) => no node at offset 0: expected an ID such as `PNP0A03`, or `0x` and 8 digits at offset \
+    5
+Dns() => no node at offset 0: expected an IP address at offset 4
+Dns(abc) => no node at offset 0: expected an IP address at offset 4
+IPv4(localhost) => no node at offset 0: expected an IP address at offset 5
+IPv6(fe80::1::2) => no node at offset 0: expected an IP address at offset 5
+MAC(52540012345,1) => no node at offset 0: expected an address of 12 hexadecimal digits, such as `525400\
+    ABCDEF` at offset 4
+MAC() => no node at offset 0: expected an address of 12 hexadecimal digits, such as `525400ABCDEF` at of\
+    fset 4
+BBS(HDD,Drive,0x0) => no node at offset 0: expected `Floppy`, `HD`, `CDROM`, `PCMCIA`, `USB`, `Network` \
+    or a number at offset 4
+Ata() => no node at offset 0: expected `Primary` or `Secondary` at offset 4
+FvFile() => no node at offset 0: expected a GUID at offset 7
+VenHw(PciRoot) => no node at offset 0: expected a GUID at offset 6
+Pci() => no node at offset 0: expected a number after `0x` at offset 4
+Flie(\\EFI\\a.efi) => no node at offset 0: expected the name of a node, such as `File(` at offset 0
+FvVl(7CB8BDC9-F8EB-4F34-AAEA-3EE4AF6516A1) => no node at offset 0: expected the name of a node, such as \
+    `FvVol(` at offset 0
+VenUtf88() => no node at offset 0: expected the name of a node, such as `VenUtf8(` at offset 0
+Pth(1,9,0102) => no node at offset 0: expected the name of a node, such as `Path(` at offset 0
+PciRoot(0)/ PicRoot(0) => no node at offset 11: expected the name of a node, such as `PciRoot(0x` at off\
+    set 12
+HD(1,MBR,0x12345678)/\\\\EFI\\\\redhat\\\\shimx64.efi => no node at offset 21: expected the name of a fi\
+    le at offset 22
+File(\\\\EFI\\\\redhat\\\\shimx64.efi) => no node at offset 0: expected the name of a file at offset 5
+/PCI(0,3) => no node at offset 0: expected the name of a node at offset 0";
 
 /// Returns the message of the error for a text, or nothing if the text is read.
 pub(crate) fn fault_words(

@@ -148,7 +148,7 @@ fn instances(rt: HostRuntime) -> Result<(), Fail> {
     Ok(())
 }
 
-/// Paths as libefivar 37 prints them.
+/// Paths in the style of libefivar 37.
 const LIBEFIVAR: &str = "\
 7fff0400
 02010c00d041030a0000000001010600021f04012a00010000000008000000000000004006000000\
@@ -158,7 +158,8 @@ const LIBEFIVAR: &str = "\
     /File(\\EFI\\BOOT\\BOOTX64.EFI)
 04012a00020000003f00000000000000c8000000000000001234abcd00000000000000000000000001017f0104000404080041000000\
     7fff0400 HD(2,MBR,0xcdab3412,0x3f,0xc8),File(A)
-04010700abcdef04040700610062040404007fff0400 Path(4,1,abcdef)/Path(4,4,610062)/File()";
+04010700abcdef04040700610062040404007fff0400 Path(4,1,ABCDEF)/Path(4,4,610062)/File()
+03171000010000000025385b71b012f47fff0400 NVMe(0x1,00-25-38-5B-71-B0-12-F4)";
 
 #[test]
 fn libefivar(rt: HostRuntime) -> Result<(), Fail> {

@@ -223,7 +223,8 @@ fn long_texts(rt: HostRuntime) -> Result<(), Fail> {
     }
     let longer = format!(in alloc; "Path(9,200,{digits}AB)")?;
     let want =
-        "no node at offset 0: expected a shorter node, or one whose text tells all of it at offset 131076";
+        "no node at offset 0: expected a form that describes the whole node, of at most 65,535 bytes at \
+offset 131076";
     assert_eq!(rt;
         refusal(alloc, true, &longer)?.as_deref(),
         Some("no node at offset 0")

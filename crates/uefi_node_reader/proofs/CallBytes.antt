@@ -13,7 +13,7 @@ use Rattle.std.proofs.lemmas.Int.Digits.{digits_value-lt}
 use Rattle.std.proofs.lemmas.List.Elements.{All-append, All-cons, All-nil, All-replicate}
 use Rattle.uefi_node_reader.specs.FieldReading.{◌>>=◌, low_bytes}
 use Rattle.uefi_node_reader.specs.LenientFields.{any_number}
-use Rattle.uefi_node_reader.specs.ShortAddresses.{address_octets, address_read, at_end, bare_address, call_data, closed_address, closes_call, connection, ends_address, last_fields, last_part, last_read, local_read, no_address, origin_on, origin_read, protocol_read, settings_read}
+use Rattle.uefi_node_reader.specs.ShortAddresses.{address_octets, address_read, at_end, bare_address, call_data, closed_address, closes_call, connection, ends_address, last_fields, last_part, last_read, local_read, no_address, omitted_local, origin_on, origin_read, protocol_read, settings_read}
 use Rattle.uefi_node_reader.specs.TableReading.{first_of}
 use Rattle.uefi_node_reader.specs.WordReading.{after, or_word}
 use Rattle.uefi_node_reader.proofs.LenientNumbers.{number_small}
@@ -128,11 +128,14 @@ IsLast local = AreBytes local.0 × AreBytes local.1
 abbrev with_last : List ℕ × List ℕ → Option (List ℕ × List ℕ)
 with_last address = last_read address.1 >>= λ last. Some (address.0, last)
 
+omitted_bytes : IsLast omitted_local
+omitted_bytes = (zeros 16, then_byte 64 no_address (omega arith) (zeros 16))
+
 local_bytes : (text : List ℕ) (local : List ℕ × List ℕ) → local_read text ≡ Some local → IsLast local
 local_bytes text local e = by (closes_call text) e
   where
-    by : (b : Bool) → cond b (Some (no_address, 0 ∷ no_address)) (after (codes ",") text >>= address_read >>= with_last) ≡ Some local → IsLast local
-    by true p = subst IsLast (same_Some _ _ p) (zeros 16, zeros 17)
+    by : (b : Bool) → cond b (Some omitted_local) (after (codes ",") text >>= address_read >>= with_last) ≡ Some local → IsLast local
+    by true p = subst IsLast (same_Some _ _ p) omitted_bytes
     by false p =
         and_then_some with_last (after (codes ",") text >>= address_read) local p λ address is others.
         and_then_some address_read (after (codes ",") text) address is λ rest comma read.
@@ -165,9 +168,9 @@ with_local remote protocol origin = local_read origin.1 >>= λ local. Some (conn
 origin_bytes : (remote : List ℕ) (protocol : ℕ) (text content : List ℕ) → AreBytes remote → origin_on remote protocol text ≡ Some content → AreBytes content
 origin_bytes remote protocol text content r e = by (closes_call text) e
   where
-    by : (b : Bool) → cond b (Some (connection remote protocol 2 (no_address, 0 ∷ no_address))) (after (codes ",") text >>= origin_read >>= with_local remote protocol) ≡ Some content
+    by : (b : Bool) → cond b (Some (connection remote protocol 0 omitted_local)) (after (codes ",") text >>= origin_read >>= with_local remote protocol) ≡ Some content
         → AreBytes content
-    by true p = subst AreBytes (same_Some _ _ p) (connection_bytes remote protocol 2 (no_address, 0 ∷ no_address) r (omega arith) (zeros 16, zeros 17))
+    by true p = subst AreBytes (same_Some _ _ p) (connection_bytes remote protocol 0 omitted_local r (omega arith) omitted_bytes)
     by false p =
         and_then_some (with_local remote protocol) (after (codes ",") text >>= origin_read) content p λ origin got left.
         and_then_some origin_read (after (codes ",") text) origin got λ rest comma read.

@@ -1,13 +1,14 @@
 -- A byte that is wrong lies in its text, or at its end.
-use Rattle.std.proofs.Common.{ℕ, suc, ◌+◌, ◌-◌, ◌≤◌, Bool, true, false, cond, eqb, List, [], ◌∷◌, length, arith}
-use Rattle.std.specs.Prelude.{IfErr, Option, Some, None, Result, Ok, Err, codes}
+use Rattle.std.proofs.Common.{◌≡◌, refl, ℕ, suc, ◌+◌, ◌-◌, ◌≤◌, Bool, true, false, cond, eqb, List, [], ◌∷◌, length, arith}
+use Rattle.std.specs.Prelude.{IfErr, Option, Some, None, Result, Ok, Err, codes, not, ◌&&◌}
 use Rattle.std.specs.Option.{ok_or, option_map}
 use Rattle.std.specs.Result.{result_map_both}
 use Rattle.uefi_device_nodes.specs.Nodes.{Node}
 use Rattle.uefi_node_reader.specs.LenientFields.{after_literal}
 use Rattle.uefi_node_reader.specs.LenientCalls.{cut_call, is_blank, place_at, tidied, whole}
-use Rattle.uefi_node_reader.specs.LenientNodes.{bare_read, begins_call, call_in, call_read, cut_file, end_fault, ended_at, exact_or, fault_at_byte, file_in, file_or_call, lenient_read, open_fault, or_fault, rooted, spaced, stop_fault, written_read}
+use Rattle.uefi_node_reader.specs.LenientNodes.{bare_read, begins_call, call_in, call_read, cut_file, end_fault, ended_at, exact_or, fault_at_byte, file_in, file_or_call, is_base, is_escaped_name, lenient_read, unnamed_fault, open_fault, or_fault, spaced, stop_fault, typed_name, written_read}
 use Rattle.uefi_node_reader.specs.Mistakes.{mistake}
+use Rattle.uefi_node_reader.specs.NearNames.{is_named}
 use Rattle.uefi_node_reader.specs.NamedFiles.{is_after_node, name_read, node_read, past_spaces}
 use Rattle.uefi_node_reader.specs.Stops.{◌>?◌}
 use Rattle.uefi_node_reader.specs.declared.faults.Expected.TheVariants as expected
@@ -34,8 +35,13 @@ module _ (text : List ℕ) where
   or_within (Some x) fault l = tt
 
   stop_within : (call : List ℕ) (o : Option Stop) → (stop_fault text call o).byte ≤ length text
-  stop_within call None = omega arith
-  stop_within call (Some stop) = place_within (length call - (mistake call stop).left) text
+  stop_within call None = place_within 0 text
+  stop_within call (Some stop) = by (is_base stop.expected && not (is_named call))
+    where
+      by : (b : Bool) → (cond b (unnamed_fault text call)
+          (fault_at_byte (place_at (length call - (mistake call stop).left) text) (mistake call stop).expected)).byte ≤ length text
+      by true = place_within 0 text
+      by false = place_within (length call - (mistake call stop).left) text
 
   open_within : (call : List ℕ) (r : Result Node (Option Stop)) → (open_fault text call r).byte ≤ length text
   open_within call (Ok node) = omega arith
@@ -60,7 +66,7 @@ module _ (text : List ℕ) where
     where
       by : (o : Option (List ℕ × List ℕ)) → Within (file_in text name o)
       by None = omega arith
-      by (Some call) = or_within (option_map (λ (n : Node). (n, call.1)) (whole (name_read (rooted call.0)))) _ (omega arith)
+      by (Some call) = or_within (option_map (λ (n : Node). (n, call.1)) (typed_name call.0)) _ (omega arith)
 
   pub end_within : (read : Node × List ℕ) → Within (ended_at text read)
   end_within read = by (is_after_node (past_spaces read.1))
@@ -76,9 +82,9 @@ module _ (text : List ℕ) where
   written_within : (is_rooted : Bool) → Within (written_read is_rooted text)
   written_within is_rooted = by (begins_call text) (is_after_node text)
     where
-      by : (b first : Bool) → Within (cond b (file_or_call (after_literal (codes "File(") text) text >? ended_at text)
+      by : (b first : Bool) → Within (cond b (file_or_call (after_literal (codes "File(") (past_spaces text)) text >? ended_at text)
           (ok_or (bare_read is_rooted text) (fault_at_byte 0 (cond first expected.Node expected.FileName))))
-      by true first = then_within (file_or_call (after_literal (codes "File(") text) text) (either_within (after_literal (codes "File(") text))
+      by true first = then_within (file_or_call (after_literal (codes "File(") (past_spaces text)) text) (either_within (after_literal (codes "File(") (past_spaces text)))
       by false first = or_within (bare_read is_rooted text) _ (omega arith)
 
   exact_within : (o : Option (Node × List ℕ)) (r : Result (Node × List ℕ) NodeFault) → Within r → Within (exact_or text o r)
@@ -92,4 +98,13 @@ module _ (text : List ℕ) where
 
   pub fault_within : (is_rooted : Bool) → Within (lenient_read is_rooted text)
   unfolding lenient_read
-  fault_within is_rooted = exact_within (node_read text) (written_read is_rooted text) (written_within is_rooted)
+  fault_within is_rooted = by (is_escaped_name text) refl
+    where
+      long : (t : List ℕ) → is_escaped_name t ≡ true → 1 ≤ length t
+      long [] e = cc
+      long (c ∷ cs) e = omega arith
+
+      by : (b : Bool) → is_escaped_name text ≡ b
+          → Within (cond b (Err (fault_at_byte 1 expected.FileName)) (exact_or text (node_read text) (written_read is_rooted text)))
+      by true e = long text e
+      by false e = exact_within (node_read text) (written_read is_rooted text) (written_within is_rooted)

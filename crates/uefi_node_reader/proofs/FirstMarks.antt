@@ -1,11 +1,12 @@
 -- The first of some bytes in a text, as an index and as the rest of the text.
-use Rattle.std.proofs.Common.{◌≡◌, ℕ, suc, ◌+◌, ◌<◌, ◌≤◌, Bool, true, false, cond, eqb, not, ◌||◌, List, [], ◌∷◌, length, drop, take, refl, ap, arith}
+use Rattle.std.proofs.Common.{◌≡◌, ℕ, suc, ◌+◌, ◌-◌, ◌<◌, ◌≤◌, ◌∙◌, Bool, true, false, cond, eqb, not, ◌||◌, List, [], ◌∷◌, length, drop, take, refl, ap, arith}
 use Rattle.std.proofs.lemmas.Bool.{lt-ltb, le-ltb}
 use Rattle.std.specs.List.{list_any, position_or_len}
-use Rattle.std.specs.Prelude.{Option, Some, None, is_some}
-use Rattle.std.specs.Option.{option_map}
+use Rattle.std.specs.Prelude.{◌==◌, ◌&&◌, Option, Some, None, is_some}
+use Rattle.std.specs.Option.{option_map, option_or}
 use Rattle.uefi_node_reader.specs.LenientCalls.{cut_call, from_mark}
-use Rattle.uefi_node_reader.specs.LenientNodes.{closes_node, name_end}
+use Rattle.uefi_node_reader.specs.LenientNodes.{closes_node, closing, file_end, name_end, opened}
+use Rattle.uefi_node_reader.specs.NamedFiles.{ends_name}
 
 abbrev pub first_place : ℕ → List ℕ → ℕ
 first_place mark text = position_or_len (λ (c : ℕ). eqb c mark) text
@@ -68,16 +69,35 @@ name_end-within (c ∷ cs) place e = by (closes_node (c ∷ cs)) (name_end cs) e
     by false None e h = cc
     by false (Some p) e h = let same : p + 1 ≡ place = cc in omega (arith, h p refl)
 
+pub closing-within : (depth : ℕ) (text : List ℕ) (place : ℕ) → closing depth text ≡ Some place → place < length text
+closing-within depth [] place e = cc
+closing-within depth (c ∷ cs) place e =
+    by ((c == 41) && (depth == 0)) (ends_name c) (closing (opened depth c) cs) e (closing-within (opened depth c) cs)
+  where
+    by : (a b : Bool) (o : Option ℕ) → cond a (Some 0) (cond b None (option_map (λ (p : ℕ). p + 1) o)) ≡ Some place
+        → ((p : ℕ) → o ≡ Some p → p < length cs) → place < length (c ∷ cs)
+    by true b o e h = let same : 0 ≡ place = cc in omega arith
+    by false true o e h = cc
+    by false false None e h = cc
+    by false false (Some p) e h = let same : p + 1 ≡ place = cc in omega (arith, h p refl)
+
+file_end-within : (text : List ℕ) (place : ℕ) → file_end text ≡ Some place → place < length text
+file_end-within text place e = by (name_end text) refl e
+  where
+    by : (o : Option ℕ) → name_end text ≡ o → option_or o (closing 0 text) ≡ Some place → place < length text
+    by None p e = closing-within 0 text place e
+    by (Some q) p e = name_end-within text place (p ∙ e)
+
 pub is_some-map : {A B : Type 0} (f : A → B) (o : Option A) → is_some (option_map f o) ≡ is_some o
 is_some-map f None = refl
 is_some-map f (Some x) = refl
 
--- the `)` that ends a name
-pub name_end-some : (text rest : List ℕ) → option_map (λ (p : ℕ). drop p text) (name_end text) ≡ Some rest
-    → (place : ℕ) × (name_end text ≡ Some place) × (rest ≡ drop place text) × (place < length text)
-name_end-some text rest e = by (name_end text) refl e
+-- the `)` that ends a name in `File(..)`
+pub file_end-some : (text rest : List ℕ) → option_map (λ (p : ℕ). drop p text) (file_end text) ≡ Some rest
+    → (place : ℕ) × (file_end text ≡ Some place) × (rest ≡ drop place text) × (place < length text)
+file_end-some text rest e = by (file_end text) refl e
   where
-    by : (o : Option ℕ) → name_end text ≡ o → option_map (λ (p : ℕ). drop p text) o ≡ Some rest
-        → (place : ℕ) × (name_end text ≡ Some place) × (rest ≡ drop place text) × (place < length text)
+    by : (o : Option ℕ) → file_end text ≡ o → option_map (λ (p : ℕ). drop p text) o ≡ Some rest
+        → (place : ℕ) × (file_end text ≡ Some place) × (rest ≡ drop place text) × (place < length text)
     by None n e = absurd cc
-    by (Some p) n e = let same : rest ≡ drop p text = cc in (p, n, same, name_end-within text p n)
+    by (Some p) n e = let same : rest ≡ drop p text = cc in (p, n, same, file_end-within text p n)

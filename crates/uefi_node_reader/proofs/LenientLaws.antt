@@ -7,6 +7,7 @@ use Rattle.std.specs.Option.{ok_or, option_map, option_or}
 use Rattle.std.specs.Result.{result_map_both}
 use Rattle.std.specs.Str.{chars, is_utf8}
 use borrow.Author.Tests.{ltb-true}
+use Rattle.std.proofs.lemmas.Bool.{and_parts}
 use Rattle.std.proofs.lemmas.List.{take-append-drop}
 use Rattle.uefi_node_table.specs.Rows.{Form}
 use Rattle.uefi_node_table.specs.Table.{forms}
@@ -16,10 +17,10 @@ use Rattle.uefi_device_nodes.specs.NodeTexts.{node_text}
 use Rattle.uefi_node_reader.specs.LenientFields.{after_letter, after_literal, any_number, begins_base, literal_left, past_base}
 use Rattle.uefi_node_reader.specs.Ambiguous.{ambiguous_stop}
 use Rattle.uefi_node_reader.specs.LenientCalls.{begins_call_name, call_told, call_tried, cut_call, form_told, form_tried, forms_tried, is_textless, named_told, names_tried, plain_names, plain_told, sub_type_told, tidied, told_in, types_told, whole}
-use Rattle.uefi_node_reader.specs.LenientNodes.{call_read, or_short, or_textless, IsRestOf, bare_read, begins_call, call_in, end_fault, ended, ended_at, exact_or, cut_file, fault_at_byte, file_in, file_or_call, lenient_read, name_end, named_read, or_fault, rooted, spaced, stop_fault, written_read}
+use Rattle.uefi_node_reader.specs.LenientNodes.{call_read, or_short, or_textless, IsRestOf, bare_name, bare_read, begins_call, call_in, end_fault, ended, ended_at, exact_or, cut_file, fault_at_byte, file_end, file_in, file_or_call, is_escaped_name, lenient_read, named_read, or_fault, rooted, spaced, stop_fault, typed_name, written_read}
 use Rattle.uefi_node_reader.specs.Notations.{head_in, lenient}
 use Rattle.uefi_node_reader.specs.Stops.{◌>?◌, rest_end, stop_at, stop_of}
-use Rattle.uefi_node_reader.specs.NamedFiles.{IsTold, ends_name, is_after_node, is_name, name_bytes, name_data, name_read, node_read, past_spaces}
+use Rattle.uefi_node_reader.specs.NamedFiles.{IsTold, before_spaces, ends_name, is_after_node, is_name, name_bytes, name_data, name_read, node_read, past_spaces}
 use Rattle.uefi_node_reader.specs.TableReading.{is_empty, is_read, is_sound, rest_read}
 use Rattle.uefi_node_table.specs.declared.rows.Mode.{Mode}
 use Rattle.uefi_node_table.specs.declared.rows.Mode.TheVariants.{Read, Printed, Display}
@@ -183,6 +184,13 @@ pub with_rest : (o : Option Node) (after : List ℕ) (node : Node) (rest : List 
 with_rest None after node rest e = cc
 with_rest (Some x) after node rest e = let p = some_pair (x, after) (node, rest) e in (λ i. Some (p.0 i), p.1)
 
+typed_told : (name : List ℕ) (node : Node) → typed_name name ≡ Some node → IsTold node
+typed_told name node e = by (is_escaped_name name) e
+  where
+    by : (b : Bool) → cond b None (whole (name_read (rooted name))) ≡ Some node → IsTold node
+    by true q = cc
+    by false q = name_told (rooted name) node q
+
 if_bare : {A : Type 0} (b : Bool) (o : Option A) (x : A) → cond b o None ≡ Some x → o ≡ Some x
 if_bare true o x e = e
 if_bare false o x e = cc
@@ -198,15 +206,15 @@ called text node rest (Some call) e =
 
 -- what a bare name was read of
 bare_named : (is_rooted : Bool) (text : List ℕ) (node : Node) (rest : List ℕ) → bare_read is_rooted text ≡ Some (node, rest)
-    → (whole (name_read (rooted (past_spaces (name_bytes text)))) ≡ Some node) × (drop (position_or_len ends_name text) text ≡ rest)
+    → (typed_name (bare_name text) ≡ Some node) × (drop (position_or_len ends_name text) text ≡ rest)
 bare_named is_rooted text node rest e = with_rest _ _ node rest (if_bare _ (named_read text) (node, rest) e)
 
 -- what a name in `File(..)` was read of
 filed : (text name : List ℕ) (node : Node) (rest : List ℕ) (o : Option (List ℕ × List ℕ)) → file_in text name o ≡ Ok (node, rest)
-    → (call : List ℕ × List ℕ) × (o ≡ Some call) × ((whole (name_read (rooted call.0)) ≡ Some node) × (call.1 ≡ rest))
+    → (call : List ℕ × List ℕ) × (o ≡ Some call) × ((typed_name call.0 ≡ Some node) × (call.1 ≡ rest))
 filed text name node rest None e = cc
 filed text name node rest (Some call) e =
-    (call, refl, with_rest _ call.1 node rest (ok_some (option_map (λ (n : Node). (n, call.1)) (whole (name_read (rooted call.0)))) _ (node, rest) e))
+    (call, refl, with_rest _ call.1 node rest (ok_some (option_map (λ (n : Node). (n, call.1)) (typed_name call.0)) _ (node, rest) e))
 
 -- what was read, and ends where a node may end
 pub ends : (o : Option (Node × List ℕ)) (node : Node) (rest : List ℕ) → ended o ≡ Some (node, rest)
@@ -254,12 +262,12 @@ exact_way text (Some read) other node rest e = by (is_after_node (past_spaces re
 -- one of the four that are tried
 module _ (is_rooted : Bool) (text : List ℕ) (node : Node) (rest : List ℕ) (Goal : Type 0)
     (strict : (before : List ℕ) → node_read text ≡ Some (node, before) → past_spaces before ≡ rest → is_after_node rest ≡ true → Goal)
-    (file : begins_call text ≡ true → (name : List ℕ) → after_literal (codes "File(") text ≡ Ok name → (before : List ℕ)
+    (file : begins_call text ≡ true → (name : List ℕ) → after_literal (codes "File(") (past_spaces text) ≡ Ok name → (before : List ℕ)
     → file_in text name (cut_file name) ≡ Ok (node, before) → past_spaces before ≡ rest → is_after_node rest ≡ true → Goal)
     (call : begins_call text ≡ true → (before : List ℕ) → call_in text (cut_call text) ≡ Ok (node, before)
     → past_spaces before ≡ rest → is_after_node rest ≡ true → Goal)
     (bare : bare_read is_rooted text ≡ Some (node, rest) → Goal) where
-  either_call : begins_call text ≡ true → (r : Result (List ℕ) Stop) → after_literal (codes "File(") text ≡ r
+  either_call : begins_call text ≡ true → (r : Result (List ℕ) Stop) → after_literal (codes "File(") (past_spaces text) ≡ r
       → (read : Node × List ℕ) → file_or_call r text ≡ Ok read → ended_at text read ≡ Ok (node, rest) → Goal
   either_call b (Err stop) f read e end =
       let q = ends_at text read node rest end in call b read.1 (e ∙ (λ i. Ok (q.read_node i, read.1))) q.spaces q.ends
@@ -267,27 +275,32 @@ module _ (is_rooted : Bool) (text : List ℕ) (node : Node) (rest : List ℕ) (G
       let q = ends_at text read node rest end in file b name f read.1 (e ∙ (λ i. Ok (q.read_node i, read.1))) q.spaces q.ends
 
   call_or_name : (b : Bool) → begins_call text ≡ b
-      → cond b (file_or_call (after_literal (codes "File(") text) text >? ended_at text)
+      → cond b (file_or_call (after_literal (codes "File(") (past_spaces text)) text >? ended_at text)
       (ok_or (bare_read is_rooted text) (fault_at_byte 0 (cond (is_after_node text) expected.Node expected.FileName))) ≡ Ok (node, rest)
       → Goal
   call_or_name true b e =
-      let read = bind_ok (file_or_call (after_literal (codes "File(") text) text) (ended_at text) (node, rest) e in
-      either_call b (after_literal (codes "File(") text) refl read.0 read.1 read.2
+      let read = bind_ok (file_or_call (after_literal (codes "File(") (past_spaces text)) text) (ended_at text) (node, rest) e in
+      either_call b (after_literal (codes "File(") (past_spaces text)) refl read.0 read.1 read.2
   call_or_name false b e = bare (ok_some (bare_read is_rooted text) _ (node, rest) e)
 
   one_of_four : lenient_read is_rooted text ≡ Ok (node, rest) → Goal
   unfolding lenient_read
-  one_of_four e = elim (exact_way text (node_read text) (written_read is_rooted text) node rest e) [
-    | inl p ↦ strict p.0.1 (p.1 ∙ (λ i. Some (p.2.read_node i, p.0.1))) p.2.spaces p.2.ends
-    | inr p ↦ call_or_name (begins_call text) refl p
-  ]
+  one_of_four = by (is_escaped_name text)
+    where
+      by : (b : Bool) → cond b (Err (fault_at_byte 1 expected.FileName)) (exact_or text (node_read text) (written_read is_rooted text)) ≡ Ok (node, rest) → Goal
+      by true e = cc
+      by false e = elim (exact_way text (node_read text) (written_read is_rooted text) node rest e) [
+        | inl p ↦ strict p.0.1 (p.1 ∙ (λ i. Some (p.2.read_node i, p.0.1))) p.2.spaces p.2.ends
+        | inr p ↦ call_or_name (begins_call text) refl p
+      ]
 
-pub lenient_again : (is_rooted : Bool) (text : List ℕ) (node : Node) (rest : List ℕ) → node_read text ≡ Some (node, rest)
-    → is_after_node rest ≡ true → lenient_read is_rooted text ≡ Ok (node, rest)
+pub lenient_again : (is_rooted : Bool) (text : List ℕ) → is_escaped_name text ≡ false → (node : Node) (rest : List ℕ)
+    → node_read text ≡ Some (node, rest) → is_after_node rest ≡ true → lenient_read is_rooted text ≡ Ok (node, rest)
 unfolding lenient_read
-lenient_again is_rooted text node rest e after =
+lenient_again is_rooted text plain node rest e after =
     let same = past_spaces-after rest after in
-    ap (λ (o : Option (Node × List ℕ)). exact_or text o (written_read is_rooted text)) e
+    ap (λ (b : Bool). cond b (Err (fault_at_byte 1 expected.FileName)) (exact_or text (node_read text) (written_read is_rooted text))) plain
+    ∙ ap (λ (o : Option (Node × List ℕ)). exact_or text o (written_read is_rooted text)) e
     ∙ ap (λ (t : List ℕ). cond (is_after_node t) (Ok (node, t)) (or_fault (end_fault text rest) (written_read is_rooted text))) same
     ∙ ap (λ (b : Bool). cond b (Ok (node, rest)) (or_fault (end_fault text rest) (written_read is_rooted text))) after
 
@@ -367,7 +380,7 @@ cut_end (c ∷ cs) call e = by (position (λ (x : ℕ). x == 41) (c ∷ cs)) e
 -- what stands after the name of a file
 file_cut_end : (text : List ℕ) (call : List ℕ × List ℕ) → cut_file text ≡ Some call → IsRestOf text call.1
 file_cut_end [] call e = cut_end [] call e
-file_cut_end (c ∷ cs) call e = by (name_end (c ∷ cs)) e
+file_cut_end (c ∷ cs) call e = by (file_end (c ∷ cs)) e
   where
     parts : ℕ → List ℕ × List ℕ
     parts place = (take place (c ∷ cs), drop (place + 1) (c ∷ cs))
@@ -382,13 +395,14 @@ call_end : (text : List ℕ) (node : Node) (rest : List ℕ)
 call_end text node rest e = let call = called text node rest (cut_call text) e in
     subst (λ (x : List ℕ). IsRestOf text x) call.2.1 (cut_end text call.0 call.1)
 
-file_end : (text name : List ℕ) (node : Node) (rest : List ℕ) → after_literal (codes "File(") text ≡ Ok name
+filed_end : (text name : List ℕ) (node : Node) (rest : List ℕ) → after_literal (codes "File(") (past_spaces text) ≡ Ok name
     → file_in text name (cut_file name) ≡ Ok (node, rest) → IsRestOf text rest
-file_end text name node rest begun e =
+filed_end text name node rest begun e =
     let call = filed text name node rest (cut_file name) e in
-    let after = literal_end (codes "File(") false text name begun in
+    let after = literal_end (codes "File(") false (past_spaces text) name begun in
+    let whole = then_end text (past_spaces text) name (spaces_end text) after in
     subst (λ (x : List ℕ). IsRestOf text x) call.2.1
-    (then_rest text name call.0.1 after (file_cut_end name call.0 call.1))
+    (then_rest text name call.0.1 whole (file_cut_end name call.0 call.1))
 
 strict_end : (text : List ℕ) (node : Node) (rest : List ℕ) → node_read text ≡ Some (node, rest) → IsRestOf text rest
 strict_end text node rest e =
@@ -416,7 +430,7 @@ after_name (c ∷ cs) = by (ends_name c) refl (after_name cs)
         {y = suc (position_or_len ends_name cs)} (omega arith) ∙ h
 
 -- an empty name is none
-no_name : whole (name_read []) ≡ None
+no_name : typed_name (before_spaces []) ≡ None
 unfolding chars
 no_name = by (is_utf8 [])
   where
@@ -425,12 +439,12 @@ no_name = by (is_utf8 [])
     by true = refl
     by false = refl
 
-bare_rest : (text : List ℕ) (node : Node) → whole (name_read (rooted (past_spaces (name_bytes text)))) ≡ Some node
+bare_rest : (text : List ℕ) (node : Node) → typed_name (bare_name text) ≡ Some node
     → IsRestOf text (drop (position_or_len ends_name text) text)
 bare_rest [] node e = let none = no_name in cc
 bare_rest (c ∷ cs) node e = by (ends_name c) e
   where
-    by : (b : Bool) → whole (name_read (rooted (past_spaces (take (name_place cs b) (c ∷ cs))))) ≡ Some node
+    by : (b : Bool) → typed_name (before_spaces (past_spaces (take (name_place cs b) (c ∷ cs)))) ≡ Some node
         → IsRestOf (c ∷ cs) (drop (name_place cs b) (c ∷ cs))
     by true q = let none = no_name in cc
     by false q = dropped (1 + position_or_len ends_name cs) (position_or_len ends_name cs) c cs (omega arith)
@@ -452,17 +466,17 @@ call_starts text call = by (is_after_node text) refl
   where
     by : (b : Bool) → is_after_node text ≡ b → is_after_node text ≡ false
     by false first = first
-    by true first = absurd (true≢false (sym call ∙ ap (λ (x : List ℕ). list_any (λ c. c == 40) x) (no_bytes text first)))
+    by true first = absurd (true≢false (sym (and_parts _ _ call).0 ∙ ap (λ (x : List ℕ). list_any (λ c. c == 40) x) (no_bytes text first)))
 
-bare_starts : (text : List ℕ) (node : Node) → whole (name_read (rooted (past_spaces (name_bytes text)))) ≡ Some node
+bare_starts : (text : List ℕ) (node : Node) → typed_name (bare_name text) ≡ Some node
     → is_after_node text ≡ false
 bare_starts text node name = by (is_after_node text) refl
   where
     by : (b : Bool) → is_after_node text ≡ b → is_after_node text ≡ false
     by false first = first
     by true first =
-        let none : whole (name_read (rooted (past_spaces (name_bytes text)))) ≡ None =
-        ap (λ (x : List ℕ). whole (name_read (rooted (past_spaces x)))) (no_bytes text first) ∙ no_name in
+        let none : typed_name (bare_name text) ≡ None =
+        ap (λ (x : List ℕ). typed_name (before_spaces (past_spaces x))) (no_bytes text first) ∙ no_name in
         cc (name, none)
 
 -- what is known of a node that was read, and of what stands after it
@@ -493,8 +507,8 @@ pub lenient_well : (is_rooted : Bool) (text : List ℕ) (node : Node) (rest : Li
 lenient_well is_rooted text node rest e = one_of_four is_rooted text node rest (WellRead text node rest)
     (λ before. strict_well text node before rest)
     (λ b name begun before p spaces after. let call = filed text name node before (cut_file name) p in record {
-      told = name_told (rooted call.0.0) node call.2.0;
-      rest_of = spaced_rest text before rest (file_end text name node before begun p) spaces;
+      told = typed_told call.0.0 node call.2.0;
+      rest_of = spaced_rest text before rest (filed_end text name node before begun p) spaces;
       ends = after;
       starts = call_starts text b;
     })
@@ -505,7 +519,7 @@ lenient_well is_rooted text node rest e = one_of_four is_rooted text node rest (
       starts = call_starts text b;
     })
     (λ p. let name = (bare_named is_rooted text node rest p).0 in let end = bare_end is_rooted text node rest p in record {
-      told = name_told (rooted (past_spaces (name_bytes text))) node name;
+      told = typed_told (bare_name text) node name;
       rest_of = end.0;
       ends = end.1;
       starts = bare_starts text node name;

@@ -42,12 +42,5 @@ pub mod OtherForms
 pub mod LenientLaws
 pub mod StyledLaws
 pub mod Alike
-pub mod Readings
-pub mod HelpedTexts
 pub mod LenientNumbers
-pub mod HelpedFields
-pub mod HelpedPieces
-pub mod HelpedForms
-pub mod HelpedPaths
-pub mod Helps
 pub mod Utf16Texts

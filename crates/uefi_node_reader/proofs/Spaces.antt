@@ -1,10 +1,11 @@
--- Texts without the blanks and line ends at their start.
-use Rattle.std.proofs.Common.{◌≡◌, ℕ, zero, suc, Bool, true, false, cond, List, [], ◌∷◌, ◌++◌, refl, sym, ap, ◌∙◌, append_assoc, arith}
+-- Texts without the blanks and line ends at their start or their end.
+use Rattle.std.proofs.Common.{◌≡◌, ℕ, ◌+◌, ◌-◌, ◌<◌, ◌≤◌, Bool, true, false, cond, List, [], ◌∷◌, ◌++◌, length, take, get_or, inl, inr, refl, sym, ap, ◌∙◌, append_assoc, arith}
 use Rattle.std.specs.Char.{is_ascii_whitespace}
-use Rattle.std.specs.Str.{IsTrimAsciiStart}
+use Rattle.std.specs.List.{suffix_len}
+use Rattle.std.proofs.lemmas.Bool.{cases_lt}
 use Rattle.std.proofs.lemmas.Grind.{common_steps}
-use Rattle.std.proofs.lemmas.List.{drop_all}
-use Rattle.uefi_node_reader.specs.NamedFiles.{ends_name, is_after_node, past_spaces}
+use Rattle.std.proofs.lemmas.List.Sums.{suffix_len_is}
+use Rattle.uefi_node_reader.specs.NamedFiles.{before_spaces, ends_name, is_after_node, past_spaces}
 use Rattle.uefi_node_reader.specs.LenientNodes.{IsRestOf}
 
 -- the end of a text
@@ -36,11 +37,33 @@ pub past_spaces-after : (text : List ℕ) → is_after_node text ≡ true → pa
 past_spaces-after [] e = refl
 past_spaces-after (c ∷ cs) e = ap (λ (b : Bool). cond b (past_spaces cs) (c ∷ cs)) (spaces_at c e)
 
--- what is left once the blanks are trimmed
-pub past_spaces-trim : (s r : List ℕ) → IsTrimAsciiStart s r → past_spaces s ≡ r
-past_spaces-trim [] r t = sym (drop_all t.0 [] (omega arith)) ∙ sym t.1
-past_spaces-trim (c ∷ cs) r (zero, is, size, below, first) =
-    ap (λ (b : Bool). cond b (past_spaces cs) (c ∷ cs)) (first (omega arith)) ∙ sym is
-past_spaces-trim (c ∷ cs) r (suc n, is, size, below, first) =
-    ap (λ (b : Bool). cond b (past_spaces cs) (c ∷ cs)) (below 0 (omega arith))
-    ∙ past_spaces-trim cs r (n, is, omega (arith, size), λ i less. below (suc i) (omega (arith, less)), λ less. first (omega (arith, less)))
+-- the end of the last byte before `place` that is no blank, or 0
+pub record LastSeen (text : List ℕ) (place end : ℕ) : Type 0 where
+  pub within : end ≤ place
+  pub blank : (k : ℕ) → end ≤ k → k < place → is_ascii_whitespace (get_or text k 0) ≡ true
+  pub stops : 0 < end → is_ascii_whitespace (get_or text (end - 1) 0) ≡ false
+
+module _ (text : List ℕ) (place end : ℕ) (seen : LastSeen text place end) where
+  pub seen_blank : is_ascii_whitespace (get_or text place 0) ≡ true → LastSeen text (place + 1) end
+  seen_blank is = record {
+    within = omega (arith, seen.within);
+    blank = λ k from to. elim (cases_lt k place) [
+      | inl less ↦ seen.blank k from less
+      | inr more ↦ let same : place ≡ k = omega (arith, to, more) in ap (λ (n : ℕ). is_ascii_whitespace (get_or text n 0)) (sym same) ∙ is
+    ];
+    stops = seen.stops;
+  }
+
+  pub seen_other : is_ascii_whitespace (get_or text place 0) ≡ false → LastSeen text (place + 1) (place + 1)
+  seen_other other =
+      let before : place + 1 - 1 ≡ place = omega arith in record {
+        within = omega arith;
+        blank = λ k from to. absurd (omega (arith, from, to));
+        stops = λ some. ap (λ (n : ℕ). is_ascii_whitespace (get_or text n 0)) before ∙ other;
+      }
+
+pub seen_all : (text : List ℕ) (end : ℕ) → LastSeen text (length text) end → take end text ≡ before_spaces text
+seen_all text end seen =
+    let blanks = suffix_len_is is_ascii_whitespace text end 0 seen.within seen.blank seen.stops in
+    let left : end ≡ length text - suffix_len is_ascii_whitespace text = omega (arith, blanks, seen.within) in
+    ap (λ (n : ℕ). take n text) left

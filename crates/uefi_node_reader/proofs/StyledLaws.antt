@@ -1,17 +1,18 @@
 -- What is read in a style is told, and what stands after it is the rest of its text.
-use Rattle.std.proofs.Common.{ap, ◌∙◌, ◌≡◌, ◌-◌, ◌≤◌, ℕ, Bool, true, false, cond, ◌⊎◌, List, [], ◌∷◌, length, refl, subst, inl, inr, arith}
+use Rattle.std.proofs.Common.{ap, ◌∙◌, ◌≡◌, ◌-◌, ◌≤◌, ◌==◌, ◌&&◌, ◌++◌, not, ℕ, Bool, true, false, cond, ◌⊎◌, List, [], ◌∷◌, length, refl, subst, inl, inr, arith}
 use Rattle.uefi_node_reader.specs.FieldReading.{read_if}
 use Rattle.std.specs.Prelude.{Option, Some, None, Ok}
 use Rattle.std.specs.List.{list_all}
 use Rattle.std.specs.Option.{ok_or, option_map, option_or}
-use Rattle.std.proofs.lemmas.Bool.{and_parts}
+use Rattle.std.proofs.lemmas.Bool.{and_parts, not-true}
+use Rattle.std.proofs.lemmas.Grind.{common_steps}
 use Rattle.uefi_node_table.specs.Rows.{Form}
 use Rattle.uefi_device_nodes.specs.Nodes.{Node, node_with}
 use Rattle.uefi_node_reader.specs.LenientCalls.{cut_call, place_at, tidied, told_in}
 use Rattle.uefi_node_reader.specs.LenientNodes.{IsRestOf, begins_call, ended, fault_at_byte}
 use Rattle.uefi_node_reader.specs.Libefivar.{forms_exact, libefivar_read, own_call, own_fault, own_or_lenient, own_read, own_stop}
-use Rattle.uefi_node_reader.specs.NamedFiles.{IsTold, is_after_node, node_read, past_spaces}
-use Rattle.uefi_node_reader.specs.Styles.{PrintedExactly, StyledAgain, StyledEnds, StyledFaultWithin, StyledStarts, StyledTakes, styled_read}
+use Rattle.uefi_node_reader.specs.NamedFiles.{IsTold, ends_name, is_after_node, node_read, past_spaces}
+use Rattle.uefi_node_reader.specs.Styles.{PrintedExactly, StyledAgain, StyledEnds, StyledFaultWithin, StyledStarts, StyledTakes, styled_read, takes_printed}
 use Rattle.uefi_node_reader.specs.TableReading.{form_read, is_sound}
 use Rattle.uefi_node_reader.specs.declared.faults.Expected.TheVariants.{AsPrinted}
 use Rattle.uefi_node_reader.specs.declared.faults.NodeFault.{NodeFault}
@@ -75,6 +76,10 @@ libefivar_well is_rooted text node rest (Some read) f p q =
 libefivar_well is_rooted text node rest None (Some fault) p q = cc
 libefivar_well is_rooted text node rest None None p q = lenient_well is_rooted text node rest q
 
+-- no backslash ends a node
+no_backslash : (a : ℕ) → ends_name a ≡ true → (a == 92) ≡ false
+no_backslash a e = grind (arith, common_steps)
+
 -- a text in the style of printed ones
 printed_read : (text : List ℕ) (node : Node) (rest : List ℕ) → ok_or (ended (node_read text)) (fault_at_byte 0 AsPrinted) ≡ Ok (node, rest)
     → (node_read text ≡ Some (node, rest)) × (is_after_node rest ≡ true)
@@ -99,10 +104,29 @@ styled_starts style is_rooted text node rest e = (styled_well style is_rooted te
 
 pub styled_again : StyledAgain
 unfolding styled_read
-styled_again Printed takes is_rooted text node rest e after =
+styled_again Printed is_rooted text takes node rest e after =
     ap (λ (o : Option (Node × List ℕ)). ok_or o (fault_at_byte 0 AsPrinted)) (ap ended e ∙ ap (λ (b : Bool). read_if b node rest) after)
-styled_again Lenient takes is_rooted text node rest e after = lenient_again is_rooted text node rest e after
-styled_again Libefivar takes is_rooted text node rest e after = cc
+styled_again Lenient is_rooted text takes node rest e after = lenient_again is_rooted text (not-true _ takes) node rest e after
+styled_again Libefivar is_rooted text takes node rest e after = cc
+
+-- the printed text of a node is read before whatever may follow a node, if it is read alone
+pub takes_more : (style : TextStyle) (own after : List ℕ) → takes_printed style own ≡ true → is_after_node after ≡ true
+    → takes_printed style (own ++ after) ≡ true
+takes_more Printed own after takes ends = refl
+takes_more Libefivar own after takes ends = cc
+takes_more Lenient [] [] takes ends = refl
+takes_more Lenient [] (a ∷ []) takes ends = refl
+takes_more Lenient [] (a ∷ b ∷ others) takes ends = by (a == 92) (b == 92) (no_backslash a ends)
+  where
+    by : (s t : Bool) → s ≡ false → not (s && t) ≡ true
+    by s t p = ap (λ (x : Bool). not (x && t)) p
+takes_more Lenient (c ∷ []) [] takes ends = refl
+takes_more Lenient (c ∷ []) (a ∷ others) takes ends = by (c == 92) (a == 92) (no_backslash a ends)
+  where
+    by : (s t : Bool) → t ≡ false → not (s && t) ≡ true
+    by true t p = ap not p
+    by false t p = refl
+takes_more Lenient (c ∷ d ∷ cs) after takes ends = takes
 
 pub printed_exactly : PrintedExactly
 unfolding styled_read

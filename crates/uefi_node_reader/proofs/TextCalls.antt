@@ -23,7 +23,7 @@ use Rattle.uefi_node_reader.specs.ParsedNodes.{fitting}
 use Rattle.uefi_node_reader.specs.Notations.{head_in, lenient, pieces_in}
 use Rattle.uefi_node_reader.specs.Stops.{◌>?◌, past, stop_at}
 use Rattle.uefi_node_reader.specs.TableReading.{IsTailTold, as_ids, blank, first_of, is_empty, is_read, is_sound, tail_read}
-use Rattle.uefi_node_reader.specs.TextCalls.{call_left, holds_ids, holds_text, left_of, or_commas, stop_before, text_call_told, text_stop, text_told, text_tried, texts_tried, uid_call_told, uid_told, uid_tried}
+use Rattle.uefi_node_reader.specs.TextCalls.{call_left, holds_ids, holds_text, left_of, or_commas, stop_before, text_call_told, text_left, text_stop, text_told, text_tried, texts_tried, uid_call_told, uid_told, uid_tried}
 use Rattle.uefi_node_reader.specs.declared.faults.Expected.TheVariants as expected
 use Rattle.uefi_node_reader.specs.declared.faults.Stop.{Stop}
 use Rattle.uefi_node_reader.proofs.ClearTexts.{clear_bytes, clear_takes}
@@ -137,7 +137,7 @@ module _ (form : Form) (mode : is_read form.mode ≡ true) (is_sound_form : is_s
   text_call_is_told front call node e =
       let head = bind_ok (head_in lenient form call) _ node e in
       let set = head_bytes call head.0 head.1 in
-      text_is_told head.0.0 (or_commas form.tail (left_of front call head.0.1)) call node set.0 set.1 head.2
+      text_is_told head.0.0 (or_commas form.tail (text_left form front call head.0.1)) call node set.0 set.1 head.2
 
   uid_is_told : form.tail ≡ Ids → (fixed text : List ℕ) (node : Node) → length fixed ≡ length (blank form) → All IsByte fixed
       → uid_told form fixed text ≡ Ok node → IsTold node

@@ -4,7 +4,7 @@ use Rattle.std.specs.Result.{result_ok}
 use Rattle.uefi_node_reader.specs.LenientFields.{after_literal, any_number, begins_base}
 use Rattle.uefi_node_reader.specs.LenientCalls.{cut_call, tidied}
 use Rattle.uefi_node_reader.specs.LenientNodes.{begins_call, ended_spaced, lenient_read}
-use Rattle.uefi_node_reader.specs.NamedFiles.{node_read}
+use Rattle.uefi_node_reader.specs.NamedFiles.{node_read, past_spaces}
 use Rattle.uefi_node_reader.specs.Numerals.{has_digit}
 use Rattle.uefi_node_reader.specs.TextCalls.{texts_tried}
 
@@ -13,7 +13,7 @@ use Rattle.uefi_node_reader.specs.TextCalls.{texts_tried}
 pub record IsOtherCall (text front rest : List ℕ) : Type 0 where
   pub begins : begins_call text ≡ true
   pub cut : cut_call text ≡ Some (front, rest)
-  pub no_file : result_ok (after_literal (codes "File(") text) ≡ None
+  pub no_file : result_ok (after_literal (codes "File(") (past_spaces text)) ≡ None
   pub textless : texts_tried front (tidied front) ≡ Err None
   pub inexact : ended_spaced (node_read text) ≡ None
 

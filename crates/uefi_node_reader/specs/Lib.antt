@@ -21,7 +21,6 @@ pub mod FileNodes
 pub mod Mistakes
 pub mod LenientNodes
 pub mod Alike
-pub mod Helps
 pub mod Libefivar
 pub mod Styles
 pub mod Counted

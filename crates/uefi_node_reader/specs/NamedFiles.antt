@@ -1,8 +1,8 @@
 -- Nodes of files, whose texts are their names, and all nodes that are read.
-use Rattle.std.specs.Prelude.{◌≡◌, ℕ, Bool, true, false, nat_le, not, ◌==◌, ◌&&◌, ◌||◌, ◌⊎◌, if◌then◌else◌, List, [], ◌∷◌, length, take, drop, Option}
+use Rattle.std.specs.Prelude.{◌≡◌, ℕ, ◌-◌, Bool, true, false, nat_le, not, ◌==◌, ◌&&◌, ◌||◌, ◌⊎◌, if◌then◌else◌, List, [], ◌∷◌, length, take, drop, Option}
 use Rattle.std.specs.Char.{is_ascii_whitespace}
 use Rattle.std.specs.Char.Escape.{encode_utf16}
-use Rattle.std.specs.List.{flat_map, list_all, position_or_len}
+use Rattle.std.specs.List.{flat_map, list_all, position_or_len, suffix_len}
 use Rattle.std.specs.Str.{all_scalars, chars, is_utf8}
 use Rattle.uefi_text.specs.UnitBytes.{unit_bytes}
 use Rattle.uefi_text.specs.Units.{nul_terminated}
@@ -67,3 +67,7 @@ is_after_node (byte ∷ bytes) = ends_name byte
 abbrev pub past_spaces : List ℕ → List ℕ
 past_spaces [] = []
 past_spaces (byte ∷ bytes) = if is_ascii_whitespace byte then past_spaces bytes else byte ∷ bytes
+
+-- a text without the blanks and line ends at its end
+abbrev pub before_spaces : List ℕ → List ℕ
+before_spaces text = take (length text - suffix_len is_ascii_whitespace text) text

@@ -77,10 +77,14 @@ abbrev pub last_read : List ℕ → Option (List ℕ)
 last_read text = if closes_call text then Some (last_part None)
     else (after (codes ",") text >>= last_fields >>= λ gateway. Some (last_part (Some gateway)))
 
--- the local address and the end of the data, from the end of a call after the origin, or zeros if all are
--- omitted
+-- the local address and the end of the data of a connection whose text omits them, as the network drivers of
+-- EDK II write them: no address, a prefix length of 64, and no gateway
+abbrev pub omitted_local : List ℕ × List ℕ
+omitted_local = (no_address, 64 ∷ no_address)
+
+-- the local address and the end of the data, from the end of a call after the origin
 abbrev pub local_read : List ℕ → Option (List ℕ × List ℕ)
-local_read text = if closes_call text then Some (no_address, 0 ∷ no_address)
+local_read text = if closes_call text then Some omitted_local
     else (after (codes ",") text >>= address_read >>= λ local.
     last_read local.1 >>= λ last. Some (local.0, last))
 
@@ -90,16 +94,16 @@ abbrev pub connection : List ℕ → ℕ → ℕ → List ℕ × List ℕ → Li
 connection remote protocol origin local = local.0 ++ (remote ++ (0 ∷ 0 ∷ 0 ∷ 0 ∷
     (low_bytes 2 protocol ++ (origin ∷ local.1))))
 
--- the data of a connection, from the end of its call after the protocol; if that is all, EDK II reads a
--- stateful configuration
+-- the data of a connection, from the end of its call after the protocol; the drivers of EDK II write the
+-- origin 0
 abbrev pub origin_on : List ℕ → ℕ → List ℕ → Option (List ℕ)
 origin_on remote protocol text =
-    if closes_call text then Some (connection remote protocol 2 (no_address, 0 ∷ no_address))
+    if closes_call text then Some (connection remote protocol 0 omitted_local)
     else (after (codes ",") text >>= origin_read >>= λ origin.
     local_read origin.1 >>= λ local. Some (connection remote protocol origin.0 local))
 
--- the data of a connection, from the end of its call after the remote address; if that is all, EDK II reads
--- protocol 0
+-- the data of a connection, from the end of its call after the remote address; the drivers of EDK II write
+-- the protocol 0
 abbrev pub settings_read : List ℕ → List ℕ → Option (List ℕ)
 settings_read remote text = if closes_call text then origin_on remote 0 text
     else (after (codes ",") text >>= protocol_read >>= λ protocol. origin_on remote protocol.0 protocol.1)

@@ -1,8 +1,8 @@
 -- Nodes read from their texts in each style.
-use Rattle.std.specs.Prelude.{◌≡◌, ◌≤◌, ℕ, Bool, List, length, IfErr, Result, Ok, Some, true, false}
+use Rattle.std.specs.Prelude.{◌≡◌, ◌≤◌, ℕ, Bool, List, length, IfErr, Result, Ok, Some, not, true, false}
 use Rattle.std.specs.Option.{ok_or}
 use Rattle.uefi_device_nodes.specs.Nodes.{Node}
-use Rattle.uefi_node_reader.specs.LenientNodes.{IsRestOf, ended, fault_at_byte, lenient_read}
+use Rattle.uefi_node_reader.specs.LenientNodes.{IsRestOf, ended, fault_at_byte, is_escaped_name, lenient_read}
 use Rattle.uefi_node_reader.specs.Libefivar.{libefivar_read}
 use Rattle.uefi_node_reader.specs.NamedFiles.{IsTold, is_after_node, node_read}
 use Rattle.uefi_node_reader.specs.declared.faults.Expected.TheVariants as expected
@@ -17,11 +17,12 @@ styled_read Printed is_rooted text = ok_or (ended (node_read text)) (fault_at_by
 styled_read Lenient is_rooted text = lenient_read is_rooted text
 styled_read Libefivar is_rooted text = libefivar_read is_rooted text
 
--- whether a style reads printed texts as the nodes that they are printed for
-abbrev pub takes_printed : TextStyle → Bool
-takes_printed Printed = true
-takes_printed Lenient = true
-takes_printed Libefivar = false
+-- whether a style reads this printed text of a node as that node; people write no name that begins with two
+-- backslashes
+abbrev pub takes_printed : TextStyle → List ℕ → Bool
+takes_printed Printed text = true
+takes_printed Lenient text = not (is_escaped_name text)
+takes_printed Libefivar text = false
 
 -- a node that is read is told
 abbrev pub StyledTakes : Type 0
@@ -40,9 +41,8 @@ StyledStarts = (style : TextStyle) (is_rooted : Bool) (text : List ℕ) (node : 
 
 -- a node that is read exactly where a node may end is the same node in each style that reads printed texts
 abbrev pub StyledAgain : Type 0
-StyledAgain = (style : TextStyle) → takes_printed style ≡ true
-    → (is_rooted : Bool) (text : List ℕ) (node : Node)
-    (rest : List ℕ) → node_read text ≡ Some (node, rest) → is_after_node rest ≡ true
+StyledAgain = (style : TextStyle) (is_rooted : Bool) (text : List ℕ) → takes_printed style text ≡ true
+    → (node : Node) (rest : List ℕ) → node_read text ≡ Some (node, rest) → is_after_node rest ≡ true
     → styled_read style is_rooted text ≡ Ok (node, rest)
 
 -- a node that is read in the style of printed texts is read exactly

@@ -13,6 +13,7 @@ use Rattle.uefi_node_reader.specs.FieldReading.{clear_run}
 use Rattle.uefi_node_reader.specs.LenientCalls.{begins_call_name, first_tried, is_textless, or_next, place_at, tidied, told_in}
 use Rattle.uefi_node_reader.specs.LenientFields.{after_ending}
 use Rattle.uefi_node_reader.specs.OtherForms.{pasted_forms}
+use Rattle.uefi_node_reader.specs.Mistakes.{past_mark}
 use Rattle.uefi_node_reader.specs.Notations.{head_in, lenient, pieces_in}
 use Rattle.uefi_node_reader.specs.Stops.{◌>?◌, stop_at}
 use Rattle.uefi_node_reader.specs.TableReading.{as_ids, first_of, is_empty, tail_read}
@@ -33,6 +34,12 @@ holds_ids mode tail = false
 -- the rest of a call, from this rest of the tidied call
 abbrev pub left_of : List ℕ → List ℕ → List ℕ → List ℕ
 left_of front call left = drop (place_at (length call - length left) front) front
+
+-- the text in a call, from this rest of the tidied call; where a quotation mark ends the text, one begins
+-- it, and the blanks after that one belong to the text
+abbrev pub text_left : Form → List ℕ → List ℕ → List ℕ → List ℕ
+text_left form front call left =
+    if first_of form.close == 34 then past_mark 34 front else left_of front call left
 
 -- the end of a tidied call, from this rest of the call
 abbrev pub call_left : List ℕ → List ℕ → List ℕ
@@ -83,7 +90,7 @@ uid_told form fixed text = if is_empty (clear_run (first_of form.close) text).1
 -- where the call stops
 abbrev pub text_call_told : Form → List ℕ → List ℕ → Result Node Stop
 text_call_told form front call = head_in lenient form call
-    >? λ head. text_told form head.0 (or_commas form.tail (left_of front call head.1)) call
+    >? λ head. text_told form head.0 (or_commas form.tail (text_left form front call head.1)) call
 
 -- the node of a form whose call contains only the ID string of _UID, or where the call stops
 abbrev pub uid_call_told : Form → List ℕ → List ℕ → Result Node Stop

@@ -52,7 +52,7 @@ fn left_after<T: Text>(mark: &[u8], text: T) -> Option<usize>
 }
 
 /// Returns whether a text begins with another.
-pub(crate) fn begins_with<T: Text>(start: &[u8], text: T) -> bool
+pub fn begins_with<T: Text>(start: &[u8], text: T) -> bool
     ensures { result ≡ begins_with start.now (T.bytes text) }
 {
     after(start, text).is_some()

@@ -4,7 +4,7 @@
 ghost use Rattle.std.specs.Prelude.{◌≡◌};
 ghost use Rattle.std.specs.Result.{result_map_both};
 ghost use Rattle.uefi_node_reader.specs.LenientCalls.{call_told, cut_call};
-ghost use Rattle.uefi_node_reader.specs.LenientNodes.{call_in, call_read, open_fault, or_short, stop_fault};
+ghost use Rattle.uefi_node_reader.specs.LenientNodes.{call_in, call_read, is_base, unnamed_fault, open_fault, or_short, stop_fault};
 ghost use Rattle.uefi_node_reader.specs.ReadNodes.{node_from_text};
 ghost use Rattle.uefi_node_reader.specs.ShortAddresses.{short_ipv6};
 
@@ -12,7 +12,7 @@ use crate::faults::{Expected, NodeFault, Stop};
 use crate::lenient_table::try_call;
 use crate::mistakes::mistake;
 use crate::named_files::NameText;
-use crate::near_names::name_expected;
+use crate::near_names::{is_named, name_expected};
 use crate::read_node::ReadNode;
 use crate::short_addresses::short_ipv6;
 use crate::text_calls::try_texts;
@@ -47,22 +47,39 @@ fn read_call<T: NameText>(front: T, call: Tidied<T>) -> Result<ReadNode<T>, Opti
     }
 }
 
+/// Returns the fault of a text whose tidied call has no known name.
+fn unnamed_fault<T: NameText>(text: T, call: Tidied<T>) -> NodeFault
+    ensures { result ≡ unnamed_fault (T.bytes text) (⟦<Tidied<T> as Text>⟧.bytes call) }
+{
+    NodeFault {
+        byte: place_at(0, text),
+        expected: name_expected(call),
+    }
+}
+
+/// Returns whether a number after `0x` is expected.
+fn is_base(expected: Expected) -> bool
+    ensures { result ≡ is_base expected }
+{
+    matches!(expected, Expected::Base)
+}
+
 /// Returns the fault of a text, from its tidied call and where that stops.
 fn stop_fault<T: NameText>(text: T, call: Tidied<T>, stop: Option<Stop>) -> NodeFault
     ensures { result ≡ stop_fault (T.bytes text) (⟦<Tidied<T> as Text>⟧.bytes call) stop }
 {
     match stop {
         Some(stop) => {
+            if is_base(stop.expected) && !is_named(call) {
+                return unnamed_fault(text, call);
+            }
             let stop = mistake(call, stop);
             NodeFault {
                 byte: place_at(call.len().saturating_sub(stop.left), text),
                 expected: stop.expected,
             }
         }
-        None => NodeFault {
-            byte: 0,
-            expected: name_expected(call),
-        },
+        None => unnamed_fault(text, call),
     }
 }
 

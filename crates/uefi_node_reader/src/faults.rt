@@ -2,15 +2,16 @@
 #![tactic(auto, using(uefi_text::proofs::Puts::puts))]
 
 ghost use Rattle.uefi_node_reader.specs.FaultTexts.{choice_text, expected_text};
-ghost use Rattle.std.specs.Prelude.{Some};
+ghost use Rattle.std.specs.Fmt.{WritesInCalls};
+ghost use Rattle.std.specs.Prelude.{Some, ◌++◌, codes};
 
-use crate::form_places::start_at;
+use crate::form_places::{other_name, start_at};
 use std::fmt;
 use uefi_field_texts::hexadecimal::put_hex;
 use uefi_text::number_texts::put_decimal;
 use uefi_text::text_sink::{Printed, TextSink, print};
 
-/// The words that a field accepts.
+/// What a field accepts: words, or a text of a certain form.
 #[derive(Clone, Copy, Debug, PartialEq, Eq)]
 pub enum Choice {
     /// The channel of an ATA device.
@@ -41,6 +42,14 @@ pub enum Choice {
     Login,
     /// The protocol of an iSCSI connection.
     IscsiProtocol,
+    /// The ID of an ACPI device.
+    AcpiId,
+    /// The address of a network interface.
+    MacAddress,
+    /// An IP address.
+    IpAddress,
+    /// A GUID.
+    Guid,
 }
 
 /// Puts the words.
@@ -51,7 +60,7 @@ impl Printed for Choice {
         match self {
             Self::AtaChannel => sink.put_str("`Primary` or `Secondary`"),
             Self::AtaDrive => sink.put_str("`Master` or `Slave`"),
-            Self::PartitionFormat => sink.put_str("`GPT`, `MBR` or a number"),
+            Self::PartitionFormat => sink.put_str("`GPT` or `MBR`"),
             Self::SasProtocol => sink.put_str("`SAS`, `SATA`, `NoTopology` or a number"),
             Self::SasLocation => sink.put_str("`Internal` or `External`"),
             Self::SasConnection => sink.put_str("`Direct` or `Expanded`"),
@@ -67,6 +76,12 @@ impl Printed for Choice {
             Self::Digest => sink.put_str("`None` or `CRC32C`"),
             Self::Login => sink.put_str("`None`, `CHAP_BI` or `CHAP_UNI`"),
             Self::IscsiProtocol => sink.put_str("`TCP`"),
+            Self::AcpiId => sink.put_str("an ID such as `PNP0A03`, or `0x` and 8 digits"),
+            Self::MacAddress => sink.put_str(
+                "an address of 12 hexadecimal digits, such as `525400ABCDEF`",
+            ),
+            Self::IpAddress => sink.put_str("an IP address"),
+            Self::Guid => sink.put_str("a GUID"),
         }
     }
 }
@@ -79,6 +94,8 @@ pub enum Expected {
     /// The name of a node, such as the name of the form at this index of the table, which differs in one
     /// letter.
     NodeLike(usize),
+    /// The name of a node, such as the name at this index of those that no form of the table has.
+    OtherName(usize),
     /// A number up to this one, in decimal, or in hexadecimal after `0x`.
     Number(u64),
     /// A number up to this one, or the word `DEFAULT`.
@@ -97,7 +114,7 @@ pub enum Expected {
     Byte(u8),
     /// The name of a file.
     FileName,
-    /// One of these words.
+    /// One of these words, or a text of this form.
     Word(Choice),
     /// An EISA ID, or 0.
     Id,
@@ -108,8 +125,19 @@ pub enum Expected {
     /// A number after `0x`. Without `0x`, the call is ambiguous: programs print the number in different
     /// bases, or omit it for different nodes.
     Base,
-    /// A shorter node, or a node that its text describes completely. The text before this byte was read.
+    /// A form that describes the whole node, which has at most 65,535 bytes. The text before this byte was
+    /// read.
     Untold,
+}
+
+/// Puts the name of a node as an example.
+fn put_name<S: TextSink>(sink: &mut S, name: &str)
+    ensures { WritesInCalls S.puts sink.old
+        (codes "the name of a node, such as `" ++ (name.now ++ codes "`")) sink.new }
+{
+    sink.put_str("the name of a node, such as `");
+    sink.put_str(name);
+    sink.put_str("`");
 }
 
 /// Puts what is expected, in words.
@@ -119,11 +147,8 @@ impl Printed for Expected {
     fn put<S: TextSink>(&self, sink: &mut S) {
         match self {
             Self::Node => sink.put_str("the name of a node"),
-            Self::NodeLike(place) => {
-                sink.put_str("the name of a node, such as `");
-                sink.put_str(start_at(*place).unwrap_or(""));
-                sink.put_str("`");
-            }
+            Self::NodeLike(place) => put_name(sink, start_at(*place).unwrap_or("")),
+            Self::OtherName(place) => put_name(sink, other_name(*place).unwrap_or("")),
             Self::Number(most) => put_hex(sink, "a number up to 0x", *most),
             Self::NumberOrDefault(most) => {
                 put_hex(sink, "DEFAULT or a number up to 0x", *most);
@@ -150,7 +175,9 @@ impl Printed for Expected {
             Self::End => sink.put_str("`/`, `,` or the end of the text"),
             Self::AsPrinted => sink.put_str("the exact printed form"),
             Self::Base => sink.put_str("a number after `0x`"),
-            Self::Untold => sink.put_str("a shorter node, or one whose text tells all of it"),
+            Self::Untold => sink.put_str(
+                "a form that describes the whole node, of at most 65,535 bytes",
+            ),
         }
     }
 }

@@ -1,11 +1,11 @@
-//! The index of a form in the table.
+//! The index of a form in the table, and the names of calls by their index.
 #![tactic(auto)]
 
 ghost use Rattle.std.specs.Option.{option_map};
-ghost use Rattle.std.specs.Prelude.{◌≡◌, Bool, IsTrue, length, map, true};
+ghost use Rattle.std.specs.Prelude.{◌≡◌, Bool, IsTrue, length, map, slice_get, true};
 ghost use Rattle.uefi_node_table.specs.Rows.{Form, as_form, have_one_kind};
 ghost use Rattle.uefi_node_table.specs.Table.{forms};
-ghost use Rattle.uefi_node_reader.specs.NearNames.{start_at};
+ghost use Rattle.uefi_node_reader.specs.NearNames.{other_names, start_at};
 ghost use Rattle.uefi_node_reader.specs.TableReading.{form_place};
 
 use uefi_node_table::rows::Row;
@@ -71,4 +71,38 @@ pub(crate) fn start_at(place: usize) -> Option<&'static str>
         left -= rows.len();
     }
     None
+}
+
+/// Returns the names of calls that no form of the table has.
+pub(crate) fn other_names() -> &'static [&'static str]
+    ensures { map (λ name. name.now) result.now ≡ other_names }
+{
+    &[
+        "File(",
+        "FvVol(",
+        "AcpiExp(",
+        "UartFlowControl(",
+        "VenPcAnsi(",
+        "VenVt100(",
+        "VenVt100Plus(",
+        "VenUtf8(",
+        "DebugPort(",
+        "Path(",
+        "HardwarePath(",
+        "AcpiPath(",
+        "Msg(",
+        "MediaPath(",
+        "BbsPath(",
+    ]
+}
+
+/// Returns the name at an index of [`other_names`].
+pub(crate) fn other_name(place: usize) -> Option<&'static str>
+    ensures { option_map (λ name. name.now) result ≡ slice_get other_names place }
+{
+    let names = other_names();
+    if names.len() <= place {
+        return None;
+    }
+    Some(names[place])
 }

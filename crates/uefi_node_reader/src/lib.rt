@@ -6,7 +6,8 @@
 #![tactic(auto)]
 
 mod address_texts;
-mod ambiguous;
+#[doc(hidden)]
+pub mod ambiguous;
 mod attempts;
 mod calls;
 mod clear_texts;
@@ -22,7 +23,8 @@ mod first_letters;
 mod form_heads;
 mod form_places;
 mod lenient_fields;
-mod lenient_names;
+#[doc(hidden)]
+pub mod lenient_names;
 mod lenient_table;
 mod libefivar;
 mod mistakes;

@@ -7,7 +7,7 @@ ghost use Rattle.std.specs.List.{flat_map, list_all, position_or_len};
 ghost use Rattle.std.specs.Str.{IsAscii, chars, is_utf8};
 ghost use Rattle.uefi_text.specs.UnitBytes.{unit_bytes};
 ghost use Rattle.uefi_node_reader.specs.Counted.{pushed_bytes};
-ghost use Rattle.uefi_node_reader.specs.NamedFiles.{ends_name, is_after_node, is_name_char, name_bytes, past_spaces};
+ghost use Rattle.uefi_node_reader.specs.NamedFiles.{before_spaces, ends_name, is_after_node, is_name_char, name_bytes, past_spaces};
 
 use crate::name_data::push_text;
 use crate::texts::Text;
@@ -67,6 +67,23 @@ pub fn past_spaces<T: Text>(text: T) -> T
         rest = after;
     }
     rest
+}
+
+/// Returns a text without the blanks and line ends at its end.
+pub fn before_spaces<T: Text>(text: T) -> T
+    ensures { T.bytes result ≡ before_spaces (T.bytes text) }
+{
+    let mut end = 0;
+    let mut rest = text;
+    for place in 0..text.len() {
+        if let Some((byte, after)) = rest.split_first() {
+            if !byte.is_ascii_whitespace() {
+                end = place + 1;
+            }
+            rest = after;
+        }
+    }
+    text.split_at(end).0
 }
 
 /// The number of bytes that are tested together. Without an early exit among them, the test becomes

@@ -7,11 +7,10 @@ ghost use Rattle.std.specs.Result.{result_map_both};
 ghost use Rattle.uefi_node_table.specs.Table.{forms};
 ghost use Rattle.uefi_node_reader.specs.Alike.{CallsAlike, ZerosAlike, ZerosAlikeAfterBase};
 ghost use Rattle.uefi_node_reader.specs.FieldReading.{either_read};
-ghost use Rattle.uefi_node_reader.specs.Helps.{ExpectedHelps};
 ghost use Rattle.uefi_node_reader.specs.Laws.{NodeAgain, NodeFits, NodeStarts, NodeTakes, NodeTextOnce};
 ghost use Rattle.uefi_node_reader.specs.LenientFields.{after_literal};
 ghost use Rattle.uefi_node_reader.specs.LenientNodes.{end_fault, ended, ended_at, file_or_call, lenient_read, written_read};
-ghost use Rattle.uefi_node_reader.specs.NamedFiles.{is_after_node, node_read};
+ghost use Rattle.uefi_node_reader.specs.NamedFiles.{is_after_node, node_read, past_spaces};
 ghost use Rattle.uefi_node_reader.specs.ParsedNodeViews.{parsed_node};
 ghost use Rattle.uefi_node_reader.specs.PlainNodes.{plain_read};
 ghost use Rattle.uefi_node_reader.specs.ReadNodes.{node_from_text};
@@ -22,7 +21,7 @@ use crate::clear_texts::first_of;
 use crate::faults::{Expected, NodeFault};
 use crate::file_node::name;
 use crate::lenient_fields::after_literal;
-use crate::lenient_names::{bare, begins_call, file};
+use crate::lenient_names::{bare, begins_call, file, is_escaped_name};
 use crate::named_files::{NameText, is_after_node, past_spaces};
 use crate::parsed_node::ParsedNode;
 use crate::plain_nodes::plain;
@@ -98,9 +97,9 @@ pub(crate) fn ended_at<T: NameText>(
 /// Reads the node at the start of a text that begins with a call.
 fn called<T: NameText>(text: T) -> Result<(ReadNode<T>, T), NodeFault>
     ensures { result_map_both (λ x. (node_from_text x.0, T.bytes x.1)) (λ e. e) result
-        ≡ file_or_call (after_literal (codes "File(") (T.bytes text)) (T.bytes text) }
+        ≡ file_or_call (after_literal (codes "File(") (past_spaces (T.bytes text))) (T.bytes text) }
 {
-    match after_literal(b"File(", text) {
+    match after_literal(b"File(", past_spaces(text)) {
         Ok(name) => {
             let (node, rest) = file(text, name)?;
             Ok((ReadNode::File(node), rest))
@@ -133,8 +132,9 @@ fn written<T: NameText>(is_rooted: bool, text: T) -> Result<(ReadNode<T>, T), No
 /// Reads the node at the start of a text, as people write it, and returns the rest of the text too. The rest
 /// is empty, or begins with a slash or a comma. Does not allocate.
 ///
-/// A node that [`read_node`] reads there is read as the same node. Otherwise a call is read up to its first
-/// `)`, in either case and without its blanks:
+/// A node that [`read_node`] reads there is read as the same node, except for a name that begins with two
+/// backslashes: a program that escapes backslashes, as in JSON, wrote it. Otherwise a call is read up to
+/// its first `)`, in either case and without its blanks:
 ///
 /// - A number is hexadecimal after `0x`, and otherwise decimal. It may have leading zeros.
 /// - Numbers at the end may be omitted. They are then 0, or the default of their kind (UEFI Specification
@@ -144,8 +144,12 @@ fn written<T: NameText>(is_rooted: bool, text: T) -> Result<(ReadNode<T>, T), No
 /// - The numbers of `AcpiAdr` after the first are as they are printed, except for their case.
 /// - An IPv6 address in a call of `IPv6` may have any form of RFC 4291.
 ///
-/// The name of a file may be in `File(..)`. It may also omit its first backslash, unless `is_rooted`, if it
-/// contains another backslash, and no parenthesis, `:` or quotation mark.
+/// The name of a file may be in `File(..)`, up to the first `)` after which a node may end, or else up to the
+/// `)` that closes the call. It may also omit its first
+/// backslash, unless `is_rooted`, if it contains another backslash, with no blank before that one and nothing
+/// else that a short name on a FAT volume excludes, and if it contains no parenthesis, `:` or quotation mark.
+/// Blanks and line ends around a node are skipped. A blank after a name that is otherwise as it is printed
+/// belongs to the name.
 ///
 /// An error gives the offset of the wrong byte, and what is expected there. If several forms have the name of
 /// the call, the first of those that were read furthest decides. The wrong byte is the first byte that
@@ -160,6 +164,12 @@ pub fn read_lenient_node<T: NameText>(
     ensures { result_map_both (λ x. (node_from_text x.0, T.bytes x.1)) (λ e. e) result
         ≡ lenient_read is_rooted (T.bytes text) }
 {
+    if is_escaped_name(text) {
+        return Err(NodeFault {
+            byte: 1,
+            expected: Expected::FileName,
+        });
+    }
     let Some((node, rest)) = read_node(text) else {
         return written(is_rooted, text);
     };
@@ -193,12 +203,4 @@ pub fn texts_alike()
     ensures calls { CallsAlike }
     ensures zeros { ZerosAlike }
     ensures zeros_after_base { ZerosAlikeAfterBase }
-{}
-
-/// If a call is refused, and what is expected replaces the text from the wrong byte on, the call is read, or
-/// is wrong only after that replacement. The replacement is a byte, a number, digits, a parity or stop bits.
-/// Two cases are excluded: the wrong byte is a `)`, because numbers before it may be omitted; or the new call
-/// lacks a `0x`.
-pub fn expected_helps()
-    ensures { ExpectedHelps }
 {}

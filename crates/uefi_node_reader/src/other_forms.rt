@@ -100,9 +100,9 @@ const PASTED: &[WrittenRow] = &[
     form!(3 12 23 [12 = 0x11 14 = 0x01] "IPv4(" [Decimal 4 1 "."] [Decimal 5 1 "."] [Decimal 6 1 "."]
         [Decimal 7 1 ",UDP,Static)"]),
     form!(3 12 23 [] "IPv4(0.0.0.00.0.0.0,0,0)"),
-    form!(3 13 56 [] "IPv6([::]:<->[::]:,0,0)"),
+    form!(3 13 56 [39 = 0x40] "IPv6([::]:<->[::]:,0,0)"),
     form!(3 21 20 [] "FibreEx(0x" [Forth 4 8 ",0x0)"]),
-    form!(3 13 56 [38 = 0x02] "IPv6(" [Forth 16 2 ":"] [Forth 18 2 ":"] [Forth 20 2 ":"]
+    form!(3 13 56 [39 = 0x40] "IPv6(" [Forth 16 2 ":"] [Forth 18 2 ":"] [Forth 20 2 ":"]
         [Forth 22 2 ":"] [Forth 24 2 ":"] [Forth 26 2 ":"] [Forth 28 2 ":"] [Forth 30 2 ")"]),
     form!(3 23 12 [] "NVMe(0x" [Hexadecimal 0 4 ")"]),
     form!(3 27 6 [] "Bluetooth(" [Forth 0 1 ":"] [Forth 1 1 ":"] [Forth 2 1 ":"] [Forth 3 1 ":"]

@@ -22,8 +22,8 @@ use uefi_node_table::rows::Tail;
 /// The address `::`.
 const NO_ADDRESS: Address = Address { octets: [0; 16] };
 
-/// The prefix length 0 and the gateway `::`.
-const NO_GATEWAY: Option<(u8, Address)> = Some((0, NO_ADDRESS));
+/// The prefix length and the gateway of a connection that a driver of EDK II makes: 64 and `::`.
+const NO_GATEWAY: Option<(u8, Address)> = Some((64, NO_ADDRESS));
 
 /// Returns whether a byte ends an address.
 fn ends_address(byte: u8) -> bool
@@ -141,8 +141,8 @@ fn last<T: Text>(text: T) -> Option<Option<(u8, Address)>>
     Some(Some(gateway))
 }
 
-/// Reads the local address, the prefix length and the gateway at the end of a call, or zeros if all are
-/// omitted.
+/// Reads the local address, the prefix length and the gateway at the end of a call. If all are omitted, they
+/// are those that the drivers of EDK II write.
 fn local<T: Text>(text: T) -> Option<(Address, Option<(u8, Address)>)>
     ensures { option_map (λ x. (x.0.octets, last_part (option_map (λ y. (y.0, y.1.octets)) x.1))) result
         ≡ local_read (T.bytes text) }
@@ -189,7 +189,7 @@ fn origin_on<T: Text>(remote: Address, protocol: u16, text: T) -> Option<([u8; 5
     ensures few { IfSome result (λ x. x.1 ≤ 56) }
 {
     if closes_call(text) {
-        return Some(connection(remote, protocol, 2, (NO_ADDRESS, NO_GATEWAY)));
+        return Some(connection(remote, protocol, 0, (NO_ADDRESS, NO_GATEWAY)));
     }
     let (origin, rest) = origin(after(b",", text)?)?;
     let local = local(rest)?;

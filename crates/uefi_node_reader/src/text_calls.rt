@@ -14,7 +14,7 @@ ghost use Rattle.uefi_node_reader.specs.Stops.{past, stop_at};
 ghost use Rattle.uefi_node_reader.specs.declared.faults.Expected.TheVariants.{Untold};
 ghost use Rattle.uefi_node_reader.specs.ReadNodes.{node_from_text};
 ghost use Rattle.uefi_node_reader.specs.TableReading.{added, is_filled, is_read, is_sound, tail_read};
-ghost use Rattle.uefi_node_reader.specs.TextCalls.{are_left_out, call_left, holds_ids, holds_text, left_of, or_commas, past_second, stop_before, text_call_told, text_stop, text_told, text_tried, texts_tried, uid_call_told, uid_told, uid_tried};
+ghost use Rattle.uefi_node_reader.specs.TextCalls.{are_left_out, call_left, holds_ids, holds_text, left_of, or_commas, past_second, stop_before, text_call_told, text_left, text_stop, text_told, text_tried, texts_tried, uid_call_told, uid_told, uid_tried};
 
 use crate::attempts::{Attempt, try_pasted, try_table};
 use crate::clear_texts::{first_of, past_clear};
@@ -31,7 +31,7 @@ use crate::stops::stop_at;
 use crate::table_reader::fixed_part;
 use crate::tail_stops::tail_rest;
 use crate::texts::{Text, is_empty};
-use crate::tidied::{Tidied, place_at, tidy};
+use crate::tidied::{Tidied, past_mark, place_at, tidy};
 use uefi_node_table::rows::{Mode, Row, Tail};
 
 /// Returns whether a form is read and contains a text.
@@ -59,6 +59,18 @@ fn left_of<T: NameText>(front: T, call: Tidied<T>, left: Tidied<T>) -> T
     front
         .split_at(place_at(call.len().saturating_sub(left.len()), front))
         .1
+}
+
+/// Returns the text in a call, from this rest of the tidied call. Where a quotation mark ends the text, one
+/// begins it, and the blanks after that one belong to the text.
+fn text_left<T: NameText>(row: &Row, front: T, call: Tidied<T>, left: Tidied<T>) -> T
+    ensures { T.bytes result ≡ text_left (as_form row.now) (T.bytes front)
+        (⟦<Tidied<T> as Text>⟧.bytes call) (⟦<Tidied<T> as Text>⟧.bytes left) }
+{
+    if first_of(row.close.as_bytes()) == b'"' {
+        return past_mark(b'"', front);
+    }
+    left_of(front, call, left)
 }
 
 /// Returns whether the IDs of a device are omitted.
@@ -226,7 +238,7 @@ fn text_call<T: NameText>(row: &Row, front: T, call: Tidied<T>) -> Result<Parsed
 {
     let mut fixed = fixed_part(row);
     let rest = read_head::<Lenient, Tidied<T>>(row, &mut fixed[..row.least as usize], call)?;
-    text_told(row, fixed, left_of(front, call, rest), call)
+    text_told(row, fixed, text_left(row, front, call, rest), call)
 }
 
 /// Reads a node of a form whose call contains only the ID string of `_UID`.

@@ -4,4 +4,4 @@ use Rattle.uefi_device_path.proofs.lenient_reader.read_from.Goals as goal
 
 pub returns : goal.returns
 returns g c =
-    subst (λ (x : List ℕ). GivesText c.read_styled_path.result (path_read c.args.style x)) c.as_bytes.ensures.value c.read_styled_path.ensures.gives
+    subst (λ (x : List ℕ). GivesText c.read_styled_path.result (path_read c.args.style x)) c.as_bytes.ensures.value c.read_styled_path.ensures

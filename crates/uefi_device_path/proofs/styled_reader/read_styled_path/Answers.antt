@@ -20,7 +20,7 @@ longer_none (Some nodes) = (nodes, refl, sym (append-nil nodes))
 -- the path that took the nodes of a text
 gives : {E : Type 0} (made : Result (List Node) E) (path : Option (List Node)) (nodes : List Node) (read : Result (List Node) TextFault)
     → IfOk made (λ first. first ≡ []) → IsLonger (result_ok made) nodes path → read ≡ Ok nodes → GivesText (ok_or path OutOfMemory) read
-gives made None nodes read empty longer is = tt
+gives made None nodes read empty longer is = (nodes, is)
 gives (Ok first) (Some path) nodes read empty (start, same, longer) is =
     let begins : first ≡ start = cc in
     is ∙ ap (λ (ns : List Node). Ok ns) (sym (longer ∙ ap (λ (ns : List Node). ns ++ nodes) (sym begins ∙ empty)))
@@ -29,12 +29,9 @@ gives (Err error) (Some path) nodes read empty (start, same, longer) is = cc
 pub put_text-requires : goal.put_text-requires
 put_text-requires g c = longer_none _
 
-pub returns-in-Ok-clause-gives : goal.returns-in-Ok-clause-gives
-returns-in-Ok-clause-gives g c =
+pub returns-in-Ok : goal.returns-in-Ok
+returns-in-Ok g c =
     let (nodes, is, longer) = c.in-Ok.ensures in
     subst (λ (r : Result (List Node) LenientTextError). GivesText r (path_read c.args.style (g.T.Text.bytes c.args.text))) (sym c.ok_or.ensures.value)
     (gives c.with_room.result c.put_text.new.sink nodes _ c.with_room.ensures
     (subst (λ (first : Option (List Node)). IsLonger first nodes c.put_text.new.sink) c.ok-path.ensures.value longer) is)
-
-pub returns-in-Ok-clause-memory : goal.returns-in-Ok-clause-memory
-returns-in-Ok-clause-memory g c = λ _. let (nodes, is, longer) = c.in-Ok.ensures in (nodes, is)

@@ -1,11 +1,12 @@
 -- The text is read as the nodes whose text it is, or it stops where it stops being one.
-use Rattle.std.proofs.Common.{◌≡◌, ◌∙◌, ap, refl}
+use Rattle.std.proofs.Common.{◌≡◌, ◌∙◌, ap}
 use Rattle.std.specs.Prelude.{Err}
 use Rattle.uefi_device_path.specs.declared.errors.PushTextError.{PushTextError}
 use Rattle.uefi_device_path.specs.declared.lenient_errors.PushLenientTextError.TheVariants as push
 use Rattle.uefi_node_reader.specs.declared.styles.TextStyle.TheVariants.{Printed}
 use Rattle.uefi_device_path.specs.StyledReading.{text_error}
 use Rattle.uefi_device_path.proofs.PrintedReading.{all_fit, cause_is, never_stops, not_all_fit, only_stop, path_is}
+use Rattle.uefi_device_path.proofs.StyledReading.{all_taken}
 use Rattle.uefi_device_path.proofs.text_in_buf.push_text_in_buf.Goals as goal
 
 pub returns-in-Ok-clause-no_path : goal.returns-in-Ok-clause-no_path
@@ -17,15 +18,15 @@ returns-in-Ok-clause-no_node c = λ nodes begins place stop. absurd (never_stops
 
 pub returns-in-Ok-clause-refusal : goal.returns-in-Ok-clause-refusal
 returns-in-Ok-clause-refusal c = λ nodes told begins are is. all_fit nodes told _
-    (c.in-Ok.ensures.refusal nodes told begins (c.styled_texts.ensures.printed Printed refl c.args.text.now told are is))
+    (c.in-Ok.ensures.refusal nodes told begins (c.styled_texts.ensures.printed Printed c.args.text.now told (all_taken told) are is))
 
 pub returns-in-Ok-clause-len : goal.returns-in-Ok-clause-len
 returns-in-Ok-clause-len c = λ nodes told begins are is.
-    c.in-Ok.ensures.len nodes told begins (c.styled_texts.ensures.printed Printed refl c.args.text.now told are is)
+    c.in-Ok.ensures.len nodes told begins (c.styled_texts.ensures.printed Printed c.args.text.now told (all_taken told) are is)
 
 pub returns-in-Ok-clause-buffer : goal.returns-in-Ok-clause-buffer
 returns-in-Ok-clause-buffer c = λ nodes told begins are is.
-    c.in-Ok.ensures.buffer nodes told begins (c.styled_texts.ensures.printed Printed refl c.args.text.now told are is)
+    c.in-Ok.ensures.buffer nodes told begins (c.styled_texts.ensures.printed Printed c.args.text.now told (all_taken told) are is)
 
 pub returns-in-Ok-clause-read : goal.returns-in-Ok-clause-read
 returns-in-Ok-clause-read c =
@@ -46,7 +47,7 @@ returns-in-Err-clause-no_node c = λ nodes begins place stop. ap (λ (e : PushTe
 pub returns-in-Err-clause-refusal : goal.returns-in-Err-clause-refusal
 returns-in-Err-clause-refusal c = λ nodes told begins are is.
     not_all_fit nodes told _ c.in-Err.error c.text_error.result c.text_error.ensures
-    (c.in-Err.ensures.refusal nodes told begins (c.styled_texts.ensures.printed Printed refl c.args.text.now told are is))
+    (c.in-Err.ensures.refusal nodes told begins (c.styled_texts.ensures.printed Printed c.args.text.now told (all_taken told) are is))
 
 pub returns-in-Err-clause-cause : goal.returns-in-Err-clause-cause
 returns-in-Err-clause-cause c =

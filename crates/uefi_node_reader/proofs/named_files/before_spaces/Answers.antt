@@ -2,9 +2,9 @@ use Rattle.std.proofs.Common.{◌≡◌, ◌∙◌, ℕ, ap, arith, false, get_o
 use Rattle.std.proofs.lemmas.List.{length-drop}
 use Rattle.std.specs.Char.{is_ascii_whitespace}
 use Rattle.uefi_node_reader.proofs.NextBytes.{byte_at}
-use Rattle.uefi_device_path.proofs.AroundNodes.{LastSeen, seen_all, seen_blank, seen_other}
-use Rattle.uefi_device_path.proofs.around_nodes.last_byte.Goals as goal
-use Rattle.uefi_device_path.proofs.around_nodes.last_byte.Goals.{in-Some+then-not-is_ascii_whitespace, in-Some+else-not-is_ascii_whitespace, in_default}
+use Rattle.uefi_node_reader.proofs.Spaces.{LastSeen, seen_all, seen_blank, seen_other}
+use Rattle.uefi_node_reader.proofs.named_files.before_spaces.Goals as goal
+use Rattle.uefi_node_reader.proofs.named_files.before_spaces.Goals.{in-Some+then-not-is_ascii_whitespace, in-Some+else-not-is_ascii_whitespace, in_default}
 
 pub loop-place-preserved : goal.loop-place-preserved
 loop-place-preserved g c =
@@ -18,7 +18,7 @@ loop-place-preserved g c =
           let here = byte_at text _ after place w.in-Some.byte c.loop-place.invariant.0 w.in-Some.ensures in
           let other : is_ascii_whitespace (get_or text place 0) ≡ false =
           ap is_ascii_whitespace (sym here.1) ∙ sym w.is_ascii_whitespace.ensures.value ∙ w.if-not-is_ascii_whitespace.true in
-          (moved ∙ here.2, rw (w.last-is, w.end-is, here.1) (seen_other text place c.loop-place.last c.loop-place.end seen here.0 other))
+          (moved ∙ here.2, rw w.end-is (seen_other text place c.loop-place.end seen other))
           )
       | in-Some+else-not-is_ascii_whitespace w ↦ (
           let after = g.T.Text.bytes w.in-Some.after in
@@ -26,7 +26,7 @@ loop-place-preserved g c =
           let here = byte_at text _ after place w.in-Some.byte c.loop-place.invariant.0 w.in-Some.ensures in
           let blank : is_ascii_whitespace (get_or text place 0) ≡ true =
           ap is_ascii_whitespace (sym here.1) ∙ sym w.is_ascii_whitespace.ensures.value ∙ w.if-not-is_ascii_whitespace.false in
-          (moved ∙ here.2, rw (w.last-is, w.end-is) (seen_blank text place c.loop-place.last c.loop-place.end seen blank))
+          (moved ∙ here.2, rw w.end-is (seen_blank text place c.loop-place.end seen blank))
           )
       | in_default w ↦ absurd (omega (
         arith,
@@ -37,16 +37,9 @@ loop-place-preserved g c =
       ))
     ]
 
-pub returns-clause-byte : goal.returns-clause-byte
-returns-clause-byte g c =
+pub returns : goal.returns
+returns g c =
     let text = g.T.Text.bytes c.args.text in
     let whole : c.loop-place.place ≡ length text = omega (arith, c.loop-place-test.false, c.len-place-end.ensures, c.loop-place.auto) in
-    (seen_all text c.loop-place.last c.loop-place.end
-    (subst (λ (n : ℕ). LastSeen text n c.loop-place.last c.loop-place.end) whole c.loop-place.invariant.1)).0
-
-pub returns-clause-before : goal.returns-clause-before
-returns-clause-before g c =
-    let text = g.T.Text.bytes c.args.text in
-    let whole : c.loop-place.place ≡ length text = omega (arith, c.loop-place-test.false, c.len-place-end.ensures, c.loop-place.auto) in
-    c.split_at-before.ensures.front ∙ (seen_all text c.loop-place.last c.loop-place.end
-    (subst (λ (n : ℕ). LastSeen text n c.loop-place.last c.loop-place.end) whole c.loop-place.invariant.1)).1
+    c.split_at.ensures.front ∙ seen_all text c.loop-place.end
+    (subst (λ (n : ℕ). LastSeen text n c.loop-place.end) whole c.loop-place.invariant.1)
