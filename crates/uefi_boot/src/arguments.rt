@@ -93,7 +93,7 @@ impl Verb {
     fn flags(self) -> &'static [&'static str] {
         match self {
             Verb::Check => &["--help"],
-            Verb::Create => &["--help", "--dry-run", "--inactive"],
+            Verb::Create => &["--help", "--dry-run", "--inactive", "--force"],
             Verb::Order | Verb::Next | Verb::Timeout => &["--help", "--dry-run", "--force"],
             _ => &["--help", "--dry-run"],
         }
@@ -255,9 +255,8 @@ impl<'a> Words<'a> {
             if !self.is_known(word) {
                 return Err(self.refuse_word(rt, word)?);
             }
-            if self.verb.values().contains(&word) && place.saturating_add(1) == self.words.len() {
-                let message = format_args!("the option {word} needs a value");
-                return Err(refuse(rt, WRONG_ARGUMENTS, message));
+            if self.verb.values().contains(&word) {
+                self.check_value(rt, word, self.words.get(place.saturating_add(1)))?;
             }
         }
         let (least, most) = self.verb.counts();
@@ -267,6 +266,28 @@ impl<'a> Words<'a> {
             return Err(refuse(rt, WRONG_ARGUMENTS, format_args!("{usage}")));
         }
         Ok(())
+    }
+
+    /// Rejects an option without a value, or with another option in place of the value.
+    fn check_value(
+        &self,
+        rt: &HostRuntime,
+        option: &str,
+        value: Option<&String>,
+    ) -> Result<(), End> {
+        match value {
+            None => {
+                let message = format_args!("the option {option} needs a value");
+                Err(refuse(rt, WRONG_ARGUMENTS, message))
+            }
+            Some(value) if value.starts_with("-") && value.as_str() != "-" => {
+                let message = format_args!(
+                    "the option {option} needs a value (to pass {value}, type {option}={value})"
+                );
+                Err(refuse(rt, WRONG_ARGUMENTS, message))
+            }
+            _ => Ok(()),
+        }
     }
 
     fn refuse_word(&self, rt: &HostRuntime, word: &str) -> Result<End, AllocError> {

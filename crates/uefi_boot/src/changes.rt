@@ -2,13 +2,15 @@
 use crate::ends::{End, Output, UNREADABLE, UNWRITTEN, refuse};
 use crate::entry::Shown;
 use crate::head::{write_order, write_timeout};
+use crate::mounts::is_efivarfs;
 use crate::variables::{
-    Content, MOST_READ, OWN, VARIABLE_ATTRIBUTES, Variable, Variables, attributes_len, file_in,
+    Content, MOST_READ, VARIABLE_ATTRIBUTES, Variable, Variables, attributes_len, file_in,
 };
 use std::alloc::{AllocError, Global};
 use std::fmt::Write as _;
-use std::fs::{self, OpenFile, OpenOptions};
+use std::fs::{self, File, OpenFile, OpenOptions};
 use std::io::{self, Write};
+use std::os::unix::fs::{MetadataExt, OpenOptionsExt, fchown};
 use uefi_boot_plans::{Step, Variable as Changed};
 use uefi_boot_variables::{LoadOptionKind, LoadOrder, read_number};
 
@@ -29,6 +31,24 @@ struct Target {
     attributes: &'static [u8],
     kept: Vec<u8>,
     is_new: bool,
+}
+
+const FREED_AT_BOOT: &str =
+    "firmware may free the space of deleted variables only at the next boot (restart and try again)";
+
+/// The number of steps before the failed one, its file or the directory, and the error.
+#[derive(Drop)]
+struct Failure {
+    place: usize,
+    path: String,
+    error: io::Error,
+}
+
+impl Failure {
+    /// Returns whether the step failed because the store is full.
+    fn is_for_room(&self) -> bool {
+        matches!(self.error.kind(), io::ErrorKind::StorageFull)
+    }
 }
 
 /// Returns the variable that a step changes.
@@ -91,39 +111,62 @@ fn describe(out: &mut String, alloc: Global, step: &Step, is_dry_run: bool) -> R
     }
 }
 
-/// Replaces a file by writing a new file beside it and renaming that file, so that any failure
+/// Replaces a file by writing a new file next to it and renaming that file, so that any failure
 /// leaves either the old bytes or the new ones.
 fn replace_file(rt: &HostRuntime, path: &str, bytes: &[u8], is_new: bool) -> io::Result<()> {
-    let beside = format!(in rt.alloc(); "{path}.new")?;
-    let result = write_beside(rt, path, beside.as_str(), bytes, is_new);
-    if result.is_err() {
-        // The new file is useless, and the caller needs the first error.
-        let _ = fs::remove_file(rt, beside.as_str());
+    let mode = if is_new { 0o666 } else { 0o600 };
+    for number in 0..=u16::MAX {
+        let made = format!(in rt.alloc(); "{path}.new{number}")?;
+        let made = made.as_str();
+        // Only a file that this call creates is written and renamed, never one that a link names.
+        let mut options = OpenOptions::new();
+        let file = match options
+            .write(true)
+            .create_new(true)
+            .mode(mode)
+            .open(rt, made)
+        {
+            Err(error) if matches!(error.kind(), io::ErrorKind::AlreadyExists) => continue,
+            opened => opened?,
+        };
+        let result = write_and_rename(rt, path, file, made, bytes, is_new);
+        if result.is_err() {
+            // The new file is useless, and the caller needs the first error.
+            let _ = fs::remove_file(rt, made);
+        }
+        return result;
     }
-    result
+    Err(io::Error::from(io::ErrorKind::AlreadyExists))
 }
 
-fn write_beside(
+/// Writes a file, with the owner and the mode of the one at a path, which it then replaces.
+fn write_and_rename(
     rt: &HostRuntime,
     path: &str,
-    beside: &str,
+    mut file: File,
+    made: &str,
     bytes: &[u8],
     is_new: bool,
 ) -> io::Result<()> {
-    let mut file = fs::create(rt, beside)?;
-    file.write_all(bytes)?;
     if !is_new {
-        let permissions = fs::metadata(rt, path)?.permissions();
-        if permissions.readonly() {
+        let replaced = fs::metadata(rt, path)?;
+        if replaced.permissions().readonly() {
             return Err(io::Error::from(io::ErrorKind::PermissionDenied));
         }
-        file.set_permissions(permissions)?;
+        fchown(&file, Some(replaced.uid()), Some(replaced.gid()))?;
+        file.set_permissions(replaced.permissions())?;
     }
+    file.write_all(bytes)?;
     file.sync_all()?;
-    fs::rename(rt, beside, path)
+    fs::rename(rt, made, path)
 }
 
-/// Writes a variable of this machine in one call, as Linux's `efivars` requires.
+/// Waits until the names of a directory's files are on the disk.
+fn sync_directory(rt: &HostRuntime, path: &str) -> io::Result<()> {
+    fs::open(rt, path)?.sync_all()
+}
+
+/// Writes a variable in one call, as Linux's `efivarfs` requires.
 fn write_at_once(rt: &HostRuntime, path: &str, bytes: &[u8], is_new: bool) -> io::Result<()> {
     let mut file = OpenOptions::new().write(true).create(true).open(rt, path)?;
     let result = match file.write(bytes) {
@@ -181,16 +224,8 @@ impl<'a> Machine<'a> {
         })
     }
 
-    /// Returns whether the folder contains the machine's own variables.
-    fn is_own(&self) -> bool {
-        match fs::canonicalize(self.rt, self.folder) {
-            Ok(path) => path.as_path().to_string_lossy() == OWN,
-            Err(_) => false,
-        }
-    }
-
     /// Takes a step.
-    fn take(&self, step: &Step, target: &Target) -> io::Result<()> {
+    fn take(&self, step: &Step, target: &Target, is_efivarfs: bool) -> io::Result<()> {
         let path = target.path.as_str();
         let Some(value) = &step.value else {
             return fs::remove_file(self.rt, path);
@@ -201,54 +236,102 @@ impl<'a> Machine<'a> {
         bytes.extend_from_slice(target.attributes)?;
         bytes.extend_from_slice(&target.kept)?;
         bytes.extend_from_slice(value)?;
-        if self.is_own() {
+        if is_efivarfs {
             write_at_once(self.rt, path, &bytes, target.is_new)
         } else {
             replace_file(self.rt, path, &bytes, target.is_new)
         }
     }
 
-    /// Carries out a plan, or prints it, and returns the exit status.
-    pub(crate) fn carry_out(&self, plan: &[Step]) -> Result<u8, End> {
+    /// Takes a step, unless this is a dry run, and returns its failure, if it failed.
+    fn take_one(
+        &self,
+        place: usize,
+        step: &Step,
+        target: &Target,
+        is_efivarfs: bool,
+    ) -> Result<Option<Failure>, End> {
+        if self.is_dry_run {
+            return Ok(None);
+        }
+        if let Err(error) = self.take(step, target, is_efivarfs) {
+            let path = target.path.clone()?;
+            return Ok(Some(Failure { place, path, error }));
+        }
+        if is_efivarfs {
+            return Ok(None);
+        }
+        // Without this, a file system could keep a later step and not this one.
+        match sync_directory(self.rt, self.folder) {
+            Ok(()) => Ok(None),
+            Err(error) => {
+                let path = String::from_str(self.rt.alloc(), self.folder)?;
+                let place = place.saturating_add(1);
+                Ok(Some(Failure { place, path, error }))
+            }
+        }
+    }
+
+    /// Takes the steps of a plan, or none in a dry run, and describes each. Returns the failure of the
+    /// first step that failed, if one did.
+    fn take_all(
+        &self,
+        plan: &[Step],
+        is_efivarfs: bool,
+        out: &mut Output<'_>,
+    ) -> Result<Option<Failure>, End> {
         let alloc = self.rt.alloc();
-        let mut out = Output::new(self.rt);
         let mut targets = Vec::with_capacity(alloc, plan.len())?;
         for step in plan {
             targets.push(self.target(changed(step.variable))?)?;
         }
         for (place, step) in plan.iter().enumerate() {
-            if !self.is_dry_run {
-                if let Some(target) = targets.get(place) {
-                    if let Err(error) = self.take(step, target) {
-                        out.flush()?;
-                        return Err(self.fail(&error, target, plan, place)?);
-                    }
+            if let Some(target) = targets.get(place) {
+                if let Some(failure) = self.take_one(place, step, target, is_efivarfs)? {
+                    return Ok(Some(failure));
                 }
             }
             describe(&mut out.text, alloc, step, self.is_dry_run)?;
         }
+        Ok(None)
+    }
+
+    /// Carries out a plan, or prints it, and returns the exit status. If the first step fails because
+    /// the store is full, carries out the other plan, unless that is empty.
+    pub(crate) fn carry_out(&self, plan: &[Step], if_full: &[Step]) -> Result<u8, End> {
+        let is_efivarfs = !self.is_dry_run && is_efivarfs(self.rt, self.folder)?;
+        let mut plan = plan;
+        let mut out = Output::new(self.rt);
+        let mut failure = self.take_all(plan, is_efivarfs, &mut out)?;
+        let is_full = match &failure {
+            Some(failure) => failure.place == 0 && failure.is_for_room(),
+            None => false,
+        };
+        if is_full && !if_full.is_empty() {
+            plan = if_full;
+            failure = self.take_all(plan, is_efivarfs, &mut out)?;
+        }
         out.flush()?;
-        Ok(0)
+        match &failure {
+            Some(failure) => Err(self.fail(failure, plan, is_efivarfs)?),
+            None => Ok(0),
+        }
     }
 
     /// Reports the failed step and its error, the steps before it, and the steps that were skipped.
-    fn fail(
-        &self,
-        error: &io::Error,
-        target: &Target,
-        plan: &[Step],
-        failed: usize,
-    ) -> Result<End, End> {
-        let alloc = self.rt.alloc();
-        let mut message = String::new(alloc);
-        let path = target.path.as_str();
+    fn fail(&self, failure: &Failure, plan: &[Step], is_efivarfs: bool) -> Result<End, End> {
+        let Failure { path, error, .. } = failure;
+        let mut message = String::new(self.rt.alloc());
         write!(message, "cannot change {path}: {error}")?;
-        if error.raw_os_error() == Some(1) && self.is_own() {
+        if error.raw_os_error() == Some(1) && is_efivarfs {
             write!(message, "\nLinux protects the file: type chattr -i {path}")?;
+        }
+        if failure.is_for_room() && is_efivarfs {
+            write!(message, "\n{FREED_AT_BOOT}")?;
         }
         for (place, step) in plan.iter().enumerate() {
             let variable = changed(step.variable);
-            let what = if place < failed {
+            let what = if place < failure.place {
                 "changed"
             } else {
                 "not changed"

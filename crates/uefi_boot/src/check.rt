@@ -3,16 +3,23 @@ use crate::arguments::Words;
 use crate::ends::{End, MALFORMED, Output, UNREADABLE};
 use crate::entry::{File, Shown};
 use crate::head::{Head, TOO_SHORT};
-use crate::variables::{Content, MOST_READ, OWN, Source, Variable, Variables};
+use crate::variables::{Content, MOST_READ, OWN, Source, Variable, Variables, unreadable};
 use std::collections::BTreeMap;
 use std::fmt::Write;
-use std::fs;
+use std::{fs, io};
 use uefi_boot_variables::LoadOptionKind;
 use uefi_device_path::media::HardDrive;
 use uefi_device_path::{LoadOption, ShortForm};
 
-/// The greatest size of a variable in firmware with EDK II's default limit.
-const COMMON_LIMIT: usize = 1024;
+/// What EDK II's default limit, 1,024 bytes, leaves for the name and the value of a variable after its
+/// headers.
+const COMMON_LIMIT: usize = 1024 - 60;
+
+/// Returns the greatest size of the value of a variable in firmware with EDK II's default limit.
+/// The name is stored in UTF-16, with its NUL.
+fn common_limit(name: &str) -> usize {
+    COMMON_LIMIT.saturating_sub(name.len().saturating_add(1).saturating_mul(2))
+}
 
 /// The folder in which Linux keeps a link for each partition, named by the partition's GUID.
 const DISKS: &str = "/dev/disk/by-partuuid";
@@ -132,7 +139,9 @@ impl<'a> Check<'a> {
         number: u16,
         option: &LoadOption<'_>,
     ) -> Result<(), End> {
-        let mut key = Vec::from_slice(self.rt.alloc(), option.file_path_list())?;
+        let paths = option.file_path_list();
+        let mut key = Vec::from_slice(self.rt.alloc(), &paths.len().to_le_bytes())?;
+        key.extend_from_slice(paths)?;
         key.extend_from_slice(option.optional_data())?;
         if let Some(other) = self.seen.get(&key) {
             let other = Variable::Boot(*other);
@@ -216,12 +225,13 @@ impl<'a> Check<'a> {
         if let Some(fault) = &shown.malformed {
             self.report(variable, fault.offset, fault.reason.as_str())?;
         }
-        if COMMON_LIMIT < bytes.len() {
-            let len = bytes.len();
+        let len = bytes.len();
+        let limit = common_limit(format!(in self.rt.alloc(); "{variable}")?.as_str());
+        if limit < len {
             let sentence = format!(in self.rt.alloc();
-                "the entry has {len} bytes, and some firmware keeps no more than 1024"
+                "the entry has {len} bytes, and some firmware keeps no more than {limit}"
             )?;
-            self.report(variable, COMMON_LIMIT, sentence.as_str())?;
+            self.report(variable, limit, sentence.as_str())?;
         }
         for file in &shown.files {
             self.check_file(variable, file)?;
@@ -249,6 +259,18 @@ impl<'a> Check<'a> {
     }
 }
 
+/// Returns a path if it is that of a directory, and rejects it otherwise.
+fn directory<'a>(rt: &HostRuntime, path: &'a str) -> Result<&'a str, End> {
+    match fs::metadata(rt, path) {
+        Ok(found) if found.is_dir() => Ok(path),
+        Ok(_) => {
+            let error = io::Error::from(io::ErrorKind::NotADirectory);
+            Err(unreadable(rt, path, &error))
+        }
+        Err(error) => Err(unreadable(rt, path, &error)),
+    }
+}
+
 /// Reports all faults, and returns the exit status.
 pub(crate) fn run<'a>(
     rt: &'a HostRuntime,
@@ -257,15 +279,19 @@ pub(crate) fn run<'a>(
     variables: &'a Variables<'a>,
 ) -> Result<u8, End> {
     let disks = match words.value("--disks") {
-        Some(disks) => Some(disks),
+        Some(disks) => Some(directory(rt, disks)?),
         None if folder == OWN && fs::metadata(rt, DISKS).is_ok() => Some(DISKS),
+        None => None,
+    };
+    let esp = match words.value("--esp") {
+        Some(esp) => Some(directory(rt, esp)?),
         None => None,
     };
     let mut check = Check {
         rt,
         out: Output::new(rt),
         variables,
-        esp: words.value("--esp"),
+        esp,
         disks,
         seen: BTreeMap::new(rt.alloc()),
         is_well: true,

@@ -1,6 +1,8 @@
 //! Creates the load option of a new entry from the words of `create`.
 use crate::arguments::Words;
 use crate::ends::{End, WRONG_ARGUMENTS, refuse};
+use crate::entry::Shown;
+use crate::mounts::mount_point_above;
 use std::alloc::Global;
 use uefi_device_path::build::media::HardDrive;
 use uefi_device_path::{
@@ -49,6 +51,21 @@ fn number(rt: &HostRuntime, words: &Words<'_>, option: &str) -> Result<u64, End>
     }
 }
 
+/// Rejects a loader whose path begins with the mount point of a file system.
+fn check_mount_point(rt: &HostRuntime, loader: &str) -> Result<(), End> {
+    if !loader.starts_with('/') {
+        return Ok(());
+    }
+    let Some(point) = mount_point_above(rt, loader)? else {
+        return Ok(());
+    };
+    let rest = loader.strip_prefix(point).unwrap_or("");
+    let message = format_args!(
+        "--loader {loader}: the path includes the mount point {point} (type --loader {rest})"
+    );
+    Err(refuse(rt, WRONG_ARGUMENTS, message))
+}
+
 /// Returns the path of a file on a partition.
 fn path_on_disk(rt: &HostRuntime, words: &Words<'_>, guid: &str) -> Result<DevicePathBuf, End> {
     let Some(signature) = Guid::try_parse(guid) else {
@@ -80,7 +97,14 @@ fn path_on_disk(rt: &HostRuntime, words: &Words<'_>, guid: &str) -> Result<Devic
         partition_format: GPT,
         signature_type: GPT,
     };
-    let name = string(rt, "--loader", loader)?;
+    if !words.has("--force") {
+        check_mount_point(rt, loader)?;
+    }
+    let name = string(
+        rt,
+        "--loader",
+        loader.replace(rt.alloc(), "/", "\\")?.as_str(),
+    )?;
     let mut path = DevicePathBuf::new(rt.alloc())?;
     if path.push_node(&drive).is_err() {
         return Err(End::OutOfMemory);
@@ -159,6 +183,25 @@ fn data_of(rt: &HostRuntime, words: &Words<'_>) -> Result<Vec<u8>, End> {
     Ok(data)
 }
 
+fn refuse_path(rt: &HostRuntime, path: &str, reason: &String) -> End {
+    let message = format_args!("{path}: {reason} (to create the entry anyway, add --force)");
+    refuse(rt, WRONG_ARGUMENTS, message)
+}
+
+/// Rejects an entry with a path that firmware rejects.
+fn check_paths(rt: &HostRuntime, words: &Words<'_>, option: &[u8]) -> Result<(), End> {
+    let shown = Shown::of_entry(rt.alloc(), option)?;
+    for file in &shown.files {
+        if let Some(reason) = &file.refused {
+            return Err(refuse_path(rt, &file.path, reason));
+        }
+    }
+    match &shown.malformed {
+        Some(fault) => Err(refuse_path(rt, words.value("--path").unwrap_or(""), &fault.reason)),
+        None => Ok(()),
+    }
+}
+
 /// Returns the bytes of the new entry.
 pub(crate) fn option_of(rt: &HostRuntime, words: &Words<'_>) -> Result<Vec<u8>, End> {
     let Some(text) = words.value("--description") else {
@@ -172,7 +215,12 @@ pub(crate) fn option_of(rt: &HostRuntime, words: &Words<'_>) -> Result<Vec<u8>, 
     let paths = [path.as_device_path()];
     let units = description.as_cstr16().as_slice().units();
     match LoadOptionBuilder::new(attributes, units, &paths, &data).to_vec(rt.alloc()) {
-        Ok(bytes) => Ok(bytes),
+        Ok(bytes) => {
+            if !words.has("--force") {
+                check_paths(rt, words, &bytes)?;
+            }
+            Ok(bytes)
+        }
         Err(OptionBuildError::OutOfMemory) => Err(End::OutOfMemory),
         Err(error) => Err(refuse(rt, WRONG_ARGUMENTS, format_args!("create: {error}"))),
     }

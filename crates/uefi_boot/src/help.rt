@@ -29,12 +29,13 @@ adds a boot entry at the next free number, in front of the others
        --disk GUID          the GUID of a partition, as lsblk -o PARTUUID prints it
        --partition N        the number of that partition
        --start N, --size N  its first block and how many it has; 0 if not given
-       --loader FILE        the path of the loader on that partition, such as \\EFI\\debian\\shimx64.efi
+       --loader FILE        the path on that partition, without the mount point: /EFI/debian/shimx64.efi
        --data TEXT          optional data for the loader, in UTF-16
        --data-ascii TEXT    the same in ASCII
        --data-hex BYTES     the same in hexadecimal
        --number NUMBER      the number, such as 001F, if not the next free one
        --inactive           makes an entry that firmware does not try by itself
+       --force              makes an entry with a path that firmware rejects
        --variables FOLDER   the variables, if not /sys/firmware/efi/efivars
        --dry-run            prints what would change, and writes nothing
 ";

@@ -42,6 +42,7 @@ mod growing_texts;
 mod head;
 mod help;
 mod listing;
+mod mounts;
 mod optional_data;
 mod variables;
 mod verbs;
@@ -56,7 +57,10 @@ use std::process::ExitCode;
 use std::{env, fmt, fs};
 use variables::{Content, MOST_READ, OWN, find_all};
 
-const VERSION: &str = "uefi_boot 0.7.0\n";
+const VERSION: &str = "uefi_boot 0.8.0-dev\n";
+
+const NOT_UTF_8: &str =
+    "an argument is not valid UTF-8 (for a directory with such a name, type cd and then .)";
 
 const OPTIONS: [&str; 4] = ["--json", "--help", "-h", "--version"];
 
@@ -185,8 +189,12 @@ fn show(rt: &HostRuntime, words: Vec<String>) -> Result<u8, End> {
 }
 
 fn run(rt: &HostRuntime) -> Result<u8, End> {
-    let Ok(arguments) = env::args(rt) else {
-        return Err(End::OutOfMemory);
+    let arguments = match env::args(rt) {
+        Ok(arguments) => arguments,
+        Err(error) if matches!(error.kind(), io::ErrorKind::InvalidData) => {
+            return Err(refuse(rt, WRONG_ARGUMENTS, format_args!("{NOT_UTF_8}")));
+        }
+        Err(_) => return Err(End::OutOfMemory),
     };
     let mut words = Vec::new(rt.alloc());
     for word in arguments.skip(1) {

@@ -161,12 +161,17 @@ fn file_name(path: &str) -> &str {
     }
 }
 
+/// The names of entries, without their numbers.
+const ENTRIES: [&str; 4] = ["Boot", "Driver", "SysPrep", "PlatformRecovery"];
+
 /// Returns whether a name would be the name of an entry if its digits were upper-case.
 fn has_lowercase_digits(name: &str) -> bool {
-    match name.strip_prefix("Boot") {
-        Some(digits) => digits.len() == 4 && digits.bytes().all(|byte| byte.is_ascii_hexdigit()),
-        None => false,
+    for kind in ENTRIES {
+        if let Some(digits) = name.strip_prefix(kind) {
+            return digits.len() == 4 && digits.bytes().all(|byte| byte.is_ascii_hexdigit());
+        }
     }
+    false
 }
 
 /// Reports that a path can't be read, or that memory ran out.
@@ -247,6 +252,8 @@ impl<'a> Variables<'a> {
                 Ok(file) => {
                     self.add(file.file_name(), argument, true)?;
                 }
+                // A name that is not UTF-8 is not that of a boot variable.
+                Err(error) if matches!(error.kind(), io::ErrorKind::InvalidFilename) => {}
                 Err(error) => return Err(unreadable(self.rt, path, &error)),
             }
         }

@@ -85,8 +85,17 @@ impl<'a> Machine<'a> {
 
     /// Carries out a plan, or reports why there is none.
     fn carry(&self, variable: Variable, plan: Result<Vec<Step>, PlanError>) -> Result<u8, End> {
+        self.carry_out(&self.planned(variable, plan)?, &[])
+    }
+
+    /// Returns a plan, or reports why there is none.
+    fn planned(
+        &self,
+        variable: Variable,
+        plan: Result<Vec<Step>, PlanError>,
+    ) -> Result<Vec<Step>, End> {
         let message = match plan {
-            Ok(plan) => return self.carry_out(&plan),
+            Ok(plan) => return Ok(plan),
             Err(PlanError::OutOfMemory) => return Err(End::OutOfMemory),
             Err(PlanError::MalformedOrder) => {
                 refuse(
@@ -167,8 +176,13 @@ impl<'a> Machine<'a> {
             Some(bytes) => read_number(&bytes).ok(),
             None => None,
         };
-        let plan = uefi_boot_plans::delete(self.rt.alloc(), &order, next, number);
-        self.carry(Variable::Boot(number), plan)
+        let (alloc, variable) = (self.rt.alloc(), Variable::Boot(number));
+        let plan = uefi_boot_plans::delete(alloc, &order, next, number);
+        let if_full = uefi_boot_plans::delete_on_full(alloc, &order, next, number);
+        self.carry_out(
+            &self.planned(variable, plan)?,
+            &self.planned(variable, if_full)?,
+        )
     }
 
     fn order_all(&self, words: &Words<'_>) -> Result<u8, End> {
@@ -188,7 +202,7 @@ impl<'a> Machine<'a> {
         }
         self.keep_malformed(Variable::BootOrder)?;
         let plan = uefi_boot_plans::order(self.rt.alloc(), &numbers)?;
-        self.carry_out(&plan)
+        self.carry_out(&plan, &[])
     }
 
     fn first(&self, words: &Words<'_>) -> Result<u8, End> {
@@ -210,7 +224,7 @@ impl<'a> Machine<'a> {
             uefi_boot_plans::next(alloc, self.existing(word)?)?
         };
         self.keep_malformed(Variable::BootNext)?;
-        self.carry_out(&plan)
+        self.carry_out(&plan, &[])
     }
 
     fn set_active(&self, words: &Words<'_>, active: bool) -> Result<u8, End> {
@@ -248,7 +262,7 @@ impl<'a> Machine<'a> {
         };
         self.keep_malformed(Variable::Timeout)?;
         let plan = uefi_boot_plans::timeout(self.rt.alloc(), seconds)?;
-        self.carry_out(&plan)
+        self.carry_out(&plan, &[])
     }
 }
 

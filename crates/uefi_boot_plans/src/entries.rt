@@ -9,7 +9,7 @@ ghost use Rattle.uefi_device_path.specs.Views.{entry_of};
 ghost use Rattle.uefi_boot_plans.specs.Plans.{IsEntryError, activity, changes_of, written};
 
 use crate::plan::{PlanError, Step, Variable};
-use std::alloc::{AllocError, Global};
+use std::alloc::{AllocError, Allocator};
 use uefi_device_path::{LoadOption, LoadOptionError, set_attributes};
 use uefi_text::CStr16;
 
@@ -34,19 +34,12 @@ fn attributes_of(bytes: &[u8]) -> Result<u32, LoadOptionError>
     }
 }
 
-/// Returns the plan that makes an entry active or inactive.
-///
-/// Fails with `MalformedEntry` if its bytes are not a load option, and otherwise with `OutOfMemory`
-/// if memory runs out.
-pub fn set_active(
-    alloc: Global,
-    number: u16,
-    entry: &[u8],
-    active: bool,
-) -> Result<Vec<Step>, PlanError>
-    ensures ok { IfOk result (λ plan. (option : Entry) → IsEntry option → entry.now ≡ entry_bytes option →
-        changes_of plan.items ≡ written (Variable.Entry number)
-        (entry_bytes (with_attributes (activity active option.attributes) option)) ∷ []) }
+/// Returns the bytes of an entry, made active or inactive.
+fn activated<A: Allocator>(alloc: A, entry: &[u8], active: bool) -> Result<Vec<u8, A>, PlanError>
+    ensures ok { IfOk result (λ bytes. (option : Entry) → IsEntry option → entry.now ≡ entry_bytes option →
+        bytes.items ≡ entry_bytes (with_attributes (activity active option.attributes) option)) }
+    ensures accepted { IfOk result (λ _.
+        (option : Entry) × IsEntry option × (entry.now ≡ entry_bytes option)) }
     ensures refused { IfErr result (λ error. IsEntryError entry.now error) }
 {
     let attributes = match attributes_of(entry) {
@@ -54,18 +47,39 @@ pub fn set_active(
         Err(error) => return Err(PlanError::MalformedEntry(error)),
     };
     let mut bytes = Vec::from_slice(alloc, entry)?;
-    if let Err(error) = set_attributes(bytes.as_mut_slice(), with_activity(attributes, active)) {
-        return Err(PlanError::MalformedEntry(error));
+    match set_attributes(bytes.as_mut_slice(), with_activity(attributes, active)) {
+        Ok(()) => Ok(bytes),
+        Err(error) => Err(PlanError::MalformedEntry(error)),
     }
+}
+
+/// Returns the plan that makes an entry active or inactive.
+///
+/// Fails with `MalformedEntry` if its bytes are not a load option, and otherwise with `OutOfMemory`
+/// if memory runs out.
+pub fn set_active<A: Allocator + Copy>(
+    alloc: A,
+    number: u16,
+    entry: &[u8],
+    active: bool,
+) -> Result<Vec<Step<A>, A>, PlanError>
+    ensures ok { IfOk result (λ plan. (option : Entry) → IsEntry option → entry.now ≡ entry_bytes option →
+        changes_of plan.items ≡ written (Variable.Entry number)
+        (entry_bytes (with_attributes (activity active option.attributes) option)) ∷ []) }
+    ensures accepted { IfOk result (λ _.
+        (option : Entry) × IsEntry option × (entry.now ≡ entry_bytes option)) }
+    ensures refused { IfErr result (λ error. IsEntryError entry.now error) }
+{
+    let bytes = activated(alloc, entry, active)?;
     Ok(Step::write(Variable::Entry(number), bytes).alone(alloc)?)
 }
 
 /// Returns the bytes of a load option with another description.
-fn described(
-    alloc: Global,
+fn described<A: Allocator + Copy>(
+    alloc: A,
     option: &LoadOption<'_>,
     description: CStr16<'_>,
-) -> Result<Vec<u8>, AllocError>
+) -> Result<Vec<u8, A>, AllocError>
     ensures { IfOk result (λ bytes. bytes.items
         ≡ entry_bytes (with_description (text_of description.entry) (entry_of option.now))) }
 {
@@ -84,15 +98,17 @@ fn described(
 /// Returns the plan that gives an entry another description.
 ///
 /// Fails as [`set_active`] does.
-pub fn rename(
-    alloc: Global,
+pub fn rename<A: Allocator + Copy>(
+    alloc: A,
     number: u16,
     entry: &[u8],
     description: CStr16<'_>,
-) -> Result<Vec<Step>, PlanError>
+) -> Result<Vec<Step<A>, A>, PlanError>
     ensures ok { IfOk result (λ plan. (option : Entry) → IsEntry option → entry.now ≡ entry_bytes option →
         changes_of plan.items ≡ written (Variable.Entry number)
         (entry_bytes (with_description (text_of description.entry) option)) ∷ []) }
+    ensures accepted { IfOk result (λ _.
+        (option : Entry) × IsEntry option × (entry.now ≡ entry_bytes option)) }
     ensures refused { IfErr result (λ error. IsEntryError entry.now error) }
 {
     let option = match LoadOption::from_bytes(entry) {

@@ -7,14 +7,17 @@
 //! which are deleted, and in which order. No plan touches another variable.
 //!
 //! In each plan an entry is written before the order that names it, and an order without an entry
-//! is written before the entry is deleted. So if power fails between two steps, `BootOrder` names
-//! no entry that the change has removed or has not written yet.
+//! is written before the entry is deleted. Only [`delete_on_full`] deletes the entry first. The law
+//! [`laws::power_failures`] states what this leaves if the power fails between two steps.
 #![tactic(auto)]
 
 pub mod entries;
+pub mod laws;
 pub mod orders;
 pub mod plan;
 
 pub use entries::{rename, set_active};
-pub use orders::{clear_next, create, delete, first, free_number, next, order, timeout};
+pub use orders::{
+    clear_next, create, delete, delete_on_full, first, free_number, next, order, timeout,
+};
 pub use plan::{PlanError, Step, Variable};

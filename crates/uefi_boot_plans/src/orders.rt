@@ -7,13 +7,13 @@ ghost use Rattle.uefi_boot_plans.specs.Plans.{change_of, changes_of, deleted, is
 ghost use Rattle.uefi_text.specs.UnitBytes.{unit_bytes, units_of_bytes};
 
 use crate::plan::{PlanError, Step, Variable};
-use std::alloc::{AllocError, Global};
+use std::alloc::{AllocError, Allocator};
 use uefi_boot_variables::order_edits;
 use uefi_text::UnalignedSlice;
 use uefi_text::scan::split;
 
 /// Returns the bytes of numbers, two for each, the low byte first.
-fn bytes_of(alloc: Global, numbers: &[u16]) -> Result<Vec<u8>, AllocError>
+fn bytes_of<A: Allocator + Copy>(alloc: A, numbers: &[u16]) -> Result<Vec<u8, A>, AllocError>
     ensures { IfOk result (λ bytes. bytes.items ≡ unit_bytes numbers.now) }
 {
     let mut bytes = Vec::from_elem(alloc, 0u8, 2 * numbers.len())?;
@@ -22,7 +22,7 @@ fn bytes_of(alloc: Global, numbers: &[u16]) -> Result<Vec<u8>, AllocError>
 }
 
 /// Returns the numbers of an order from its bytes.
-fn numbers_of(alloc: Global, order: &[u8]) -> Result<Vec<u16>, PlanError>
+fn numbers_of<A: Allocator + Copy>(alloc: A, order: &[u8]) -> Result<Vec<u16, A>, PlanError>
     ensures ok { IfOk result (λ numbers. numbers.items ≡ units_of_bytes order.now) }
     ensures odd { (result ≡ Err PlanError.MalformedOrder) ↔ (length order.now % 2 ≡ 1) }
     ensures memory { IfErr result (λ error.
@@ -49,7 +49,11 @@ pub fn free_number(used: &[u16]) -> Option<u16>
 }
 
 /// Returns the bytes of an order with a number at the front, and nowhere else.
-fn with_first(alloc: Global, order: &[u8], number: u16) -> Result<Vec<u8>, PlanError>
+fn with_first<A: Allocator + Copy>(
+    alloc: A,
+    order: &[u8],
+    number: u16,
+) -> Result<Vec<u8, A>, PlanError>
     ensures ok { IfOk result (λ bytes. bytes.items
         ≡ unit_bytes (with_at 0 number (units_of_bytes order.now))) }
     ensures odd { (result ≡ Err PlanError.MalformedOrder) ↔ (length order.now % 2 ≡ 1) }
@@ -75,7 +79,11 @@ fn put_first(places: &mut [u16], len: usize, number: u16) -> usize
 
 /// Returns the plan that removes a number from the order, which is empty if the order does not
 /// contain it.
-fn delete_from_order(alloc: Global, order: &[u8], number: u16) -> Result<Vec<Step>, PlanError>
+fn delete_from_order<A: Allocator + Copy>(
+    alloc: A,
+    order: &[u8],
+    number: u16,
+) -> Result<Vec<Step<A>, A>, PlanError>
     ensures ok { let numbers = units_of_bytes order.now in IfOk result (λ plan. changes_of plan.items
         ≡ (if stands_in number numbers then ordered (without number numbers) ∷ [] else [])) }
     ensures odd { (result ≡ Err PlanError.MalformedOrder) ↔ (length order.now % 2 ≡ 1) }
@@ -93,7 +101,7 @@ fn delete_from_order(alloc: Global, order: &[u8], number: u16) -> Result<Vec<Ste
 
 /// Returns the step that makes numbers the order. Firmware deletes a variable that is written
 /// without bytes.
-fn order_step(alloc: Global, numbers: &[u16]) -> Result<Step, AllocError>
+fn order_step<A: Allocator + Copy>(alloc: A, numbers: &[u16]) -> Result<Step<A>, AllocError>
     ensures { IfOk result (λ step. change_of step ≡ ordered numbers.now) }
 {
     if numbers.is_empty() {
@@ -105,14 +113,17 @@ fn order_step(alloc: Global, numbers: &[u16]) -> Result<Step, AllocError>
 /// Returns the plan that adds an entry at the front of the order: it writes the entry first, and
 /// then the order that names it.
 ///
+/// If the number is in use, the plan replaces that entry: [`free_number`] returns one that is not. If
+/// the order names the number already, the number moves to the front.
+///
 /// Fails with `MalformedOrder` if the order has an odd number of bytes, and otherwise with
 /// `OutOfMemory` if memory runs out.
-pub fn create(
-    alloc: Global,
+pub fn create<A: Allocator + Copy>(
+    alloc: A,
     order: &[u8],
     number: u16,
-    entry: Vec<u8>,
-) -> Result<Vec<Step>, PlanError>
+    entry: Vec<u8, A>,
+) -> Result<Vec<Step<A>, A>, PlanError>
     ensures ok { IfOk result (λ plan. changes_of plan.items
         ≡ written (Variable.Entry number) entry.items
         ∷ written Variable.Order (unit_bytes (with_at 0 number (units_of_bytes order.now))) ∷ []) }
@@ -129,7 +140,11 @@ pub fn create(
 /// Returns the plan that moves an entry to the front of the order, or inserts it there.
 ///
 /// Fails as [`create`] does.
-pub fn first(alloc: Global, order: &[u8], number: u16) -> Result<Vec<Step>, PlanError>
+pub fn first<A: Allocator + Copy>(
+    alloc: A,
+    order: &[u8],
+    number: u16,
+) -> Result<Vec<Step<A>, A>, PlanError>
     ensures ok { IfOk result (λ plan. changes_of plan.items
         ≡ written Variable.Order (unit_bytes (with_at 0 number (units_of_bytes order.now))) ∷ []) }
     ensures malformed { (result ≡ Err PlanError.MalformedOrder) ↔ (length order.now % 2 ≡ 1) }
@@ -145,12 +160,12 @@ pub fn first(alloc: Global, order: &[u8], number: u16) -> Result<Vec<Step>, Plan
 /// that names the entry. Then it deletes the entry.
 ///
 /// Fails as [`create`] does.
-pub fn delete(
-    alloc: Global,
+pub fn delete<A: Allocator + Copy>(
+    alloc: A,
     order: &[u8],
     next: Option<u16>,
     number: u16,
-) -> Result<Vec<Step>, PlanError>
+) -> Result<Vec<Step<A>, A>, PlanError>
     ensures ok { let numbers = units_of_bytes order.now in IfOk result (λ plan. changes_of plan.items
         ≡ (if stands_in number numbers then ordered (without number numbers) ∷ [] else [])
         ++ (if is_next number next then deleted Variable.Next ∷ [] else [])
@@ -167,15 +182,45 @@ pub fn delete(
     Ok(plan)
 }
 
+/// Returns the plan that deletes an entry if the store is too full to write the order first. Each
+/// step frees space for the next: it deletes `BootNext`, if that names the entry, then the entry, and
+/// then writes the order without it, if the order contains it. Firmware skips an entry that the order
+/// names but that does not exist.
+///
+/// Fails as [`create`] does.
+pub fn delete_on_full<A: Allocator + Copy>(
+    alloc: A,
+    order: &[u8],
+    next: Option<u16>,
+    number: u16,
+) -> Result<Vec<Step<A>, A>, PlanError>
+    ensures ok { let numbers = units_of_bytes order.now in IfOk result (λ plan. changes_of plan.items
+        ≡ (if is_next number next then deleted Variable.Next ∷ [] else [])
+        ++ (deleted (Variable.Entry number)
+        ∷ (if stands_in number numbers then ordered (without number numbers) ∷ [] else []))) }
+    ensures malformed { (result ≡ Err PlanError.MalformedOrder) ↔ (length order.now % 2 ≡ 1) }
+    ensures memory { IfErr result (λ error.
+        error ≢ PlanError.MalformedOrder → error ≡ PlanError.OutOfMemory) }
+{
+    let mut order = delete_from_order(alloc, order, number)?;
+    let mut plan = Vec::new(alloc);
+    if next == Some(number) {
+        plan.push(Step::delete(Variable::Next))?;
+    }
+    plan.push(Step::delete(Variable::Entry(number)))?;
+    plan.append(&mut order)?;
+    Ok(plan)
+}
+
 /// Returns the plan that makes numbers the order.
-pub fn order(alloc: Global, numbers: &[u16]) -> Result<Vec<Step>, AllocError>
+pub fn order<A: Allocator + Copy>(alloc: A, numbers: &[u16]) -> Result<Vec<Step<A>, A>, AllocError>
     ensures { IfOk result (λ plan. changes_of plan.items ≡ ordered numbers.now ∷ []) }
 {
     order_step(alloc, numbers)?.alone(alloc)
 }
 
 /// Returns the plan that makes the machine boot an entry once, at its next start.
-pub fn next(alloc: Global, number: u16) -> Result<Vec<Step>, AllocError>
+pub fn next<A: Allocator + Copy>(alloc: A, number: u16) -> Result<Vec<Step<A>, A>, AllocError>
     ensures { IfOk result (λ plan. changes_of plan.items
         ≡ written Variable.Next (unit_bytes (number ∷ [])) ∷ []) }
 {
@@ -183,14 +228,14 @@ pub fn next(alloc: Global, number: u16) -> Result<Vec<Step>, AllocError>
 }
 
 /// Returns the plan that makes the machine boot by its order again.
-pub fn clear_next(alloc: Global) -> Result<Vec<Step>, AllocError>
+pub fn clear_next<A: Allocator + Copy>(alloc: A) -> Result<Vec<Step<A>, A>, AllocError>
     ensures { IfOk result (λ plan. changes_of plan.items ≡ deleted Variable.Next ∷ []) }
 {
     Step::delete(Variable::Next).alone(alloc)
 }
 
 /// Returns the plan that makes the firmware wait for a number of seconds before it boots.
-pub fn timeout(alloc: Global, seconds: u16) -> Result<Vec<Step>, AllocError>
+pub fn timeout<A: Allocator + Copy>(alloc: A, seconds: u16) -> Result<Vec<Step<A>, A>, AllocError>
     ensures { IfOk result (λ plan. changes_of plan.items
         ≡ written Variable.Timeout (unit_bytes (seconds ∷ [])) ∷ []) }
 {

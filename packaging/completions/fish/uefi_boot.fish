@@ -29,3 +29,4 @@ complete -c uefi_boot -n '__fish_seen_subcommand_from create' -l data-ascii -r -
 complete -c uefi_boot -n '__fish_seen_subcommand_from create' -l data-hex -r -d 'optional data in hexadecimal'
 complete -c uefi_boot -n '__fish_seen_subcommand_from create' -l number -r -d 'the number of the entry'
 complete -c uefi_boot -n '__fish_seen_subcommand_from create' -l inactive -d 'make an entry that firmware does not try by itself'
+complete -c uefi_boot -n '__fish_seen_subcommand_from create' -l force -d 'make an entry with a path that firmware rejects'
