@@ -105,7 +105,7 @@ static nard_result read_text(const char *text, uint8_t *buffer, nard_size room, 
 {
     nard_result reason = nard_device_path_begin(buffer, room, length);
     if (reason == NARD_OK)
-        reason = nard_device_path_push_lenient_text(buffer, room, (const uint8_t *)text, strlen(text), length);
+        reason = nard_device_path_push_libefivar_text(buffer, room, (const uint8_t *)text, strlen(text), length);
     return reason;
 }
 
@@ -160,11 +160,13 @@ static int built(nard_result reason, uint8_t *buffer, uint8_t **out)
     return refused(reason);
 }
 
-/* A copy of the path, or of none if it is null, with room for more bytes; its end included. */
+/* A copy of the path, or of none if it is null, with room for more bytes; its end included. NULL and errno if it is malformed. */
 static uint8_t *copied(const uint8_t *path, nard_size more, nard_size *room)
 {
     nard_size count = path ? extent(path) : HEADER;
-    uint8_t *buffer = malloc(count + more);
+    uint8_t *buffer = count ? malloc(count + more) : NULL;
+    if (!count)
+        refused(NARD_NO_END_NODE);
     if (buffer)
         memcpy(buffer, path ? path : empty, count);
     *room = count + more;
@@ -276,13 +278,35 @@ API uint16_t efi_loadopt_pathlen(const uint8_t *opt, ssize_t limit)
     return (uint16_t)parts.list_length;
 }
 
-/* The description, or of a malformed load option what there is of it. It lasts until the next call. */
+/* Writes units as texts of device paths have them, at most 8 for each: \u{N} for a character that a terminal could obey. */
+static nard_size escape(const nard_unit *units, nard_size count, nard_unit *shown)
+{
+    nard_size length = 0;
+    for (nard_size i = 0; i < count; i++) {
+        unsigned unit = units[i];
+        char text[] = "\\u{FFFF}";
+        if (unit < 0x20 || (0x7f <= unit && unit < 0xa0) || unit == 0x61c || (unit & ~1U) == 0x200e || (0x2028 <= unit && unit < 0x202f)
+            || (0x2066 <= unit && unit < 0x206a)) {
+            snprintf(text, sizeof text, "\\u{%X}", unit);
+            for (const char *it = text; *it; it++)
+                shown[length++] = (nard_unit)*it;
+        } else {
+            shown[length++] = units[i];
+        }
+    }
+    return length;
+}
+
+/*
+ * The description, or of a malformed load option what there is of it, as a program can print it: anyone who writes variables chooses
+ * its characters. It lasts until the next call.
+ */
 API const unsigned char *efi_loadopt_desc(const uint8_t *opt, ssize_t limit)
 {
     static _Thread_local uint8_t *kept;
     struct nard_load_option parts;
     nard_size start = 6, count = 0, length = 0;
-    nard_unit *units;
+    nard_unit *units, *shown;
     free(kept);
     kept = NULL;
     if (limit < 0) {
@@ -294,9 +318,11 @@ API const unsigned char *efi_loadopt_desc(const uint8_t *opt, ssize_t limit)
         /* No NUL: all units. */
     }
     units = malloc((count + 1) * sizeof *units);
-    if (units && nard_units_from_bytes(opt + start, 2 * count, units, count, &length) == NARD_OK)
-        kept = utf8_of(units, count, &length);
+    shown = malloc((8 * count + 1) * sizeof *shown);
+    if (units && shown && nard_units_from_bytes(opt + start, 2 * count, units, count, &length) == NARD_OK)
+        kept = utf8_of(shown, escape(units, count, shown), &length);
     free(units);
+    free(shown);
     return kept;
 }
 

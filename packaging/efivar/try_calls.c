@@ -136,14 +136,15 @@ static void try_path(const uint8_t *path, size_t size)
     free(same);
 }
 
-/* The load option of the parts is the one that they are of, if it has one path, and a description without a surrogate or U+FFFD. */
+/* The load option of the parts is the one that they are of, if it has one path, and a description without a surrogate, U+FFFD or an escape. */
 static void try_create(const uint8_t *given, size_t size, const uint8_t *path, size_t list, const unsigned char *text,
                        const uint8_t *data, size_t count)
 {
     uint32_t attributes = efi_loadopt_attrs(given);
     ssize_t length = efi_loadopt_create(NULL, 0, attributes, NULL, (ssize_t)list, text, NULL, count);
     uint8_t *made = malloc(size);
-    if (length < 0 || strstr((const char *)text, "\xef\xbf\xbd") || efi_loadopt_create(made, (ssize_t)size, attributes, path, (ssize_t)list, text, data, count) < 0) {
+    if (length < 0 || strstr((const char *)text, "\xef\xbf\xbd") || strstr((const char *)text, "\\u{")
+        || efi_loadopt_create(made, (ssize_t)size, attributes, path, (ssize_t)list, text, data, count) < 0) {
         not_made++;
     } else {
         HOLDS((size_t)length == size && memcmp(made, given, size) == 0);
@@ -184,6 +185,27 @@ static void try_option(const uint8_t *bytes, size_t size)
     free(given);
 }
 
+/* A call that builds a path fails if one of its paths is malformed. */
+static void try_malformed(void)
+{
+    static const uint8_t sound[] = {1, 1, 6, 0, 0, 1, 0x7f, 0xff, 4, 0};
+    static const uint8_t rows[][4] = {{1, 1, 3, 0}, {1, 1, 0, 0}, {0x7f, 2, 4, 0}, {0x7f, 0xff, 5, 0}};
+    for (size_t i = 0; i < sizeof rows / sizeof rows[0]; i++) {
+        uint8_t *given = copy(rows[i], 4), *made = NULL;
+        errno = 0;
+        HOLDS(efidp_duplicate_path(given, &made) == -1 && errno == EINVAL);
+        errno = 0;
+        HOLDS(efidp_append_path(given, sound, &made) == -1 && errno == EINVAL);
+        HOLDS(efidp_append_path(sound, given, &made) == -1 && efidp_append_path(given, given, &made) == -1);
+        HOLDS(efidp_append_path(given, NULL, &made) == -1 && efidp_append_path(NULL, given, &made) == -1);
+        HOLDS(efidp_append_instance(given, sound, &made) == -1 && efidp_append_instance(sound, given, &made) == -1);
+        errno = 0;
+        HOLDS(efidp_append_node(given, sound, &made) == -1 && errno == EINVAL && efidp_append_node(given, NULL, &made) == -1);
+        HOLDS(made == NULL && efidp_format_device_path(NULL, 0, given, -1) == -1);
+        free(given);
+    }
+}
+
 int main(int words, char **word)
 {
     uint8_t head[4];
@@ -198,6 +220,7 @@ int main(int words, char **word)
         free(bytes);
     }
     fclose(file);
+    try_malformed();
     uint16_t units[4] = {9, 9, 9, 9};
     HOLDS(efi_loadopt_args_as_ucs2(NULL, 0, (const uint8_t *)"a\xc3\xbc") == 4);
     HOLDS(efi_loadopt_args_as_ucs2(units, 4, (const uint8_t *)"a\xc3\xbc") == 4 && units[0] == 'a' && units[1] == 0xfc && units[2] == 9);
