@@ -15,6 +15,8 @@ typedef UINTN    nard_size;
 typedef BOOLEAN  nard_bool;
 typedef UINT32   nard_result;
 typedef INT32    nard_order;
+/* The package contains the library that belongs to its header, and EDK II's GenFw takes only some relocations. */
+#define NARD_INTERFACE
 #include <nardcorbel.h>
 
 #endif
