@@ -171,15 +171,22 @@ impl<'a> OrderBuffer<'a> {
     /// Creates an order from the bytes of a variable such as `BootOrder`. If a number occurs twice,
     /// only the first is kept.
     ///
-    /// Fails if the number of bytes is odd, or if the buffer has too few places.
+    /// Fails if the number of bytes is odd, or if the buffer has too few places. The buffer is then unchanged.
     pub fn from_order(places: &'a mut [u16], bytes: &[u8]) -> Result<Self, Error> {
-        let mut order = Self::new(places);
-        for number in order_numbers(bytes)? {
-            if !order.contains(&number) {
-                order.push(number)?;
-            }
+        let all = order_numbers(bytes)?;
+        let is_new =
+            |&(place, number): &(usize, u16)| !all.clone().take(place).any(|it| it == number);
+        let count = all.clone().enumerate().filter(is_new).count();
+        if count > places.len() {
+            return Err(Error::new(Reason::BufferTooSmall, count));
         }
-        Ok(order)
+        for (place, (_, number)) in places
+            .iter_mut()
+            .zip(all.clone().enumerate().filter(is_new))
+        {
+            *place = number;
+        }
+        Ok(Self { places, count })
     }
 
     /// Returns the numbers in order.

@@ -61,6 +61,15 @@ pub struct LoadOption {
     pub optional_length: usize,
 }
 
+/// Refers to the interface of these declarations, so that a program does not link with an archive of another one.
+#[used]
+static OF_ARCHIVE: unsafe extern "C" fn() -> u32 = {
+    extern "C" {
+        fn nard_interface_0_8() -> u32;
+    }
+    nard_interface_0_8
+};
+
 /// Declares a call of the library, and a function of its name that takes slices and references.
 macro_rules! call {
     ($name:ident($($given:ident: $kind:ty),*) -> $result:ty as ($($passed:expr),*) of ($($type:ty),*)) => {
@@ -296,5 +305,8 @@ call!(nard_boot_order_move_to_front(order: &mut [u16], count: &mut usize, number
     as (order.as_mut_ptr(), order.len(), count, number)
     of (*mut u16, usize, *mut usize, u16));
 call!(nard_version() -> u32
+    as ()
+    of ());
+call!(nard_interface_0_8() -> u32
     as ()
     of ());

@@ -1,5 +1,5 @@
 //! What this crate and the crate `uefi` have in common, by names that both have: the file also passes with `uefi` in place of
-//! `nardcorbel` in its `use` lines, which `bindings/rust/check` tries.
+//! `nardcorbel` in its `use` lines, which a test of the repository tries.
 #![cfg(feature = "alloc")]
 
 use nardcorbel::data_types::{
@@ -183,6 +183,7 @@ fn strings_of_all_units() {
             &[a, NUL_16, b, NUL_16],
             Err(FromSliceWithNulError::InteriorNul(1)),
         ),
+        (&[a, NUL_16, b], Err(FromSliceWithNulError::InteriorNul(1))),
         (&[a, b, NUL_16], Ok(cstr16!("ab"))),
     ] {
         assert_eq!(CStr16::from_char16_with_nul(chars), wanted);

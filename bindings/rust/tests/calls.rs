@@ -1,6 +1,7 @@
 //! The calls that the crate `uefi` lacks: each once with an answer and once refused.
 #![cfg(feature = "alloc")]
 
+use nardcorbel::data_types::UnalignedSlice;
 use nardcorbel::fs::{validate_path, PathError, CHARACTER_DENY_LIST};
 use nardcorbel::{
     cstr16, cstr8, guid, order_numbers, str_from_units_lossy, CStr16, CString16, Guid,
@@ -338,6 +339,33 @@ fn orders() {
     assert!(order.to_le_bytes().eq([8, 0, 7, 0]));
     let order = OrderBuffer::from_order(&mut places, &[3, 0, 1, 0, 3, 0]).unwrap();
     assert_eq!(order.as_slice(), [3, 1]);
-    assert!(OrderBuffer::from_order(&mut places[..1], &[3, 0, 1, 0]).is_err());
-    assert!(OrderBuffer::from_order(&mut places, &[3]).is_err());
+    for (bytes, wanted) in [
+        (&[3, 0, 1, 0, 3, 0, 5, 0][..], (Reason::BufferTooSmall, 3)),
+        (&[3, 0, 1], (Reason::OddBytes, 3)),
+    ] {
+        let mut places = [7; 2];
+        let error = OrderBuffer::from_order(&mut places, bytes).unwrap_err();
+        assert_eq!(
+            (error.reason, error.place, places),
+            (wanted.0, wanted.1, [7; 2])
+        );
+    }
+}
+
+#[test]
+fn lengths_of_iterators() {
+    let items = [1_u16, 2, 3];
+    // SAFETY: there are three items.
+    let all = unsafe { UnalignedSlice::new(items.as_ptr(), 3) };
+    let mut iterators: [Box<dyn ExactSizeIterator<Item = u16>>; 3] = [
+        Box::new(all.iter()),
+        Box::new(all.clone().into_iter()),
+        Box::new(order_numbers(&[1, 0, 2, 0, 3, 0]).unwrap()),
+    ];
+    for iterator in &mut iterators {
+        for left in [3, 2, 1, 0, 0] {
+            assert_eq!(iterator.len(), left);
+            iterator.next();
+        }
+    }
 }
