@@ -1,8 +1,7 @@
 //! Calls the library from Rust, as a firmware program does that is built only with `rustc`: the functions of
 //! `include/nardcorbel.h`, each in a safe wrapper of a few lines.
 //!
-//! Build, at the top of the repository: `rustc examples/paths.rs -L crates/nardcorbel/out -l static=nardcorbel`. `examples/check`
-//! builds and runs it.
+//! Build, at the top of the repository: `rustc examples/paths.rs -L crates/nardcorbel/out -l static=nardcorbel`.
 
 use std::ops::Range;
 

@@ -22,7 +22,8 @@ static uint64_t status_of(nard_result reason)
         return EFI_NOT_FOUND;
     if (reason == TOO_SMALL)
         return EFI_BUFFER_TOO_SMALL;
-    return reason == 0 ? EFI_SUCCESS : EFI_INVALID_PARAMETER;
+    /* A character that became '_' is no error. */
+    return reason == 0 || reason == 25 ? EFI_SUCCESS : EFI_INVALID_PARAMETER;
 }
 
 int main(void)
@@ -37,6 +38,11 @@ int main(void)
             printf("WRONG: the text of reason %u\n", (unsigned)reason);
             wrong = 1;
         }
+    }
+    nard_result once = NARD_NOT_UTF8;
+    if (NARD_EFI_STATUS(once++) != EFI_INVALID_PARAMETER || once != NARD_NOT_UTF8 + 1) {
+        printf("WRONG: a status whose reason is evaluated more than once\n");
+        wrong = 1;
     }
     if (strcmp(nard_reason_text(UINT32_MAX), "unknown reason") != 0)
         wrong = 1;

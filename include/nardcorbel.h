@@ -2,13 +2,14 @@
  * nardcorbel: strings, paths, device paths and load options as UEFI firmware stores them.
  *
  * The library reads and writes memory that the caller provides. No call allocates, keeps a pointer, or calls other code. Every
- * call is proved to do what its contract says if its caller follows the rules below. The contracts are in
- * crates/nardcorbel/CALLING.md; the comments here describe them in words.
+ * call of the archive is proved to do what its contract says if its caller follows the rules below. The contracts are in
+ * crates/nardcorbel/CALLING.md; the comments here describe them in words. The `static inline` functions of this header are C: they
+ * are tested, not proved.
  *
  * Words
  *   unit    a code unit of UCS-2, two bytes
  *   text    units without a NUL and without a surrogate (0xd800 to 0xdfff)
- *   string  a text and its NUL. Units "begin with a string" if a NUL comes before any surrogate; calls do not read beyond the NUL.
+ *   string  a text and its NUL. Units "begin with a string" if a NUL comes before any surrogate; what follows the NUL is ignored.
  *   path    a string of components with separators, '\', between them. One separator at its start is ignored.
  *
  * Rules for the caller
@@ -16,8 +17,10 @@
  *   - Pointers to units, sizes and structs are aligned for their type. Bytes, and so device paths, may have any address. The
  *     name in a node may begin at an odd address: nard_units_from_bytes copies it to an even one.
  *   - The memory has as many elements as the count or the room says, at most PTRDIFF_MAX bytes.
- *   - Memory that a call reads is initialized. Memory that it only writes, a buffer or a number such as *length, need not be.
+ *   - Memory that a call reads is initialized. This is all of an input, up to its count, even after a NUL, because searches test many
+ *     units at once. Memory that a call only writes, a buffer or a number such as *length, need not be initialized.
  *   - A nard_bool is 0 or 1.
+ *   - The stack has 12,000 bytes for a call and the functions that it calls.
  *   - While a call runs, no interrupt, event or other processor writes the call's arguments or reads memory that it writes.
  *   - Memory that a call writes overlaps no other argument. Memory that it only reads may overlap.
  *
@@ -30,9 +33,9 @@
  *   - If a call differs from these rules, its comment says so.
  *
  * Two kinds of archive
- *   - For programs on Linux, by `rt lib`: ELF for x86-64-v2. It may use the red zone, so firmware must not link it.
- *   - For firmware, by tools/firmware-lib: ELF and COFF, for any x86-64 and aarch64 processor, without a red zone, and with only
- *     general registers.
+ *   - libnardcorbel.a, for programs on Linux: ELF for x86-64-v2. It may use the red zone, so firmware must not link it.
+ *   - libnardcorbel_firmware.a and nardcorbel_firmware.lib, for firmware: ELF and COFF, for any x86-64 and aarch64 processor, without
+ *     a red zone, and with only general registers. On aarch64 a release has this one for programs on Linux, too.
  */
 #ifndef NARDCORBEL_H
 #define NARDCORBEL_H
@@ -80,9 +83,26 @@ typedef unsigned long long nard_number; /* of 64 bits */
 #endif
 
 #define NARD_VERSION_MAJOR 0
-#define NARD_VERSION_MINOR 7
+#define NARD_VERSION_MINOR 8
 #define NARD_VERSION_PATCH 0
-#define NARD_VERSION "0.7.0"
+#define NARD_VERSION "0.8.0-dev"
+
+/*
+ * Refers to nard_interface_0_8 without a byte of code, so that an object does not link with an archive of another interface. To leave
+ * it out, define this as nothing first.
+ */
+#ifndef NARD_INTERFACE
+#if defined(__ELF__) && defined(__x86_64__)
+#define NARD_INTERFACE __asm__(".globl nard_interface_0_8\n.reloc ., R_X86_64_NONE, nard_interface_0_8");
+#elif defined(__ELF__) && defined(__aarch64__)
+#define NARD_INTERFACE __asm__(".globl nard_interface_0_8\n.reloc ., R_AARCH64_NONE, nard_interface_0_8");
+#else
+#define NARD_INTERFACE
+#if defined(_WIN32) && !defined(__MINGW32__)
+#pragma comment(linker, "/include:nard_interface_0_8")
+#endif
+#endif
+#endif
 
 #ifdef __cplusplus
 extern "C" {
@@ -147,12 +167,28 @@ static inline const char *nard_reason_text(nard_result reason)
     }
 }
 
-/* The EFI_STATUS for a reason, in programs that have EFI_SUCCESS and the other status codes. */
-#define NARD_EFI_STATUS(reason) \
-    ((reason) == NARD_OK                 ? EFI_SUCCESS \
-     : (reason) == NARD_BUFFER_TOO_SMALL ? EFI_BUFFER_TOO_SMALL \
-     : (reason) == NARD_NO_PARENT || (reason) == NARD_END_OF_PATH || (reason) == NARD_END_OF_ORDER ? EFI_NOT_FOUND \
-                                                                                                   : EFI_INVALID_PARAMETER)
+/*
+ * The EFI_STATUS for a reason, in programs that have EFI_SUCCESS and the other status codes: EFI_NOT_FOUND if there is no parent or
+ * nothing more to read, and EFI_SUCCESS for NARD_CHAR_REPLACED, as the text was written.
+ */
+#define NARD_EFI_STATUS(reason) nard_efi_status(reason, EFI_SUCCESS, EFI_BUFFER_TOO_SMALL, EFI_NOT_FOUND, EFI_INVALID_PARAMETER)
+
+static inline nard_size nard_efi_status(nard_result reason, nard_size success, nard_size too_small, nard_size not_found, nard_size invalid)
+{
+    switch (reason) {
+    case NARD_OK:
+    case NARD_CHAR_REPLACED:
+        return success;
+    case NARD_BUFFER_TOO_SMALL:
+        return too_small;
+    case NARD_NO_PARENT:
+    case NARD_END_OF_PATH:
+    case NARD_END_OF_ORDER:
+        return not_found;
+    default:
+        return invalid;
+    }
+}
 
 /* ---- Strings ---- */
 
@@ -168,7 +204,7 @@ static inline const char *nard_reason_text(nard_result reason)
 nard_result NARD_CALL nard_string_with_nul(const nard_unit *units, nard_size count, nard_size *length);
 
 /*
- * Checks that the units begin with a string. Reads up to the first NUL or surrogate.
+ * Checks that the units begin with a string. What follows the first NUL is ignored, but must be initialized.
  *
  * Returns
  *   NARD_OK            *length is the length of the text
@@ -617,7 +653,8 @@ nard_result NARD_CALL nard_device_path_text(const nard_byte *bytes, nard_size by
 
 /*
  * Formats a device path as libefivar and efibootmgr do, for scripts that read their output. The text is that of
- * nard_device_path_text, but with File(..) around file names, and the numbers of a partition in lower case. For example
+ * nard_device_path_text, but with File(..) around file names, the numbers of a partition in lower case, and the identifier of an NVMe
+ * node from its first byte on. For example
  *     HD(1,GPT,03020100-0504-0706-0809-0a0b0c0d0e0f,0x800,0x100000)/File(\EFI\debian\shimx64.efi)
  *
  * Returns as nard_device_path_text does. A buffer of NARD_DEVICE_PATH_TEXT_ROOM(byte_count) units always has enough room.
@@ -748,14 +785,18 @@ nard_result NARD_CALL nard_device_path_push_text(nard_byte *buffer, nard_size ro
  *   - Case does not matter, except in texts such as file names.
  *   - A number is hexadecimal after 0x and otherwise decimal, and may begin with zeros. Numbers at the end of a call may be left
  *     out, but not all of them.
- *   - Blanks and line ends are ignored in calls and around nodes.
- *   - A file name may be in File(..). It may lack its first backslash if it has another backslash, has no `)`, `:` or
- *     quotation mark, and does not follow a comma. A comma ends an instance.
- *   - Other programs' forms are read, such as MAC(52:54:00:ab:cd:ef), IPv6(fe80::1) and BBS(HD,Drive).
- *   - Quotation marks around the whole text, either " or ', are ignored, and so is one / before the first node. Offsets still
- *     count from the start of the text.
+ *   - Blanks and line ends are ignored in calls and around nodes. A blank at the end of a name that has its first backslash, and
+ *     no blank before it, belongs to the name.
+ *   - A file name may be in File(..). It may lack its first backslash if all of this holds: it contains another backslash; before
+ *     that one it contains no blank, no mark and nothing else that a short name on a FAT volume excludes; it contains no `)`, `:`,
+ *     " or '; and it does not follow a comma, which ends an instance. So a line such as "loader \EFI\a.efi" is rejected.
+ *   - A name must not begin with two backslashes, as in JSON.
+ *   - Other programs' forms are read, such as MAC(52:54:00:ab:cd:ef), IPv6(fe80::1) and BBS(HD,Drive). A field that such a text
+ *     omits has the value that the drivers of EDK II write: a prefix length of 64 for IPv6, and otherwise 0.
+ *   - Quotation marks around the whole text, either " or ', are ignored, and so is one / before the first node, unless GRUB wrote
+ *     it, as in /PCI(0,3): GRUB prints the function first. Offsets still count from the start of the text.
  *
- * A text that nard_device_path_push_text reads is read as the same nodes.
+ * A text that nard_device_path_push_text reads is read as the same nodes, unless a name in it begins with two backslashes.
  *
  * The call refuses numbers without 0x where other programs print hexadecimal numbers without 0x, as in Fibre(5006,0). efibootmgr's
  * text of an NVMe node is the specification's text of another node: use nard_device_path_push_libefivar_text to read efibootmgr's
@@ -777,10 +818,13 @@ nard_result NARD_CALL nard_device_path_push_lenient_text(nard_byte *buffer, nard
  * Adds the nodes of a text, as libefivar and efibootmgr print it, to the device path that a buffer begins with, before its end. The
  * text is UTF-8, for example
  *     PciRoot(0x0)/Pci(0x1d,0x0)/NVMe(0x1,00-25-38-5B-71-B0-03-1C)/HD(1,GPT,12345678-9abc-def0-1234-56789abcdef0,0x800,0x64000)
- * libefivar prints the identifier of an NVMe node from its first byte on, and Ata with three numbers. The call refuses libefivar's
- * Fibre, SAS and UsbClass, because they omit what distinguishes two nodes, and PciRoot and PcieRoot unless their number begins with
- * 0x, because they may have a text instead of the number. It reads all other nodes as nard_device_path_push_lenient_text does, and
- * has the same arguments and results.
+ * libefivar prints the identifier of an NVMe node from its first byte on, and Ata with three numbers. The call rejects
+ *   - Fibre, SAS and UsbClass, which omit what distinguishes two nodes, and iSCSI, whose numbers have another form;
+ *   - PciRoot and PcieRoot whose number does not begin with 0x, because libefivar may print a text in its place;
+ *   - AcpiEx, IPv4 and IPv6 with addresses, and HD without a signature, which omit bytes.
+ * It reads all other nodes as nard_device_path_push_lenient_text does, and has the same arguments and results. If
+ * nard_device_path_push_text reads the text of a path as that path, this call reads what nard_device_path_libefivar_text writes of
+ * it as that path too, or rejects it.
  */
 nard_result NARD_CALL nard_device_path_push_libefivar_text(nard_byte *buffer, nard_size room, const nard_byte *bytes,
                                                            nard_size byte_count, nard_size *length);
@@ -822,8 +866,10 @@ nard_result NARD_CALL nard_device_path_push_lenient_units(nard_byte *buffer, nar
  * Finds the end of the path at the start of a text. Other data may follow the path: efibootmgr -v prints optional data directly
  * after it, for example
  *     HD(1,GPT,12345678-9abc-def0-1234-56789abcdef0,0x800,0x100000)/File(\EFI\debian\shimx64.efi)RC
- * If nard_device_path_push_lenient_text reads the whole text, the path is the whole text. If that call stops at a byte because a
- * node should end there, the path is the text before this byte. The data that follow need not be UTF-8.
+ * The path ends with the first File(..) that other data follow directly, if it can be read up to there: the call ends at the `)` that
+ * closes it, so the name may contain pairs of parentheses. Otherwise the path is the whole text if nard_device_path_push_lenient_text
+ * reads it, and the text before a byte where a node should end if that call stops there. The data need not be UTF-8. Data that begin
+ * with / or , are read as part of the path, and usually rejected.
  *
  * Returns
  *   NARD_OK        *length is the size of the path's text in bytes
@@ -978,6 +1024,9 @@ nard_bool NARD_CALL nard_boot_order_move_to_front(nard_unit *order, nard_size ro
 /* Returns the version of the archive: major * 65536 + minor * 256 + patch. */
 nard_result NARD_CALL nard_version(void);
 
+/* Returns the same. The name changes with the interface, that is with the second number of the version; see NARD_INTERFACE. */
+nard_result NARD_CALL nard_interface_0_8(void);
+
 /* ---- Null pointers ---- */
 
 /*
@@ -988,28 +1037,32 @@ nard_result NARD_CALL nard_version(void);
 static inline const nard_unit *nard_given_units(const nard_unit *units)
 {
     static const nard_unit none = 0;
+    NARD_INTERFACE
     return units ? units : &none;
 }
 
 static inline const nard_byte *nard_given_bytes(const nard_byte *bytes)
 {
     static const nard_byte none = 0;
+    NARD_INTERFACE
     return bytes ? bytes : &none;
 }
 
 static inline nard_unit *nard_given_unit_room(nard_unit *buffer)
 {
     static nard_unit none;
+    NARD_INTERFACE
     return buffer ? buffer : &none;
 }
 
 static inline nard_byte *nard_given_byte_room(nard_byte *buffer)
 {
     static nard_byte none;
+    NARD_INTERFACE
     return buffer ? buffer : &none;
 }
 
-/* Made by tools/check-header --write. */
+/* Made from the prototypes. */
 static inline NARD_MUST_USE nard_result NARD_CALL nard_call_string_with_nul(const nard_unit *units, nard_size count,
         nard_size *length)
 {

@@ -1,5 +1,5 @@
 /*
- * The names that the library had before 0.7.0. Include nardcorbel.h in its place: this header goes with 0.8.0.
+ * The names that the library had before 0.7.0. Include nardcorbel.h in its place: this header goes with 0.9.0.
  * UEFI_NO_ORDER is no longer 2, but the least number of its type.
  */
 #ifndef UEFI_TEXT_H

@@ -116,9 +116,18 @@ pub const NO_ORDER: i32 = i32::MIN;
 /// Returns the version of the library: its three numbers, one byte each, the first one highest.
 #[unsafe(no_mangle)]
 pub extern "C" fn nard_version() -> u32
-    ensures { result ≡ 0x000700 }
+    ensures { result ≡ 0x000800 }
 {
-    0x00_07_00
+    0x00_08_00
+}
+
+/// Returns [`nard_version`]. Its name is that of the interface, to which each object with the header
+/// refers: an object for another interface does not link.
+#[unsafe(no_mangle)]
+pub extern "C" fn nard_interface_0_8() -> u32
+    ensures { result ≡ 0x000800 }
+{
+    nard_version()
 }
 
 /// Does nothing. Its clauses state the numbers that `include/nardcorbel.h` gives the reasons.

@@ -60,8 +60,8 @@ pub extern "C" fn nard_string_with_nul(units: &[u16], place: &mut usize) -> u32
     }
 }
 
-/// Checks that the units begin with a string. Returns `OK`, or the fault. The call does not read
-/// beyond the first NUL.
+/// Checks that the units begin with a string. Returns `OK`, or the fault. What follows the first NUL
+/// is ignored, but must be initialized.
 ///
 /// `place` becomes the same as in [`nard_string_with_nul`]. Does not allocate.
 #[unsafe(no_mangle)]
