@@ -5,11 +5,11 @@ use Rattle.std.specs.Option.{ok_or, option_map}
 use Rattle.std.specs.Result.{result_map_both}
 use Rattle.uefi_device_nodes.specs.Nodes.{Node}
 use Rattle.uefi_node_reader.specs.LenientFields.{after_literal}
-use Rattle.uefi_node_reader.specs.LenientCalls.{cut_call, is_blank, place_at, tidied, whole}
+use Rattle.uefi_node_reader.specs.LenientCalls.{cut_call, is_blank, place_at, tidied}
 use Rattle.uefi_node_reader.specs.LenientNodes.{bare_read, begins_call, call_in, call_read, cut_file, end_fault, ended_at, exact_or, fault_at_byte, file_in, file_or_call, is_base, is_escaped_name, lenient_read, unnamed_fault, open_fault, or_fault, spaced, stop_fault, typed_name, written_read}
 use Rattle.uefi_node_reader.specs.Mistakes.{mistake}
 use Rattle.uefi_node_reader.specs.NearNames.{is_named}
-use Rattle.uefi_node_reader.specs.NamedFiles.{is_after_node, name_read, node_read, past_spaces}
+use Rattle.uefi_node_reader.specs.NamedFiles.{is_after_node, node_read, past_spaces}
 use Rattle.uefi_node_reader.specs.Stops.{◌>?◌}
 use Rattle.uefi_node_reader.specs.declared.faults.Expected.TheVariants as expected
 use Rattle.uefi_node_reader.specs.declared.faults.NodeFault.{NodeFault}

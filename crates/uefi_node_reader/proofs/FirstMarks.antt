@@ -1,5 +1,5 @@
 -- The first of some bytes in a text, as an index and as the rest of the text.
-use Rattle.std.proofs.Common.{◌≡◌, ℕ, suc, ◌+◌, ◌-◌, ◌<◌, ◌≤◌, ◌∙◌, Bool, true, false, cond, eqb, not, ◌||◌, List, [], ◌∷◌, length, drop, take, refl, ap, arith}
+use Rattle.std.proofs.Common.{◌≡◌, ℕ, suc, ◌+◌, ◌<◌, ◌≤◌, ◌∙◌, Bool, true, false, cond, eqb, not, ◌||◌, List, [], ◌∷◌, length, drop, take, refl, ap, arith}
 use Rattle.std.proofs.lemmas.Bool.{lt-ltb, le-ltb}
 use Rattle.std.specs.List.{list_any, position_or_len}
 use Rattle.std.specs.Prelude.{◌==◌, ◌&&◌, Option, Some, None, is_some}

@@ -1,11 +1,11 @@
 -- Forms that stand one group after the other, and what is computed of the whole table.
-use Rattle.std.proofs.Common.{◌≡◌, ℕ, zero, suc, ◌+◌, ◌-◌, ◌<◌, ◌≤◌, Bool, true, false, cond, List, [], ◌∷◌, ◌++◌, length, refl, sym, ap, ◌∙◌, arith}
+use Rattle.std.proofs.Common.{◌≡◌, ℕ, suc, ◌+◌, ◌-◌, ◌<◌, ◌≤◌, Bool, true, false, cond, List, [], ◌∷◌, ◌++◌, length, refl, sym, ap, ◌∙◌, arith}
 use Rattle.std.specs.Prelude.{Some, None, ◌&&◌}
 use Rattle.std.specs.List.{list_all}
 use Rattle.std.proofs.lemmas.Bool.{and_parts}
 use Rattle.uefi_node_table.specs.Rows.{Form, find_form, item_of}
 use Rattle.uefi_node_table.specs.Table.{forms, forms_from, group_forms}
-use Rattle.uefi_node_table.proofs.Groups.{next_group}
+use Rattle.uefi_node_table.proofs.Groups.{all_groups, next_group}
 use Rattle.uefi_node_reader.specs.TableReading.{all_differ, form_place, is_filled, is_sound}
 
 pub table_sound : list_all is_sound forms ≡ true
@@ -20,27 +20,15 @@ pub table_differs : all_differ forms ≡ true
 unfolding group_forms
 table_differs = refl
 
--- the same of each group, and that its forms are filled
-group_holds : (index : ℕ) → index < 12 → (list_all is_sound (group_forms index) && list_all is_filled (group_forms index)) ≡ true
+-- the same of each group, and that its forms are filled: computed
+group_holds : (index : ℕ) → index < 16 → (list_all is_sound (group_forms index) && list_all is_filled (group_forms index)) ≡ true
 unfolding group_forms item_of
-group_holds zero l = refl
-group_holds (suc zero) l = refl
-group_holds (suc (suc zero)) l = refl
-group_holds (suc (suc (suc zero))) l = refl
-group_holds (suc (suc (suc (suc zero)))) l = refl
-group_holds (suc (suc (suc (suc (suc zero))))) l = refl
-group_holds (suc (suc (suc (suc (suc (suc zero)))))) l = refl
-group_holds (suc (suc (suc (suc (suc (suc (suc zero))))))) l = refl
-group_holds (suc (suc (suc (suc (suc (suc (suc (suc zero)))))))) l = refl
-group_holds (suc (suc (suc (suc (suc (suc (suc (suc (suc zero))))))))) l = refl
-group_holds (suc (suc (suc (suc (suc (suc (suc (suc (suc (suc zero)))))))))) l = refl
-group_holds (suc (suc (suc (suc (suc (suc (suc (suc (suc (suc (suc zero))))))))))) l = refl
-group_holds (suc (suc (suc (suc (suc (suc (suc (suc (suc (suc (suc (suc n)))))))))))) l = absurd (omega arith)
+group_holds = all_groups (λ k. list_all is_sound (group_forms k) && list_all is_filled (group_forms k)) refl
 
-pub group_sound : (index : ℕ) → index < 12 → list_all is_sound (group_forms index) ≡ true
+pub group_sound : (index : ℕ) → index < 16 → list_all is_sound (group_forms index) ≡ true
 group_sound index l = (and_parts _ _ (group_holds index l)).0
 
-pub group_filled : (index : ℕ) → index < 12 → list_all is_filled (group_forms index) ≡ true
+pub group_filled : (index : ℕ) → index < 16 → list_all is_filled (group_forms index) ≡ true
 group_filled index l = (and_parts _ _ (group_holds index l)).1
 
 module _ (test : Form → Bool) where
@@ -72,25 +60,25 @@ module _ (test : Form → Bool) where
       by true p q h = absurd (omega arith)
       by false p q h = let others = h (omega arith) in ap (λ (b : Bool). cond b 0 (form_place test (xs ++ bs) + 1)) p ∙ omega arith
 
-module _ (index : ℕ) (more : index < 12) (group : List Form) (is : group ≡ group_forms index) where
+module _ (index : ℕ) (more : index < 15) (group : List Form) (is : group ≡ group_forms index) where
   rest : List Form
-  rest = forms_from (index + 1) (12 - (index + 1))
+  rest = forms_from (index + 1) (15 - (index + 1))
 
-  here : forms_from index (12 - index) ≡ group ++ rest
+  here : forms_from index (15 - index) ≡ group ++ rest
   unfolding rest
-  here = next_group index more ∙ ap (λ (l : List Form). l ++ forms_from (index + 1) (12 - (index + 1))) (sym is)
+  here = next_group index more ∙ ap (λ (l : List Form). l ++ forms_from (index + 1) (15 - (index + 1))) (sym is)
 
   -- the search for a place in one group more
   pub within_step : (test : Form → Bool) (before place all : ℕ) → place ≡ form_place test group → place < length group
-      → before + form_place test (forms_from index (12 - index)) ≡ all → before + place ≡ all
+      → before + form_place test (forms_from index (15 - index)) ≡ all → before + place ≡ all
   within_step test before place all e l a = ap (λ (n : ℕ). before + n)
       (e ∙ sym (place_within test group rest (omega arith)) ∙ ap (λ (l : List Form). form_place test l) (sym here)) ∙ a
 
   pub past_step : (test : Form → Bool) (before place all : ℕ) → place ≡ form_place test group → length group ≤ place
-      → before + form_place test (forms_from index (12 - index)) ≡ all
-      → before + length group + form_place test (forms_from (index + 1) (12 - (index + 1))) ≡ all
+      → before + form_place test (forms_from index (15 - index)) ≡ all
+      → before + length group + form_place test (forms_from (index + 1) (15 - (index + 1))) ≡ all
   unfolding rest
   past_step test before place all e l a =
-      let past : form_place test (forms_from index (12 - index)) ≡ length group + form_place test (forms_from (index + 1) (12 - (index + 1))) =
+      let past : form_place test (forms_from index (15 - index)) ≡ length group + form_place test (forms_from (index + 1) (15 - (index + 1))) =
       ap (λ (l : List Form). form_place test l) here ∙ place_past test group rest (omega arith) in
       omega arith

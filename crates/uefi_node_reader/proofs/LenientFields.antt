@@ -1,5 +1,5 @@
 -- What is read leniently of fields are bytes, as many as the data had.
-use Rattle.std.proofs.Common.{◌≡◌, ℕ, zero, suc, ◌+◌, ◌^◌, ◌<◌, ◌≤◌, Bool, true, false, cond, eqb, ◌&&◌, ◌||◌, List, [], ◌∷◌, ◌++◌, length, drop, refl, sym, ap, subst, ◌∙◌, arith}
+use Rattle.std.proofs.Common.{◌≡◌, ℕ, zero, suc, ◌+◌, ◌^◌, ◌<◌, ◌≤◌, Bool, true, false, cond, eqb, ◌&&◌, List, [], ◌∷◌, ◌++◌, length, drop, refl, sym, ap, subst, ◌∙◌, arith}
 use Rattle.std.specs.Prelude.{All, Option, Some, None, Ok}
 use Rattle.std.specs.List.{list_all}
 use Rattle.std.proofs.Math.ListN.{replicate}
@@ -10,9 +10,11 @@ use Rattle.uefi_text.specs.Packed.{IsByte}
 use Rattle.uefi_node_table.specs.Fields.{fits_shape}
 use Rattle.uefi_node_table.specs.Rows.{Form, Piece, is_within}
 use Rattle.uefi_node_table.specs.declared.rows.Shape.{Shape}
+use Rattle.uefi_node_table.specs.declared.rows.Spare.{Spare}
+use Rattle.uefi_node_table.specs.declared.rows.Spare.TheVariants.{Zeros, Ones}
 use Rattle.uefi_node_table.specs.declared.rows.Shape.TheVariants.{Hexadecimal, Decimal, OrDefault, Back, Forth, Dashed, Next, Eisa, Word as WordShape}
 use Rattle.uefi_node_reader.specs.FieldReading.{◌>>=◌, IsValue, as_bytes, less_one, low_bytes}
-use Rattle.uefi_node_reader.specs.LenientFields.{after_ending, any_field, any_number, any_word, expected_field, is_number, left_out, number_or_word, past_base, value_or_spare}
+use Rattle.uefi_node_reader.specs.LenientFields.{after_ending, any_field, any_number, any_word, expected_field, is_number, number_or_word, past_base, spare_byte, value_or_spare}
 use Rattle.uefi_node_reader.specs.Notations.{lenient, piece_in, pieces_in}
 use Rattle.uefi_node_reader.specs.Stops.{stop_at}
 use Rattle.uefi_node_reader.specs.TableReading.{IsTailTold, blank, first_of, followed, is_read, is_sound, pieces_put, put_at, rest_read, tail_read}
@@ -54,43 +56,40 @@ spares (suc width) spare l =
     let others = spares width spare l in
     (ap suc others.0, All-cons IsByte spare (replicate width spare) l others.1)
 
-left_small : (kind sub_kind place : ℕ) → left_out kind sub_kind place < 256
-left_small kind sub_kind place = by (eqb kind 3 && (eqb sub_kind 15 || (eqb sub_kind 18 && eqb place 2)))
-  where
-    by : (b : Bool) → cond b 0xff 0 < 256
-    by true = omega arith
-    by false = omega arith
+pub spare_small : (spare : Spare) → spare_byte spare < 256
+spare_small Zeros = omega arith
+spare_small Ones = omega arith
 
-spare_value : (shape : Shape) (spare width : ℕ) → spare < 256 → fits_shape shape width ≡ true → (text value rest : List ℕ)
+spare_value : (shape : Shape) (spare : Spare) (width : ℕ) → fits_shape shape width ≡ true → (text value rest : List ℕ)
     → value_or_spare shape spare width text ≡ Some (value, rest) → IsValue width value
-spare_value shape spare width l f text value rest e = by (is_number shape && eqb (first_of text) 41) e
+spare_value shape spare width f text value rest e = by (is_number shape && eqb (first_of text) 41) e
   where
-    by : (b : Bool) → cond b (Some (replicate width spare, text)) (any_field shape width text) ≡ Some (value, rest)
+    by : (b : Bool) → cond b (Some (replicate width (spare_byte spare), text)) (any_field shape width text) ≡ Some (value, rest)
         → IsValue width value
-    by true p = let same = some_pair (replicate width spare, text) (value, rest) p in
-        subst (λ (x : List ℕ). IsValue width x) same.0 (spares width spare l)
+    by true p = let same = some_pair (replicate width (spare_byte spare), text) (value, rest) p in
+        subst (λ (x : List ℕ). IsValue width x) same.0 (spares width (spare_byte spare) (spare_small spare))
     by false p = any_value shape width f text value rest p
 
 -- fields in their places
-pub pieces_in_bytes : (kind sub_kind n : ℕ) (pieces : List Piece) (content text found rest : List ℕ)
+pub pieces_in_bytes : (n : ℕ) (pieces : List Piece) (content text found rest : List ℕ)
     → list_all (is_within n) pieces ≡ true → length content ≡ n → All IsByte content
-    → pieces_in lenient kind sub_kind pieces content text ≡ Ok (found, rest)
+    → pieces_in lenient pieces content text ≡ Ok (found, rest)
     → (length found ≡ n) × All IsByte found
-pieces_in_bytes kind sub_kind n [] content text found rest w l c e =
+pieces_in_bytes n [] content text found rest w l c e =
     let same : content ≡ found = ap (λ (x : List ℕ × List ℕ). x.0) (ok_same (Ok (found, rest)) (content, text) (found, rest) (sym e) refl) in
     (sym (ap length same) ∙ l, subst (λ (x : List ℕ). All IsByte x) same c)
-pieces_in_bytes kind sub_kind n (p ∷ ps) content text found rest w l c e =
+pieces_in_bytes n (p ∷ ps) content text found rest w l c e =
     let ws = and_parts (is_within n p) (list_all (is_within n) ps) w in
     let here = within_parts n p ws.0 in
-    let x = bind_ok (piece_in lenient kind sub_kind p content text) _ (found, rest) e in
-    let v = bind_ok (lenient.value kind sub_kind p text) _ x.0 x.1 in
+    let x = bind_ok (piece_in lenient p content text) _ (found, rest) e in
+    let v = bind_ok (lenient.value p text) _ x.0 x.1 in
     let t = bind_ok (after_ending p.ending v.0.1) _ x.0 v.2 in
-    let read = ok_some (value_or_spare p.shape (left_out kind sub_kind p.place) p.width text) (stop_at text (expected_field p.shape p.width)) v.0 v.1 in
+    let read = ok_some (value_or_spare p.shape p.spare p.width text) (stop_at text (expected_field p.shape p.width)) v.0 v.1 in
     let same : put_at p v.0.0 content ≡ x.0.0 =
     ap (λ (y : List ℕ × List ℕ). y.0) (ok_same (Ok x.0) (put_at p v.0.0 content, t.0) x.0 (sym t.2) refl) in
-    let value = spare_value p.shape (left_out kind sub_kind p.place) p.width (left_small kind sub_kind p.place) here.1 text v.0.0 v.0.1 read in
+    let value = spare_value p.shape p.spare p.width here.1 text v.0.0 v.0.1 read in
     let long : p.place + p.width ≤ length content = omega (arith, here.0, l) in
-    pieces_in_bytes kind sub_kind n ps x.0.0 x.0.1 found rest ws.1
+    pieces_in_bytes n ps x.0.0 x.0.1 found rest ws.1
     (sym (ap length same) ∙ length-put p v.0.0 content value.0 long ∙ l)
     (subst (λ (y : List ℕ). All IsByte y) same (put_bytes p v.0.0 content value.1 c)) x.2
 
@@ -111,7 +110,7 @@ set_of form head tail size bytes others told =
     }
 
 pub form_set_in : (form : Form) → is_sound form ≡ true → is_read form.mode ≡ true → (text content rest : List ℕ) (head : List ℕ × List ℕ)
-    → pieces_in lenient form.kind form.sub_kind form.pieces (blank form) text ≡ Ok head → rest_read form head ≡ Some (content, rest)
+    → pieces_in lenient form.pieces (blank form) text ≡ Ok head → rest_read form head ≡ Some (content, rest)
     → SetIn form content
 form_set_in form s p text content rest h set e =
     let is = sound form p s in
@@ -120,7 +119,7 @@ form_set_in form s p text content rest h set e =
     let f = bind_some (pieces_put form.rest h.0 c.0) (followed x.0.0) (content, rest) c.2 in
     let same = some_pair (f.0.0 ++ x.0.0, f.0.1) (content, rest) f.2 in
     let n : ℕ = length (blank form) in
-    let fields = pieces_in_bytes form.kind form.sub_kind n form.pieces (blank form) text h.0 h.1 is.within refl is.bytes set in
+    let fields = pieces_in_bytes n form.pieces (blank form) text h.0 h.1 is.within refl is.bytes set in
     let others = pieces_takes n form.rest h.0 c.0 f.0.0 f.0.1 is.rest_within is.apart.back fields.0 fields.1 f.1 in
     let tail = tail_takes form.tail form.close h.1 x.0.0 x.0.1 x.1 in
     subst (λ (y : List ℕ). SetIn form y) same.0

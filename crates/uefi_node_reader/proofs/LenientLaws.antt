@@ -23,7 +23,7 @@ use Rattle.uefi_node_reader.specs.Stops.{◌>?◌, rest_end, stop_at, stop_of}
 use Rattle.uefi_node_reader.specs.NamedFiles.{IsTold, before_spaces, ends_name, is_after_node, is_name, name_bytes, name_data, name_read, node_read, past_spaces}
 use Rattle.uefi_node_reader.specs.TableReading.{is_empty, is_read, is_sound, rest_read}
 use Rattle.uefi_node_table.specs.declared.rows.Mode.{Mode}
-use Rattle.uefi_node_table.specs.declared.rows.Mode.TheVariants.{Read, Printed, Display}
+use Rattle.uefi_node_table.specs.declared.rows.Mode.TheVariants.{Read, Printed, Display, Libefivar, People}
 use Rattle.uefi_node_reader.specs.declared.faults.Expected.TheVariants as expected
 use Rattle.uefi_node_reader.specs.declared.faults.NodeFault.{NodeFault}
 use Rattle.uefi_node_reader.specs.declared.faults.Stop.{Stop}
@@ -35,8 +35,6 @@ use Rattle.uefi_node_reader.proofs.LenientNumbers.{number_small}
 use Rattle.uefi_node_reader.proofs.Literals.{bind_ok, bind_some, map_ok, ok_same, ok_some}
 use Rattle.uefi_node_reader.proofs.NamedFiles.{name_takes}
 use Rattle.uefi_node_reader.proofs.NodeLaws.{node_starts, node_takes}
-use Rattle.uefi_node_reader.specs.OtherForms.{pasted_forms}
-use Rattle.uefi_node_reader.proofs.OtherForms.{pasted_sound}
 use Rattle.uefi_node_reader.proofs.PlainNodes.{rest_takes}
 use Rattle.uefi_node_reader.proofs.Spaces.{IsEnd, past_spaces-after, rest_then, spaces_end, whole_end}
 use Rattle.uefi_node_reader.specs.ShortAddresses.{short_ipv6}
@@ -97,6 +95,8 @@ tried_told form sound text node e = by (begins_call_name form.start text) form.m
     by true Read m q = textless (is_textless form.tail) (ap is_read m) q
     by true Printed m q = cc
     by true Display m q = cc
+    by true Libefivar m q = cc
+    by true People m q = textless (is_textless form.tail) (ap is_read m) q
 
 forms_told : (all : List Form) → list_all is_sound all ≡ true → (furthest : Option Stop) (text : List ℕ) (node : Node)
     → forms_tried all furthest text ≡ Ok node → IsTold node
@@ -153,10 +153,7 @@ call_is_told : (o : Option Stop) (text : List ℕ) (node : Node) → call_tried 
 call_is_told (Some stop) text node e = cc
 call_is_told None text node e = elim (next_way (forms_tried forms None text) _ node e) [
   | inl p ↦ forms_told forms table_sound None text node p
-  | inr q ↦ elim (next_way (forms_tried pasted_forms q.0 text) _ node q.1) [
-    | inl p ↦ forms_told pasted_forms pasted_sound q.0 text node p
-    | inr p ↦ names_are_told p.0 text node p.1
-  ]
+  | inr p ↦ names_are_told p.0 text node p.1
 ]
 
 -- any call, with a text or without one

@@ -30,13 +30,13 @@ module _ {A : Type 0} where
         ∙ next_assoc (tried place x) (λ stop. first_tried tried (place + 1) xs (further furthest stop)) (first_tried tried (place + suc (length xs)) ys)
 
     -- trying one group more
-    pub tried_step : (index : ℕ) → index < 12 → (group : List Form) → group ≡ group_forms index
+    pub tried_step : (index : ℕ) → index < 15 → (group : List Form) → group ≡ group_forms index
         → (place : ℕ) (furthest : Option Stop) (all : Result A (Option Stop))
-        → first_tried tried place (forms_from index (12 - index)) furthest ≡ all
+        → first_tried tried place (forms_from index (15 - index)) furthest ≡ all
         → (here : Result A (Option Stop)) → here ≡ first_tried tried place group furthest
-        → or_next here (first_tried tried (place + length group) (forms_from (index + 1) (12 - (index + 1)))) ≡ all
+        → or_next here (first_tried tried (place + length group) (forms_from (index + 1) (15 - (index + 1)))) ≡ all
     tried_step index more group is place furthest all so_far here e =
-        let others = forms_from (index + 1) (12 - (index + 1)) in
+        let others = forms_from (index + 1) (15 - (index + 1)) in
         ap (λ (r : Result A (Option Stop)). or_next r (first_tried tried (place + length group) others)) e
         ∙ sym (tried_append place group others furthest)
         ∙ ap (λ (l : List Form). first_tried tried place l furthest)

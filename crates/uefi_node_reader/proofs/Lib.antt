@@ -38,7 +38,6 @@ pub mod LenientReads
 pub mod ToldForms
 pub mod TextCalls
 pub mod FaultPlaces
-pub mod OtherForms
 pub mod LenientLaws
 pub mod StyledLaws
 pub mod Alike

@@ -8,7 +8,7 @@ use Rattle.uefi_node_table.specs.Rows.{Form, Piece}
 use Rattle.uefi_node_reader.specs.FieldReading.{◌>>=◌, field_read}
 use Rattle.uefi_node_reader.specs.Notations.{Rules, exact, head_in, pieces_in}
 use Rattle.uefi_node_reader.specs.Stops.{◌>?◌}
-use Rattle.uefi_node_reader.specs.TableReading.{blank, form_read, is_read, pieces_put, put_at, rest_read}
+use Rattle.uefi_node_reader.specs.TableReading.{blank, form_read, is_exact, pieces_put, put_at, rest_read}
 use Rattle.uefi_node_reader.specs.WordReading.{after}
 
 module _ {E A : Type 0} (bytes : A → List ℕ) where
@@ -40,13 +40,13 @@ module _ {E A : Type 0} (bytes : A → List ℕ) where
       by (Err e) = refl
 
 -- fields that are read exactly
-pub pieces_exact : (kind sub_kind : ℕ) (pieces : List Piece) (content text : List ℕ)
-    → result_ok (pieces_in exact kind sub_kind pieces content text) ≡ pieces_put pieces content text
-pieces_exact kind sub_kind [] content text = refl
-pieces_exact kind sub_kind (p ∷ ps) content text = by (pieces_exact kind sub_kind ps) (field_read p.shape p.width text)
+pub pieces_exact : (pieces : List Piece) (content text : List ℕ)
+    → result_ok (pieces_in exact pieces content text) ≡ pieces_put pieces content text
+pieces_exact [] content text = refl
+pieces_exact (p ∷ ps) content text = by (pieces_exact ps) (field_read p.shape p.width text)
   where
     Others : Type 0
-    Others = (content text : List ℕ) → result_ok (pieces_in exact kind sub_kind ps content text) ≡ pieces_put ps content text
+    Others = (content text : List ℕ) → result_ok (pieces_in exact ps content text) ≡ pieces_put ps content text
 
     ok : List ℕ → List ℕ → Result (List ℕ × List ℕ) (Unit {0})
     ok put rest = Ok (put, rest)
@@ -55,27 +55,27 @@ pieces_exact kind sub_kind (p ∷ ps) content text = by (pieces_exact kind sub_k
     some put rest = Some (put, rest)
 
     ends : Others → (put : List ℕ) (o : Option (List ℕ))
-        → result_ok ((ok_or o tt >? λ rest. ok put rest) >? λ read. pieces_in exact kind sub_kind ps read.0 read.1)
+        → result_ok ((ok_or o tt >? λ rest. ok put rest) >? λ read. pieces_in exact ps read.0 read.1)
         ≡ ((o >>= λ rest. some put rest) >>= λ read. pieces_put ps read.0 read.1)
     ends others put None = refl
     ends others put (Some rest) = others put rest
 
     by : Others → (o : Option (List ℕ × List ℕ))
         → result_ok ((ok_or o tt >? λ value. ok_or (after p.ending value.1) tt >? λ rest. ok (put_at p value.0 content) rest)
-        >? λ read. pieces_in exact kind sub_kind ps read.0 read.1)
+        >? λ read. pieces_in exact ps read.0 read.1)
         ≡ ((o >>= λ value. after p.ending value.1 >>= λ rest. some (put_at p value.0 content) rest) >>= λ read. pieces_put ps read.0 read.1)
     by others None = refl
     by others (Some value) = ends others (put_at p value.0 content) (after p.ending value.1)
 
 -- a node of a form that is read exactly
-pub form_exact : (form : Form) (text : List ℕ) → is_read form.mode ≡ true
+pub form_exact : (form : Form) (text : List ℕ) → is_exact form.mode ≡ true
     → (result_ok (head_in exact form text) >>= rest_read form) ≡ form_read form text
 form_exact form text mode = by (after form.start text) ∙ sym (ap (λ (b : Bool). cond b (after form.start text >>= fields) None) mode)
   where
     fields : List ℕ → Option (List ℕ × List ℕ)
     fields t = pieces_put form.pieces (blank form) t >>= rest_read form
 
-    by : (o : Option (List ℕ)) → (result_ok (ok_or o tt >? pieces_in exact form.kind form.sub_kind form.pieces (blank form)) >>= rest_read form)
+    by : (o : Option (List ℕ)) → (result_ok (ok_or o tt >? pieces_in exact form.pieces (blank form)) >>= rest_read form)
         ≡ (o >>= fields)
     by None = refl
-    by (Some rest) = ap (λ (o : Option (List ℕ × List ℕ)). o >>= rest_read form) (pieces_exact form.kind form.sub_kind form.pieces (blank form) rest)
+    by (Some rest) = ap (λ (o : Option (List ℕ × List ℕ)). o >>= rest_read form) (pieces_exact form.pieces (blank form) rest)

@@ -14,7 +14,7 @@ use Rattle.uefi_device_nodes.specs.Nodes.{Node, node_with}
 use Rattle.uefi_node_reader.specs.CompleteTexts.{tells, tells_data, tells_fixed, tells_tail}
 use Rattle.uefi_node_reader.specs.NamedFiles.{IsTold}
 use Rattle.uefi_node_reader.specs.ShortAddresses.{call_data, is_fixed, short_ipv6, told_fixed}
-use Rattle.uefi_node_reader.specs.TableReading.{IsTailTold, is_read, prints}
+use Rattle.uefi_node_reader.specs.TableReading.{IsTailTold, is_exact, prints}
 use Rattle.uefi_node_reader.proofs.CallBytes.{call_bytes}
 use Rattle.uefi_node_reader.proofs.ToldNodes.{tells_told}
 
@@ -30,7 +30,7 @@ tail_tells : (form : Form) (node : Node) → find_form (prints node) forms ≡ S
 unfolding tells
 tail_tells form node found e =
     let fits = and_parts (leb (length node.content) 0xfffb) (tells_data form node.content (find_form (prints node) forms)) e in
-    let read = and_parts (is_read form.mode) (tells_fixed form (take form.least node.content) && tells_tail form form.least form.tail form.close (length node.content))
+    let read = and_parts (is_exact form.mode) (tells_fixed form (take form.least node.content) && tells_tail form form.least form.tail form.close (length node.content))
     (subst (λ (o : Option Form). tells_data form node.content o ≡ true) found fits.1) in
     (and_parts (tells_fixed form (take form.least node.content)) (tells_tail form form.least form.tail form.close (length node.content)) read.1).1
 

@@ -24,8 +24,8 @@ use Rattle.uefi_node_reader.proofs.LenientLaws.{WellRead, call_starts, cut_end, 
 use Rattle.uefi_node_reader.proofs.ToldForms.{told_as}
 use Rattle.uefi_node_reader.proofs.Spaces.{past_spaces-after}
 use Rattle.uefi_node_reader.proofs.Literals.{bind_some, ok_some}
-use Rattle.uefi_node_reader.specs.OtherForms.{own_forms}
-use Rattle.uefi_node_reader.proofs.OtherForms.{own_sound}
+use Rattle.uefi_node_table.specs.Table.{libefivar_forms}
+use Rattle.uefi_node_reader.proofs.Groups.{group_sound}
 use Rattle.uefi_node_reader.proofs.TableLaws.{form_takes}
 use Rattle.uefi_node_reader.proofs.ToldNodes.{tells_told}
 
@@ -60,9 +60,9 @@ own_well text node before rest e spaces after = by (begins_call text) refl e
     by false c p = cc
     by true c p =
         let call = bind_some (cut_call text) _ (node, before) p in
-        let read = with_rest (forms_exact own_forms (tidied call.0.0)) call.0.1 node before call.2 in
+        let read = with_rest (forms_exact libefivar_forms (tidied call.0.0)) call.0.1 node before call.2 in
         record {
-          told = all_told own_forms own_sound (tidied call.0.0) node read.0;
+          told = all_told libefivar_forms (group_sound 15 (omega arith)) (tidied call.0.0) node read.0;
           rest_of = spaced_rest text before rest (subst (λ (x : List ℕ). IsRestOf text x) read.1 (cut_end text call.0 call.1)) spaces;
           ends = after;
           starts = call_starts text c;

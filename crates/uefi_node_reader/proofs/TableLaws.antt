@@ -11,10 +11,12 @@ use borrow.Author.Tests.{eq-eqb, eqb-true, ltb-true}
 use Rattle.uefi_text.specs.Packed.{IsByte}
 use Rattle.uefi_node_table.specs.Rows.{Form, Piece, fields_of, find_form, form_text, is_used, is_within, pieces_text, tail_text}
 use Rattle.uefi_node_table.specs.Table.{text_in}
+use Rattle.uefi_node_table.specs.declared.rows.Mode.{Mode}
+use Rattle.uefi_node_table.specs.declared.rows.Mode.TheVariants.{Read, Printed, Display, Libefivar, People}
 use Rattle.uefi_device_nodes.specs.Nodes.{Node, node_with}
 use Rattle.uefi_node_reader.specs.FieldReading.{◌>>=◌, either_read, read_if}
 use Rattle.uefi_node_reader.specs.WordReading.{after}
-use Rattle.uefi_node_reader.specs.TableReading.{IsTabled, IsTailTold, IsWhole, all_differ, are_apart, blank, differ, ends_pieces, ends_tail, followed, form_place, form_read, forms_read, is_apart, is_kept, is_open, is_read, is_sound, kept, overlay, pieces_differ, pieces_put, printed_in, prints, rest_read, table_read, tail_read}
+use Rattle.uefi_node_reader.specs.TableReading.{IsTabled, IsTailTold, IsWhole, all_differ, are_apart, blank, differ, ends_pieces, ends_tail, followed, form_place, form_read, forms_read, is_apart, is_kept, is_exact, is_open, is_read, is_sound, kept, overlay, pieces_differ, pieces_put, printed_in, prints, rest_read, table_read, tail_read}
 use Rattle.uefi_node_reader.specs.WordReading.{clash, same_text}
 use Rattle.uefi_node_reader.proofs.Digits.{some_pair}
 use Rattle.uefi_node_reader.proofs.Literals.{after_again, after_some, after_takes, bind_some, clash_none, same_is}
@@ -65,17 +67,25 @@ sound form r e =
       size = eqb-true _ _ fixed.1;
     }
 
+-- a form that is read exactly is read
+pub exact_is_read : (mode : Mode) → is_exact mode ≡ true → is_read mode ≡ true
+exact_is_read Read e = refl
+exact_is_read Printed e = cc
+exact_is_read Display e = cc
+exact_is_read Libefivar e = refl
+exact_is_read People e = cc
+
 -- what a form reads, where it is read
 abbrev body : Form → List ℕ → Option (List ℕ × List ℕ)
 body form text = after form.start text >>= λ t. pieces_put form.pieces (blank form) t >>= rest_read form
 
-reads : (form : Form) (text : List ℕ) → is_read form.mode ≡ true → form_read form text ≡ body form text
+reads : (form : Form) (text : List ℕ) → is_exact form.mode ≡ true → form_read form text ≡ body form text
 reads form text r = ap (λ (b : Bool). cond b (body form text) None) r
 
-is_body : (form : Form) (text : List ℕ) (x : List ℕ × List ℕ) → form_read form text ≡ Some x → (is_read form.mode ≡ true) × (body form text ≡ Some x)
-is_body form text x e = by (is_read form.mode) refl e
+is_body : (form : Form) (text : List ℕ) (x : List ℕ × List ℕ) → form_read form text ≡ Some x → (is_exact form.mode ≡ true) × (body form text ≡ Some x)
+is_body form text x e = by (is_exact form.mode) refl e
   where
-    by : (b : Bool) → is_read form.mode ≡ b → cond b (body form text) None ≡ Some x → (is_read form.mode ≡ true) × (body form text ≡ Some x)
+    by : (b : Bool) → is_exact form.mode ≡ b → cond b (body form text) None ≡ Some x → (is_exact form.mode ≡ true) × (body form text ≡ Some x)
     by true p q = (p, q)
     by false p q = cc
 
@@ -85,10 +95,10 @@ text_parts : (form : Form) (content rest : List ℕ) → form_text form content 
     ++ (form.close ++ (pieces_text form.rest content ++ rest))))
 text_parts form content rest = simp append_assoc
 
-form_again : (form : Form) → is_read form.mode ≡ true → is_sound form ≡ true → (content : List ℕ) → form.least ≤ length content → All IsByte content → IsWhole form content
+form_again : (form : Form) → is_exact form.mode ≡ true → is_sound form ≡ true → (content : List ℕ) → form.least ≤ length content → All IsByte content → IsWhole form content
     → (rest : List ℕ) → form_read form (form_text form content ++ rest) ≡ Some (content, rest)
 form_again form r s content l all whole rest =
-    let is = sound form r s in
+    let is = sound form (exact_is_read form.mode r) s in
     let extra : List ℕ = drop form.least content in
     let others : List ℕ = pieces_text form.rest content ++ rest in
     let ending : List ℕ = form.close ++ others in
@@ -112,7 +122,7 @@ form_again form r s content l all whole rest =
 -- what is known of data that were read in a form
 pub record Taken (form : Form) (text content rest : List ℕ) : Type 0 where
   pub text_is : text ≡ form_text form content ++ rest
-  pub read : is_read form.mode ≡ true
+  pub read : is_exact form.mode ≡ true
   pub whole : IsWhole form content
   pub bytes : All IsByte content
 
@@ -128,7 +138,7 @@ values_same n head extra l = alike (is_within n) (head ++ extra) head (λ p w.
 pub form_takes : (form : Form) → is_sound form ≡ true → (text content rest : List ℕ) → form_read form text ≡ Some (content, rest) → Taken form text content rest
 form_takes form s text content rest read =
     let r = is_body form text (content, rest) read in
-    let is = sound form r.0 s in
+    let is = sound form (exact_is_read form.mode r.0) s in
     let n : ℕ = length (blank form) in
     let t = bind_some (after form.start text) _ (content, rest) r.1 in
     let h = bind_some (pieces_put form.pieces (blank form) t.0) (rest_read form) (content, rest) t.2 in
@@ -247,12 +257,12 @@ stands test (f ∷ fs) form e = by (test f) refl e (stands test fs form)
         }
 
 -- a form is not read where a node stands in another
-not_read : (one other : Form) → differ one other ≡ true → is_read other.mode ≡ true → is_sound other ≡ true → (content rest : List ℕ) → other.least ≤ length content
+not_read : (one other : Form) → differ one other ≡ true → is_exact other.mode ≡ true → is_sound other ≡ true → (content rest : List ℕ) → other.least ≤ length content
     → All IsByte content → form_read one (form_text other content ++ rest) ≡ None
-not_read one other d r s content rest l all = first (is_read one.mode) refl
+not_read one other d r s content rest l all = first (is_exact one.mode) refl
   where
     is : Sound other
-    is = sound other r s
+    is = sound other (exact_is_read other.mode r) s
 
     tail : List ℕ
     tail = tail_text other.tail (drop other.least content) ++ (other.close ++ (pieces_text other.rest content ++ rest))
@@ -273,18 +283,18 @@ not_read one other d r s content rest l all = first (is_read one.mode) refl
         (differ_none (length (blank other)) one.pieces other.pieces (blank one) content tail parts.1 is.within (is_open other.tail) is.ends
         (tail_starts other.tail other.close (drop other.least content) (pieces_text other.rest content ++ rest) is.tail_ends) (omega (arith, is.size)) all)
 
-    first : (b : Bool) → is_read one.mode ≡ b → form_read one (form_text other content ++ rest) ≡ None
+    first : (b : Bool) → is_exact one.mode ≡ b → form_read one (form_text other content ++ rest) ≡ None
     first false p = ap (λ (b : Bool). cond b (body one (form_text other content ++ rest)) None) p
     first true p =
         reads one (form_text other content ++ rest) p ∙ ap (λ (x : List ℕ). body one x) (text_parts other content rest)
-        ∙ by (clash one.start other.start) refl (asked (is_read other.mode) _ r (asked (is_read one.mode) _ p d))
+        ∙ by (clash one.start other.start) refl (asked (is_exact other.mode) _ r (asked (is_exact one.mode) _ p d))
 
 one_of : (one form : Form) (before others : List Form) → list_all (differ one) (before ++ form ∷ others) ≡ true → differ one form ≡ true
 one_of one form [] others e = (and_parts (differ one form) (list_all (differ one) others) e).0
 one_of one form (b ∷ bs) others e = one_of one form bs others (and_parts (differ one b) (list_all (differ one) (bs ++ form ∷ others)) e).1
 
 skips : (all : List Form) (before : List Form) (form : Form) (others : List Form) (place : ℕ) → all_differ (before ++ form ∷ others) ≡ true
-    → is_read form.mode ≡ true → is_sound form ≡ true → (content rest : List ℕ) → form.least ≤ length content → All IsByte content
+    → is_exact form.mode ≡ true → is_sound form ≡ true → (content rest : List ℕ) → form.least ≤ length content → All IsByte content
     → forms_read all place (before ++ form ∷ others) (form_text form content ++ rest) ≡ forms_read all (place + length before) (form ∷ others) (form_text form content ++ rest)
 skips all [] form others place d r s content rest l bytes = ap (λ (n : ℕ). forms_read all n (form ∷ others) (form_text form content ++ rest)) {x = place} {y = place + 0} (omega arith)
 skips all (b ∷ bs) form others place d r s content rest l bytes =
@@ -327,7 +337,7 @@ unread all place (f ∷ fs) start others e =
     let parts = and_parts (clash f.start start) (list_all (λ g. clash g.start start) fs) e in
     let none : body f (start ++ others) ≡ None = ap (λ (o : Option (List ℕ)). option_and_then (λ (t : List ℕ). pieces_put f.pieces (blank f) t >>= rest_read f) o)
     (clash_none f.start start others parts.0) in
-    ap (λ (o : Option (List ℕ × List ℕ)). either_read (kept all place f o) (forms_read all (place + 1) fs (start ++ others))) (by (is_read f.mode) none)
+    ap (λ (o : Option (List ℕ × List ℕ)). either_read (kept all place f o) (forms_read all (place + 1) fs (start ++ others))) (by (is_exact f.mode) none)
     ∙ unread all (place + 1) fs start others parts.1
   where
     by : (b : Bool) → body f (start ++ others) ≡ None → cond b (body f (start ++ others)) None ≡ None

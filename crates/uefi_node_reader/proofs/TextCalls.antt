@@ -1,5 +1,5 @@
 -- What is read of a call that holds a text is told.
-use Rattle.std.proofs.Common.{◌≡◌, ℕ, Bool, true, false, cond, leb, ◌&&◌, List, [], ◌∷◌, ◌++◌, length, refl, sym, ap, subst, ◌∙◌, inl, inr, arith}
+use Rattle.std.proofs.Common.{◌≡◌, ℕ, Bool, true, false, cond, leb, ◌&&◌, List, [], ◌∷◌, ◌++◌, length, refl, sym, ap, subst, ◌∙◌, inl, arith}
 use Rattle.std.specs.Prelude.{All, Option, Some, None, Result, Ok, Err}
 use Rattle.std.specs.List.{list_all}
 use Rattle.std.specs.Option.{ok_or, option_map}
@@ -10,30 +10,28 @@ use Rattle.uefi_text.specs.Packed.{IsByte}
 use Rattle.uefi_node_table.specs.Rows.{Form}
 use Rattle.uefi_node_table.specs.Table.{forms}
 use Rattle.uefi_node_table.specs.declared.rows.Mode.{Mode}
-use Rattle.uefi_node_table.specs.declared.rows.Mode.TheVariants.{Read, Printed, Display}
+use Rattle.uefi_node_table.specs.declared.rows.Mode.TheVariants.{Read, Printed, Display, Libefivar, People}
 use Rattle.uefi_node_table.specs.declared.rows.Tail.{Tail}
 use Rattle.uefi_node_table.specs.declared.rows.Tail.TheVariants.{Ids}
 use Rattle.uefi_device_nodes.specs.Nodes.{Node}
 use Rattle.uefi_node_reader.specs.FieldReading.{clear_run, is_clear}
-use Rattle.uefi_node_reader.specs.LenientCalls.{begins_call_name, first_tried, told_in}
+use Rattle.uefi_node_reader.specs.LenientCalls.{begins_call_name, told_in}
 use Rattle.uefi_node_reader.specs.LenientFields.{after_ending, after_literal}
 use Rattle.uefi_node_reader.specs.NamedFiles.{IsTold}
-use Rattle.uefi_node_reader.specs.OtherForms.{pasted_forms}
 use Rattle.uefi_node_reader.specs.ParsedNodes.{fitting}
 use Rattle.uefi_node_reader.specs.Notations.{head_in, lenient, pieces_in}
 use Rattle.uefi_node_reader.specs.Stops.{◌>?◌, past, stop_at}
 use Rattle.uefi_node_reader.specs.TableReading.{IsTailTold, as_ids, blank, first_of, is_empty, is_read, is_sound, tail_read}
-use Rattle.uefi_node_reader.specs.TextCalls.{call_left, holds_ids, holds_text, left_of, or_commas, stop_before, text_call_told, text_left, text_stop, text_told, text_tried, texts_tried, uid_call_told, uid_told, uid_tried}
+use Rattle.uefi_node_reader.specs.TextCalls.{call_left, holds_ids, holds_text, left_of, or_commas, stop_before, text_call_told, text_left, text_stop, text_told, text_tried, texts_tried, uid_call_told, uid_told, uid_tried, words_tried}
 use Rattle.uefi_node_reader.specs.declared.faults.Expected.TheVariants as expected
 use Rattle.uefi_node_reader.specs.declared.faults.Stop.{Stop}
 use Rattle.uefi_node_reader.proofs.ClearTexts.{clear_bytes, clear_takes}
 use Rattle.uefi_node_reader.proofs.Groups.{table_sound}
 use Rattle.uefi_node_reader.proofs.LenientFields.{SetIn, pieces_in_bytes, set_of}
 use Rattle.uefi_node_reader.proofs.Literals.{bind_ok, map_ok, ok_some}
-use Rattle.uefi_node_reader.proofs.OtherForms.{pasted_sound}
 use Rattle.uefi_node_reader.proofs.TableLaws.{Sound, sound}
 use Rattle.uefi_node_reader.proofs.TailLaws.{tail_takes}
-use Rattle.uefi_node_reader.proofs.ToldForms.{all_told, next_way, of_form, told_as, told_in-fitting}
+use Rattle.uefi_node_reader.proofs.ToldForms.{all_told, of_form, told_as, told_in-fitting}
 use Rattle.uefi_node_reader.proofs.ToldNodes.{tells_told}
 
 -- data that do not fit a node
@@ -57,7 +55,7 @@ module _ (form : Form) (fixed text call : List ℕ) where
   after_pieces content all = ok_or (told_in form (Some (all.0 ++ content, all.1))) (stop_at all.1 expected.Untold)
 
   abbrev after_tail : List ℕ × List ℕ → Result Node Stop
-  after_tail tail = after_ending form.close (call_left call tail.1) >? pieces_in lenient form.kind form.sub_kind form.rest fixed >? after_pieces tail.0
+  after_tail tail = after_ending form.close (call_left call tail.1) >? pieces_in lenient form.rest fixed >? after_pieces tail.0
 
   -- in the text
   pub text_unread : (stop : Stop) → Err stop ≡ ok_or (past (tail_read form.tail form.close text)) (text_stop form.tail text)
@@ -74,28 +72,28 @@ module _ (form : Form) (fixed text call : List ℕ) where
     -- at its end
     pub end_unread : (stop : Stop) → Err stop ≡ after_ending form.close (call_left call tail.1) → Err stop ≡ text_told form fixed text call
     end_unread stop e =
-        ap (λ (r : Result (List ℕ) Stop). r >? pieces_in lenient form.kind form.sub_kind form.rest fixed >? after_pieces tail.0) e
+        ap (λ (r : Result (List ℕ) Stop). r >? pieces_in lenient form.rest fixed >? after_pieces tail.0) e
         ∙ ap (λ (o : Option (List ℕ × List ℕ)). ok_or o (text_stop form.tail text) >? after_tail) (sym read)
 
     -- in the fields after it
     pub fields_unread : (rest : List ℕ) (stop : Stop) → Ok rest ≡ after_ending form.close (call_left call tail.1)
-        → Err stop ≡ pieces_in lenient form.kind form.sub_kind form.rest fixed rest → Err stop ≡ text_told form fixed text call
+        → Err stop ≡ pieces_in lenient form.rest fixed rest → Err stop ≡ text_told form fixed text call
     fields_unread rest stop start e =
         ap (λ (r : Result (List ℕ × List ℕ) Stop). r >? after_pieces tail.0) e
-        ∙ ap (λ (r : Result (List ℕ) Stop). r >? pieces_in lenient form.kind form.sub_kind form.rest fixed >? after_pieces tail.0) start
+        ∙ ap (λ (r : Result (List ℕ) Stop). r >? pieces_in lenient form.rest fixed >? after_pieces tail.0) start
         ∙ ap (λ (o : Option (List ℕ × List ℕ)). ok_or o (text_stop form.tail text) >? after_tail) (sym read)
 
 -- a node of a form, by its text and what follows
 module _ (form : Form) (fixed text call : List ℕ) (tail : List ℕ × List ℕ) (read : tail_read form.tail form.close text ≡ Some tail)
     (rest : List ℕ) (start : Ok rest ≡ after_ending form.close (call_left call tail.1)) (all : List ℕ × List ℕ)
-    (set : Ok all ≡ pieces_in lenient form.kind form.sub_kind form.rest fixed rest) where
+    (set : Ok all ≡ pieces_in lenient form.rest fixed rest) where
   pub from_text : ok_or (told_in form (Some (all.0 ++ tail.0, all.1))) (stop_at all.1 expected.Untold) ≡ text_told form fixed text call
   from_text =
       ap (λ (r : Result (List ℕ × List ℕ) Stop). r >? λ x. ok_or (told_in form (Some (x.0 ++ tail.0, x.1))) (stop_at x.1 expected.Untold)) set
-      ∙ ap (λ (r : Result (List ℕ) Stop). r >? pieces_in lenient form.kind form.sub_kind form.rest fixed
+      ∙ ap (λ (r : Result (List ℕ) Stop). r >? pieces_in lenient form.rest fixed
       >? λ x. ok_or (told_in form (Some (x.0 ++ tail.0, x.1))) (stop_at x.1 expected.Untold)) start
       ∙ ap (λ (o : Option (List ℕ × List ℕ)). ok_or o (text_stop form.tail text) >? λ y. after_ending form.close (call_left call y.1)
-      >? pieces_in lenient form.kind form.sub_kind form.rest fixed
+      >? pieces_in lenient form.rest fixed
       >? λ x. ok_or (told_in form (Some (x.0 ++ y.0, x.1))) (stop_at x.1 expected.Untold)) (sym read)
 
 -- a node with these data, which its text tells
@@ -121,7 +119,7 @@ module _ (form : Form) (mode : is_read form.mode ≡ true) (is_sound_form : is_s
       let read = ok_some (tail_read form.tail form.close text) (text_stop form.tail text) tail.0 tail.1 in
       let all = bind_ok _ _ node tail.2 in
       let start = bind_ok (after_ending form.close (call_left call tail.0.1)) _ all.0 all.1 in
-      let set = pieces_in_bytes form.kind form.sub_kind (length (blank form)) form.rest fixed start.0 all.0.0 all.0.1 is.rest_within size bytes start.2 in
+      let set = pieces_in_bytes (length (blank form)) form.rest fixed start.0 all.0.0 all.0.1 is.rest_within size bytes start.2 in
       let told = tail_takes form.tail form.close text tail.0.0 tail.0.1 read in
       told_set form (all.0.0 ++ tail.0.0) all.0.1 node
       (set_of form all.0.0 tail.0.0 (set.0 ∙ is.size) set.1 told.1 told.2)
@@ -131,7 +129,7 @@ module _ (form : Form) (mode : is_read form.mode ≡ true) (is_sound_form : is_s
       → (length head.0 ≡ length (blank form)) × All IsByte head.0
   head_bytes call head e =
       let start = bind_ok (after_literal form.start call) _ head e in
-      pieces_in_bytes form.kind form.sub_kind (length (blank form)) form.pieces (blank form) start.0 head.0 head.1 is.within refl is.bytes start.2
+      pieces_in_bytes (length (blank form)) form.pieces (blank form) start.0 head.0 head.1 is.within refl is.bytes start.2
 
   text_call_is_told : (front call : List ℕ) (node : Node) → text_call_told form front call ≡ Ok node → IsTold node
   text_call_is_told front call node e =
@@ -180,9 +178,11 @@ text_mode : (mode : Mode) (tail : Tail) → holds_text mode tail ≡ true → is
 text_mode Read tail e = refl
 text_mode Printed tail e = cc
 text_mode Display tail e = cc
+text_mode Libefivar tail e = cc
+text_mode People tail e = cc
 
 ids_mode : (mode : Mode) (tail : Tail) → holds_ids mode tail ≡ true → (is_read mode ≡ true) × (tail ≡ Ids)
-ids_mode Read Ids e = (refl, refl)
+ids_mode People Ids e = (refl, refl)
 ids_mode mode tail e = cc
 
 text_tried_told : (front call : List ℕ) (form : Form) → is_sound form ≡ true → (node : Node) → text_tried front call form ≡ Ok node → IsTold node
@@ -198,8 +198,13 @@ uid_tried_told front call form s node e =
     let ids = ids_mode form.mode form.tail parts.0 in
     uid_call_is_told form ids.0 s ids.1 front call node way.1
 
+words_tried_told : (front call : List ℕ) (form : Form) → is_sound form ≡ true → (node : Node) → words_tried front call form ≡ Ok node → IsTold node
+words_tried_told front call form s node e = by (holds_ids form.mode form.tail) e
+  where
+    by : (b : Bool) → cond b (uid_tried front call form) (text_tried front call form) ≡ Ok node → IsTold node
+    by true q = uid_tried_told front call form s node q
+    by false q = text_tried_told front call form s node q
+
 pub texts_told : (front call : List ℕ) (node : Node) → texts_tried front call ≡ Ok node → IsTold node
-texts_told front call node e = elim (next_way (first_tried (λ place. text_tried front call) 0 forms None) _ node e) [
-  | inl p ↦ all_told (text_tried front call) is_sound (text_tried_told front call) 0 forms table_sound None node p
-  | inr p ↦ all_told (uid_tried front call) is_sound (uid_tried_told front call) 0 pasted_forms pasted_sound p.0 node p.1
-]
+texts_told front call node e =
+    all_told (words_tried front call) is_sound (words_tried_told front call) 0 forms table_sound None node e

@@ -10,8 +10,6 @@ use Rattle.uefi_node_table.specs.Rows.{Form, Piece, fields_of, find_form, is_wit
 use Rattle.uefi_node_table.specs.Table.{forms}
 use Rattle.uefi_node_table.specs.declared.rows.Items.{Items}
 use Rattle.uefi_node_table.specs.declared.rows.Items.TheVariants.{Numbers, Ipv4, Ipv6}
-use Rattle.uefi_node_table.specs.declared.rows.Mode.{Mode}
-use Rattle.uefi_node_table.specs.declared.rows.Mode.TheVariants.{Read, Printed, Display}
 use Rattle.uefi_node_table.specs.declared.rows.Shape.{Shape}
 use Rattle.uefi_node_table.specs.declared.rows.Shape.TheVariants.{Hexadecimal, Decimal, OrDefault, Back, Forth, Dashed, Next, Eisa, Word}
 use Rattle.uefi_node_table.specs.declared.words.Words.{Words}
@@ -22,13 +20,13 @@ use Rattle.uefi_device_nodes.specs.Nodes.{Node, node_with}
 use Rattle.uefi_text.specs.UnitBytes.{unit_bytes}
 use Rattle.uefi_node_reader.specs.Counted.{pushed_bytes}
 use Rattle.uefi_node_reader.specs.FieldReading.{field_kept, is_clear}
-use Rattle.uefi_node_reader.specs.TableReading.{AreItems, IsTabled, IsTailTold, as_ids, blank, first_of, is_filled, is_read, is_sound, overlay, padded, prints, put_at}
+use Rattle.uefi_node_reader.specs.TableReading.{AreItems, IsTabled, IsTailTold, as_ids, blank, first_of, is_filled, is_exact, is_sound, overlay, padded, prints, put_at}
 use Rattle.uefi_node_reader.specs.CompleteTexts.{are_items, are_texts, tells, tells_data, tells_fixed, tells_tail}
 use Rattle.uefi_node_reader.proofs.CountedBytes.{pushed_is}
 use Rattle.uefi_node_reader.proofs.Groups.{table_filled, table_sound}
 use Rattle.uefi_node_reader.proofs.Heads.{form_same}
 use Rattle.uefi_node_reader.proofs.LenientFields.{SetIn}
-use Rattle.uefi_node_reader.proofs.TableLaws.{sound, values_same}
+use Rattle.uefi_node_reader.proofs.TableLaws.{exact_is_read, sound, values_same}
 
 -- the same items
 same_items : (items : Items) (tail : Tail) (close bytes : List ℕ) → are_items items tail ≡ true
@@ -92,10 +90,10 @@ tells_told read node is e =
         → tells_data read node.content o ≡ true → IsTabled forms node
     by None f l t = cc
     by (Some form) f l t =
-        let first = and_parts (is_read form.mode) (tells_fixed form (take form.least node.content) && tells_tail read form.least form.tail form.close (length node.content)) t in
+        let first = and_parts (is_exact form.mode) (tells_fixed form (take form.least node.content) && tells_tail read form.least form.tail form.close (length node.content)) t in
         let second = and_parts (tells_fixed form (take form.least node.content)) (tells_tail read form.least form.tail form.close (length node.content)) first.1 in
         let test = found (prints node) is_sound forms form f table_sound in
-        let s = sound form first.0 test.0 in
+        let s = sound form (exact_is_read form.mode first.0) test.0 in
         let long = long_enough false node.device_type node.sub_type node.content form test.1 in
         let head : List ℕ = take form.least node.content in
         let extra : List ℕ = drop form.least node.content in
@@ -161,28 +159,23 @@ unfolding tells
 tells_none read node e = no (leb (length node.content) 0xfffb)
     ∙ ap (λ (o : Option Form). leb (length node.content) 0xfffb && tells_data read node.content o) (sym e)
 
-not_read : (mode : Mode) → (mode ≡ Read → ⊥) → is_read mode ≡ false
-not_read Read other = absurd (other refl)
-not_read Printed other = refl
-not_read Display other = refl
-
 pub tells_other : (read : Form) (node : Node) (form : Form) → find_form (prints node) forms ≡ Some form
-    → (form.mode ≡ Read → ⊥) → false ≡ tells read node
+    → is_exact form.mode ≡ false → false ≡ tells read node
 unfolding tells
 tells_other read node form e other =
     let rest : Bool = tells_fixed form (take form.least node.content) && tells_tail read form.least form.tail form.close (length node.content) in
     no (leb (length node.content) 0xfffb)
-    ∙ ap (λ (t : Bool). leb (length node.content) 0xfffb && (t && rest)) (sym (not_read form.mode other))
+    ∙ ap (λ (t : Bool). leb (length node.content) 0xfffb && (t && rest)) (sym other)
     ∙ ap (λ (o : Option Form). leb (length node.content) 0xfffb && tells_data read node.content o) (sym e)
 
 -- a node in one that is
-pub tells_is : (read : Form) (node : Node) (form : Form) → ShownIn node form → form.mode ≡ Read
+pub tells_is : (read : Form) (node : Node) (form : Form) → ShownIn node form → is_exact form.mode ≡ true
     → length node.content ≤ 0xfffb → (fixed tail : Bool)
     → fixed ≡ tells_fixed form (take form.least (take 56 node.content))
     → tail ≡ tells_tail read form.least form.tail form.close (length node.content) → fixed && tail ≡ tells read node
 unfolding tells
 tells_is read node form shown is fits fixed tail f t =
-    (λ i. sym (le-leb (length node.content) 0xfffb fits) i && (sym (ap is_read is) i
+    (λ i. sym (le-leb (length node.content) 0xfffb fits) i && (sym is i
     && ((f ∙ ap (tells_fixed form) shown.head) i && t i)))
     ∙ ap (λ (o : Option Form). leb (length node.content) 0xfffb && tells_data read node.content o) (sym shown.chosen)
 

@@ -8,7 +8,7 @@ use Rattle.uefi_node_table.specs.declared.rows.Items.TheVariants.{Numbers, Ipv4,
 use Rattle.uefi_node_table.specs.declared.rows.Tail.{Tail}
 use Rattle.uefi_node_table.specs.declared.rows.Tail.TheVariants.{Nothing, Bytes, Text, Utf16, Name, Padded, Ids, Repeated}
 use Rattle.uefi_device_nodes.specs.Nodes.{Node}
-use Rattle.uefi_node_reader.specs.TableReading.{blank, first_of, is_read, overlay, prints}
+use Rattle.uefi_node_reader.specs.TableReading.{blank, first_of, is_exact, overlay, prints}
 
 -- whether the data after the fields is a list of these items
 abbrev pub are_items : Items → Tail → Bool
@@ -42,7 +42,7 @@ tells_fixed form fixed = pointwise nat_eq (overlay (fields_of form) fixed (blank
 -- whether data that was read in one form is completely described by its text in the other form
 abbrev pub tells_data : Form → List ℕ → Option Form → Bool
 tells_data read content None = false
-tells_data read content (Some form) = is_read form.mode && (tells_fixed form (take form.least content)
+tells_data read content (Some form) = is_exact form.mode && (tells_fixed form (take form.least content)
     && tells_tail read form.least form.tail form.close (length content))
 
 -- whether a node that was read in a form is completely described by its text, in the form that prints it

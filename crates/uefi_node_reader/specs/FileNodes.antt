@@ -1,6 +1,7 @@
 -- Nodes of files that were read from their names.
 use Rattle.std.specs.Prelude.{ℕ, List, ◌∷◌}
 use Rattle.std.specs.Str.{chars}
+use Rattle.uefi_node_table.specs.declared.layouts.TheConstants.{FILE_PATH, MEDIA_TYPE}
 use Rattle.uefi_device_nodes.specs.Nodes.{Node, node_with}
 use Rattle.uefi_node_reader.specs.NamedFiles.{name_data}
 
@@ -10,4 +11,4 @@ rooted_data name = name_data (92 ∷ chars name)
 
 -- the node of a file with this data
 abbrev pub node_of_file : List ℕ → Node
-node_of_file content = node_with 4 4 content
+node_of_file content = node_with MEDIA_TYPE FILE_PATH content

@@ -6,14 +6,14 @@ use Rattle.std.specs.Result.{result_map_both}
 use Rattle.uefi_node_table.specs.Rows.{Form}
 use Rattle.uefi_node_table.specs.Table.{forms}
 use Rattle.uefi_node_table.specs.declared.rows.Mode.{Mode}
-use Rattle.uefi_node_table.specs.declared.rows.Mode.TheVariants.{Read, Printed, Display}
+use Rattle.uefi_node_table.specs.declared.rows.Mode.TheVariants.{Read, Printed, Display, Libefivar, People}
 use Rattle.uefi_node_table.specs.declared.rows.Tail.{Tail}
 use Rattle.uefi_node_table.specs.declared.rows.Tail.TheVariants.{Nothing, Bytes, Repeated}
+use Rattle.uefi_node_table.specs.declared.layouts.TheConstants.{ACPI_TYPE, BIOS_BOOT_SPEC_TYPE, HARDWARE_TYPE, MEDIA_TYPE, MESSAGING_TYPE}
 use Rattle.uefi_device_nodes.specs.Nodes.{Node, node_with}
 use Rattle.uefi_node_reader.specs.Ambiguous.{ambiguous_stop}
 use Rattle.uefi_node_reader.specs.FieldReading.{◌>>=◌}
 use Rattle.uefi_node_reader.specs.LenientFields.{after_literal, any_number}
-use Rattle.uefi_node_reader.specs.OtherForms.{pasted_forms}
 use Rattle.uefi_node_reader.specs.PlainNodes.{plain_rest}
 use Rattle.uefi_node_reader.specs.Notations.{head_in, lenient}
 use Rattle.uefi_node_reader.specs.Stops.{◌>?◌, exact_end, further, past, rest_end, stop_at, stop_of}
@@ -81,13 +81,19 @@ begins_call_name (c ∷ cs) [] = false
 begins_call_name (c ∷ cs) (t ∷ ts) =
     (to_ascii_uppercase c == to_ascii_uppercase t) && ((c == 40) || begins_call_name cs ts)
 
+-- the node of a form that is read, unless the form contains a text, or where the text stops
+abbrev pub textless_told : Form → List ℕ → Result Node (Option Stop)
+textless_told form text = if is_textless form.tail
+    then result_map_both (λ node. node) (λ stop. Some stop) (form_told form text) else Err None
+
 -- the node of a form whose name the text begins with, unless the form contains a text, or where the text
 -- stops
 abbrev pub named_told : Mode → Form → List ℕ → Result Node (Option Stop)
-named_told Read form text = if is_textless form.tail
-    then result_map_both (λ node. node) (λ stop. Some stop) (form_told form text) else Err None
+named_told Read form text = textless_told form text
 named_told Printed form text = Err (Some (stop_at text expected.Untold))
 named_told Display form text = Err None
+named_told Libefivar form text = Err None
+named_told People form text = textless_told form text
 
 -- the node of any form, if the text begins with its name, or where the text stops
 abbrev pub form_tried : Form → List ℕ → Result Node (Option Stop)
@@ -119,8 +125,9 @@ whole (Some read) = if is_empty read.1 then Some read.0 else None
 -- the names of calls for nodes of no known kind, with the type that a name stands for, if the call does not
 -- contain the type
 abbrev pub plain_names : List (List ℕ × Option ℕ)
-plain_names = (codes "Path(", None) ∷ (codes "HardwarePath(", Some 1) ∷ (codes "AcpiPath(", Some 2) ∷
-    (codes "Msg(", Some 3) ∷ (codes "MediaPath(", Some 4) ∷ (codes "BbsPath(", Some 5) ∷ []
+plain_names = (codes "Path(", None) ∷ (codes "HardwarePath(", Some HARDWARE_TYPE) ∷
+    (codes "AcpiPath(", Some ACPI_TYPE) ∷ (codes "Msg(", Some MESSAGING_TYPE) ∷
+    (codes "MediaPath(", Some MEDIA_TYPE) ∷ (codes "BbsPath(", Some BIOS_BOOT_SPEC_TYPE) ∷ []
 
 -- the node of no known kind of a type, from its sub-type on in a tidied text, and the rest of the text
 abbrev pub sub_type_told : ℕ → List ℕ → Option (Node × List ℕ)
@@ -154,13 +161,11 @@ abbrev pub names_tried : List (List ℕ × Option ℕ) → Option Stop → List 
 names_tried names furthest text =
     first_tried (λ place name. plain_told name.1 (after_literal name.0 text)) 0 names furthest
 
--- the node of a tidied text, in a form of the table, in a form that people paste, or of no known kind, or
--- where the text stops; a call that becomes ambiguous stops there
+-- the node of a tidied text, in a form of the table or of no known kind, or where the text stops; a call that
+-- becomes ambiguous stops there
 abbrev pub call_tried : Option Stop → List ℕ → Result Node (Option Stop)
 call_tried (Some stop) text = Err (Some stop)
-call_tried None text = or_next (forms_tried forms None text)
-    (λ stop. or_next (forms_tried pasted_forms stop text)
-    (λ other. names_tried plain_names other text))
+call_tried None text = or_next (forms_tried forms None text) (λ stop. names_tried plain_names stop text)
 
 -- the node of a tidied text, or where the text stops
 abbrev pub call_told : List ℕ → Result Node (Option Stop)

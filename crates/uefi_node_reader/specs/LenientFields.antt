@@ -1,12 +1,14 @@
 -- Fields of nodes as people write them: in either case, with numbers in either base, and without the last
 -- ones.
-use Rattle.std.specs.Prelude.{ℕ, ◌-◌, ◌*◌, ◌^◌, Bool, true, false, ◌==◌, ◌&&◌, ◌||◌, if◌then◌else◌, List, [], ◌∷◌, codes, Option, Some, None, Result, Ok}
+use Rattle.std.specs.Prelude.{ℕ, ◌-◌, ◌*◌, ◌^◌, Bool, true, false, ◌==◌, ◌&&◌, if◌then◌else◌, List, [], ◌∷◌, codes, Option, Some, None, Result, Ok}
 use Rattle.std.specs.Option.{ok_or}
 use Rattle.std.specs.Result.{is_ok, result_ok}
 use Rattle.std.proofs.Math.ListN.{replicate}
 use Rattle.std.specs.Char.{to_ascii_uppercase}
 use Rattle.uefi_node_table.specs.declared.rows.Shape.{Shape}
 use Rattle.uefi_node_table.specs.declared.rows.Shape.TheVariants.{Hexadecimal, Decimal, OrDefault, Back, Forth, Dashed, Next, Eisa, Word}
+use Rattle.uefi_node_table.specs.declared.rows.Spare.{Spare}
+use Rattle.uefi_node_table.specs.declared.rows.Spare.TheVariants.{Zeros, Ones}
 use Rattle.uefi_node_table.specs.declared.words.Words.{Words}
 use Rattle.uefi_node_table.specs.declared.words.Words.TheVariants.{Parity, StopBits}
 use Rattle.uefi_node_table.specs.Words as words
@@ -84,16 +86,15 @@ is_number Hexadecimal = true
 is_number Decimal = true
 is_number shape = false
 
--- the byte that fills an omitted field (UEFI Specification 2.10, section 10.6.1): 0xff for the port
--- multiplier of SATA and for the fields of a class of USB devices, and otherwise 0
-abbrev pub left_out : ℕ → ℕ → ℕ → ℕ
-left_out kind sub_kind place =
-    if (kind == 3) && ((sub_kind == 15) || ((sub_kind == 18) && (place == 2))) then 0xff else 0
+-- each byte of a number that is omitted
+abbrev pub spare_byte : Spare → ℕ
+spare_byte Zeros = 0
+spare_byte Ones = 0xff
 
 -- the bytes of a field, each of which is `spare` if a number is omitted before `)`
-abbrev pub value_or_spare : Shape → ℕ → ℕ → List ℕ → Option (List ℕ × List ℕ)
+abbrev pub value_or_spare : Shape → Spare → ℕ → List ℕ → Option (List ℕ × List ℕ)
 value_or_spare shape spare width text = if is_number shape && (first_of text == 41)
-    then Some (replicate width spare, text) else any_field shape width text
+    then Some (replicate width (spare_byte spare), text) else any_field shape width text
 
 -- the rest of a text after the ending of a field; before `)`, a comma and its `0x` may be omitted
 abbrev pub after_ending : List ℕ → List ℕ → Result (List ℕ) Stop

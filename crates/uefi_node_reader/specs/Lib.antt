@@ -10,7 +10,6 @@ pub mod Stops
 pub mod LenientFields
 pub mod Notations
 pub mod CompleteTexts
-pub mod OtherForms
 pub mod ShortAddresses
 pub mod Ambiguous
 pub mod LenientCalls

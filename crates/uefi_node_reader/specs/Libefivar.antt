@@ -3,11 +3,11 @@ use Rattle.std.specs.Prelude.{Bool, if◌then◌else◌, List, [], ◌∷◌, co
 use Rattle.std.specs.Option.{option_map, option_or}
 use Rattle.uefi_device_nodes.specs.Nodes.{Node}
 use Rattle.uefi_node_table.specs.Rows.{Form}
+use Rattle.uefi_node_table.specs.Table.{libefivar_forms}
 use Rattle.uefi_node_reader.specs.Ambiguous.{begins_with}
 use Rattle.uefi_node_reader.specs.FieldReading.{◌>>=◌}
 use Rattle.uefi_node_reader.specs.LenientCalls.{cut_call, place_at, tidied, told_in}
 use Rattle.uefi_node_reader.specs.LenientNodes.{begins_call, ended_at, fault_at_byte, lenient_read}
-use Rattle.uefi_node_reader.specs.OtherForms.{own_forms}
 use Rattle.uefi_node_reader.specs.Stops.{stop_at}
 use Rattle.uefi_node_reader.specs.TableReading.{form_read}
 use Rattle.uefi_node_reader.specs.WordReading.{after}
@@ -21,10 +21,10 @@ abbrev pub forms_exact : List Form → List ℕ → Option Node
 forms_exact [] text = None
 forms_exact (form ∷ forms) text = option_or (told_in form (form_read form text)) (forms_exact forms text)
 
--- the node of the call at the start of a text in a form that only libefivar prints, and the rest of the text
+-- the node of the call at the start of a text in a form that only libefivar writes, and the rest of the text
 abbrev pub own_call : List ℕ → Option (Node × List ℕ)
 own_call text = cut_call text >>= λ call.
-    option_map (λ node. (node, call.1)) (forms_exact own_forms (tidied call.0))
+    option_map (λ node. (node, call.1)) (forms_exact libefivar_forms (tidied call.0))
 
 -- the node in a form that only libefivar prints, and the rest of the text, if the text begins with a call
 abbrev pub own_read : List ℕ → Option (Node × List ℕ)

@@ -7,6 +7,7 @@ use Rattle.std.specs.Str.{all_scalars, chars, is_utf8}
 use Rattle.uefi_text.specs.UnitBytes.{unit_bytes}
 use Rattle.uefi_text.specs.Units.{nul_terminated}
 use Rattle.uefi_field_texts.specs.FieldTexts.{is_escaped}
+use Rattle.uefi_node_table.specs.declared.layouts.TheConstants.{FILE_PATH, MEDIA_TYPE}
 use Rattle.uefi_device_nodes.specs.Nodes.{Node, node_with}
 use Rattle.uefi_node_table.specs.Table.{forms}
 use Rattle.uefi_node_reader.specs.FieldReading.{either_read, read_if}
@@ -39,7 +40,7 @@ pub record IsNamedNode (node : Node) : Type 0 where
   pub name : List ℕ
   pub scalars : all_scalars name ≡ true
   pub is_name : is_name name ≡ true
-  pub is : node ≡ node_with 4 4 (name_data name)
+  pub is : node ≡ node_with MEDIA_TYPE FILE_PATH (name_data name)
 
 -- the bytes of a text before the first byte that ends a name
 abbrev pub name_bytes : List ℕ → List ℕ
@@ -48,7 +49,8 @@ name_bytes text = take (position_or_len ends_name text) text
 -- the node of the name at the start of a text, and the rest of the text
 abbrev pub name_read : List ℕ → Option (Node × List ℕ)
 name_read text = read_if (is_utf8 (name_bytes text) && is_name (chars (name_bytes text)))
-    (node_with 4 4 (name_data (chars (name_bytes text)))) (drop (position_or_len ends_name text) text)
+    (node_with MEDIA_TYPE FILE_PATH (name_data (chars (name_bytes text))))
+    (drop (position_or_len ends_name text) text)
 
 -- a node that its text describes completely
 abbrev pub IsTold : Node → Type 0

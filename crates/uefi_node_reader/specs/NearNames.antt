@@ -37,9 +37,7 @@ start_at (form ∷ forms) (suc place) = start_at forms place
 
 -- the names of calls that no form of the table has
 abbrev pub other_names : List (List ℕ)
-other_names = codes "File(" ∷ codes "FvVol(" ∷ codes "AcpiExp(" ∷ codes "UartFlowControl("
-    ∷ codes "VenPcAnsi(" ∷ codes "VenVt100(" ∷ codes "VenVt100Plus(" ∷ codes "VenUtf8("
-    ∷ codes "DebugPort(" ∷ codes "Path(" ∷ codes "HardwarePath(" ∷ codes "AcpiPath(" ∷ codes "Msg("
+other_names = codes "File(" ∷ codes "Path(" ∷ codes "HardwarePath(" ∷ codes "AcpiPath(" ∷ codes "Msg("
     ∷ codes "MediaPath(" ∷ codes "BbsPath(" ∷ []
 
 -- whether a call begins with a name, or, unless `exact`, with a similar one

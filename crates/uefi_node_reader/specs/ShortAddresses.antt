@@ -10,6 +10,7 @@ use Rattle.uefi_node_table.specs.Rows.{find_form}
 use Rattle.uefi_node_table.specs.Table.{forms}
 use Rattle.uefi_node_table.specs.declared.rows.Tail.{Tail}
 use Rattle.uefi_node_table.specs.declared.rows.Tail.TheVariants.{Nothing}
+use Rattle.uefi_node_table.specs.declared.layouts.TheConstants.{IPV6, MESSAGING_TYPE}
 use Rattle.uefi_device_nodes.specs.Nodes.{Node, node_with}
 use Rattle.uefi_node_reader.specs.CompleteTexts.{tells}
 use Rattle.uefi_node_reader.specs.FieldReading.{◌>>=◌, low_bytes}
@@ -124,4 +125,4 @@ told_fixed node = find_form (prints node) forms >>= λ form.
 
 -- the node of an IPv6 connection, from its tidied call
 unfoldable pub short_ipv6 : List ℕ → Option Node
-short_ipv6 text = call_data text >>= λ content. told_fixed (node_with 3 13 content)
+short_ipv6 text = call_data text >>= λ content. told_fixed (node_with MESSAGING_TYPE IPV6 content)

@@ -8,7 +8,7 @@ use Rattle.uefi_node_table.specs.Rows.{Piece, Form, Item, fields_of, find_form, 
 use Rattle.uefi_node_table.specs.Table.{text_in}
 use Rattle.uefi_node_table.specs.Fields.{fits_shape}
 use Rattle.uefi_node_table.specs.declared.rows.Mode.{Mode}
-use Rattle.uefi_node_table.specs.declared.rows.Mode.TheVariants.{Read, Printed, Display}
+use Rattle.uefi_node_table.specs.declared.rows.Mode.TheVariants.{Read, Printed, Display, Libefivar, People}
 use Rattle.uefi_node_table.specs.declared.rows.Shape.{Shape}
 use Rattle.uefi_node_table.specs.declared.rows.Shape.TheVariants.{Hexadecimal, Decimal, OrDefault, Back, Forth, Dashed, Next, Eisa, Word}
 use Rattle.uefi_node_table.specs.declared.rows.Tail.{Tail}
@@ -123,10 +123,20 @@ abbrev pub is_read : Mode → Bool
 is_read Read = true
 is_read Printed = false
 is_read Display = false
+is_read Libefivar = true
+is_read People = true
+
+-- whether texts of a form are read exactly as they are printed
+abbrev pub is_exact : Mode → Bool
+is_exact Read = true
+is_exact Printed = false
+is_exact Display = false
+is_exact Libefivar = true
+is_exact People = false
 
 -- the data of a node of a form, and the rest of the text
 abbrev pub form_read : Form → List ℕ → Option (List ℕ × List ℕ)
-form_read form text = if is_read form.mode
+form_read form text = if is_exact form.mode
     then (after form.start text >>= λ t. pieces_put form.pieces (blank form) t >>= rest_read form) else None
 
 -- the index of the first form that passes a test, or the number of forms if none does
@@ -202,7 +212,7 @@ printed_in forms node = text_in (find_form (prints node) forms) node.content
 pub record IsTabled (forms : List Form) (node : Node) : Type 0 where
   pub form : Form
   pub found : find_form (prints node) forms ≡ Some form
-  pub read : is_read form.mode ≡ true
+  pub read : is_exact form.mode ≡ true
   pub whole : IsWhole form node.content
   pub bytes : All IsByte node.content
   pub fits : nat_le (length node.content) 0xfffb ≡ true
@@ -363,7 +373,7 @@ pieces_differ (p ∷ ps) (q ∷ qs) = are_parted p q || ((same_shape p.shape q.s
 
 -- whether a form does not read what the other prints
 abbrev pub differ : Form → Form → Bool
-differ one other = not (is_read one.mode) || (not (is_read other.mode) || (clash one.start other.start
+differ one other = not (is_exact one.mode) || (not (is_exact other.mode) || (clash one.start other.start
     || (same_text one.start other.start && pieces_differ one.pieces other.pieces)))
 
 -- whether no form reads what a later form prints

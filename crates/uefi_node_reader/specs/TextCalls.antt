@@ -5,14 +5,13 @@ use Rattle.std.specs.Result.{result_map_both}
 use Rattle.uefi_node_table.specs.Rows.{Form}
 use Rattle.uefi_node_table.specs.Table.{forms}
 use Rattle.uefi_node_table.specs.declared.rows.Mode.{Mode}
-use Rattle.uefi_node_table.specs.declared.rows.Mode.TheVariants.{Read}
+use Rattle.uefi_node_table.specs.declared.rows.Mode.TheVariants.{Read, People}
 use Rattle.uefi_node_table.specs.declared.rows.Tail.{Tail}
 use Rattle.uefi_node_table.specs.declared.rows.Tail.TheVariants.{Ids, Padded}
 use Rattle.uefi_device_nodes.specs.Nodes.{Node}
 use Rattle.uefi_node_reader.specs.FieldReading.{clear_run}
-use Rattle.uefi_node_reader.specs.LenientCalls.{begins_call_name, first_tried, is_textless, or_next, place_at, tidied, told_in}
+use Rattle.uefi_node_reader.specs.LenientCalls.{begins_call_name, first_tried, is_textless, place_at, tidied, told_in}
 use Rattle.uefi_node_reader.specs.LenientFields.{after_ending}
-use Rattle.uefi_node_reader.specs.OtherForms.{pasted_forms}
 use Rattle.uefi_node_reader.specs.Mistakes.{past_mark}
 use Rattle.uefi_node_reader.specs.Notations.{head_in, lenient, pieces_in}
 use Rattle.uefi_node_reader.specs.Stops.{◌>?◌, stop_at}
@@ -21,14 +20,14 @@ use Rattle.uefi_node_reader.specs.declared.faults.Expected.{Expected}
 use Rattle.uefi_node_reader.specs.declared.faults.Expected.TheVariants as expected
 use Rattle.uefi_node_reader.specs.declared.faults.Stop.{Stop}
 
--- whether a form is read and contains a text
+-- whether a form is printed and contains a text
 abbrev pub holds_text : Mode → Tail → Bool
 holds_text Read tail = not (is_textless tail)
 holds_text mode tail = false
 
--- whether a form is read and contains the IDs of a device
+-- whether people write only one of the IDs of a device in a form
 abbrev pub holds_ids : Mode → Tail → Bool
-holds_ids Read Ids = true
+holds_ids People Ids = true
 holds_ids mode tail = false
 
 -- the rest of a call, from this rest of the tidied call
@@ -75,7 +74,7 @@ text_stop tail text = stop_before text expected.AsPrinted
 abbrev pub text_told : Form → List ℕ → List ℕ → List ℕ → Result Node Stop
 text_told form fixed text call = ok_or (tail_read form.tail form.close text) (text_stop form.tail text)
     >? λ tail. after_ending form.close (call_left call tail.1)
-    >? pieces_in lenient form.kind form.sub_kind form.rest fixed
+    >? pieces_in lenient form.rest fixed
     >? λ all. ok_or (told_in form (Some (all.0 ++ tail.0, all.1))) (stop_at all.1 expected.Untold)
 
 -- the node of a form with this fixed part, if the call contains only the ID string of _UID, or where the call
@@ -108,8 +107,11 @@ abbrev pub uid_tried : List ℕ → List ℕ → Form → Result Node (Option St
 uid_tried front call form = if holds_ids form.mode form.tail && begins_call_name form.start call
     then result_map_both (λ node. node) (λ stop. Some stop) (uid_call_told form front call) else Err None
 
--- the node of a call in the first form that contains a text: a form of the table, or a form that people
--- paste, which contains only one ID; or where the call stops
+-- the node of a form that contains a text, or where the call stops
+abbrev pub words_tried : List ℕ → List ℕ → Form → Result Node (Option Stop)
+words_tried front call form = if holds_ids form.mode form.tail then uid_tried front call form
+    else text_tried front call form
+
+-- the node of a call in the first form of the table that contains a text, or where the call stops
 abbrev pub texts_tried : List ℕ → List ℕ → Result Node (Option Stop)
-texts_tried front call = or_next (first_tried (λ place. text_tried front call) 0 forms None)
-    (λ stop. first_tried (λ place. uid_tried front call) 0 pasted_forms stop)
+texts_tried front call = first_tried (λ place. words_tried front call) 0 forms None

@@ -8,13 +8,11 @@ ghost use Rattle.uefi_node_table.specs.Rows.{Form, as_form};
 ghost use Rattle.uefi_node_table.specs.Table.{forms};
 ghost use Rattle.uefi_node_reader.specs.LenientCalls.{first_tried};
 ghost use Rattle.uefi_node_reader.specs.FirstLetters.{begins_in};
-ghost use Rattle.uefi_node_reader.specs.OtherForms.{pasted_forms};
 ghost use Rattle.uefi_node_reader.specs.TableReading.{is_filled, is_sound};
 ghost use Rattle.uefi_node_reader.specs.declared.faults.Stop.{Stop};
 
 use crate::faults::Stop;
 use crate::first_letters::first_letters;
-use crate::other_forms::pasted_forms;
 use crate::stops::further;
 use uefi_node_table::rows::Row;
 use uefi_node_table::table::{GROUPS, group};
@@ -85,15 +83,4 @@ pub(crate) fn try_table<A: Attempt>(attempt: &A) -> Result<A::Read, Option<Stop>
         before += rows.len();
     }
     Err(furthest)
-}
-
-/// Reads a text in the first form that fits, of the forms that people paste. Fails as [`try_group`] does.
-pub(crate) fn try_pasted<A: Attempt>(
-    attempt: &A,
-    furthest: Option<Stop>,
-) -> Result<A::Read, Option<Stop>>
-    ensures { result_map_both A.seen (λ e. e) result
-        ≡ first_tried (A.tried attempt.now) 0 pasted_forms furthest }
-{
-    try_group(attempt, pasted_forms(), 0, furthest)
 }

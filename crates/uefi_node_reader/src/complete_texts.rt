@@ -6,7 +6,7 @@ ghost use Rattle.std.specs.Prelude.{◌≡◌, ◌==◌, ◌&&◌, IsTrue, lengt
 ghost use Rattle.uefi_node_table.specs.Rows.{as_form, as_piece, is_within, value_at};
 ghost use Rattle.uefi_node_table.specs.Words.{as_word};
 ghost use Rattle.uefi_node_reader.specs.FieldReading.{field_kept};
-ghost use Rattle.uefi_node_reader.specs.TableReading.{first_of, is_filled, is_read, is_sound, overlay, put_at};
+ghost use Rattle.uefi_node_reader.specs.TableReading.{first_of, is_exact, is_filled, is_sound, overlay, put_at};
 ghost use Rattle.uefi_node_reader.specs.CompleteTexts.{are_items, are_texts, tells, tells_fixed, tells_tail};
 ghost use Rattle.uefi_node_reader.specs.ParsedNodeViews.{parsed_node};
 ghost use Rattle.uefi_node_reader.specs.WordReading.{word_number};
@@ -15,11 +15,11 @@ use crate::clear_texts::first_of;
 use crate::counted_bytes::push_all;
 use crate::fields::put_low;
 use crate::parsed_node::ParsedNode;
-use crate::table_reader::fixed_part;
+use crate::table_reader::{fixed_part, is_exact};
 use crate::texts::Text;
 use uefi_field_texts::ids::eisa_bits;
 use uefi_node_table::printing::{form_of, number_of};
-use uefi_node_table::rows::{Items, Mode, Piece, Row, Shape, Tail};
+use uefi_node_table::rows::{Items, Piece, Row, Shape, Tail};
 use uefi_node_table::word_lists::{suits, words_of};
 use uefi_node_table::words::Word;
 
@@ -75,7 +75,7 @@ fn put_all_kept(pieces: &[Piece], fixed: &[u8], content: &mut [u8])
 fn tells_fixed(row: &Row, fixed: &[u8]) -> bool
     requires sound { IsTrue (is_sound (as_form row.now)) }
     requires filled { IsTrue (is_filled (as_form row.now)) }
-    requires read { IsTrue (is_read row.now.mode) }
+    requires read { IsTrue (is_exact row.now.mode) }
     requires size { length fixed.now ≡ row.now.least }
     ensures { result ≡ tells_fixed (as_form row.now) fixed.now }
 {
@@ -143,9 +143,9 @@ pub(crate) fn tells<T: Text>(read: &Row, node: &ParsedNode<T>) -> bool
     let Some(row) = form_of(false, kind, sub_kind, head) else {
         return false;
     };
-    let Mode::Read = row.mode else {
+    if !is_exact(row.mode) {
         return false;
-    };
+    }
     let len = node.data_len();
     tells_fixed(row, &head[..row.least as usize]) && tells_tail(read, row, len)
 }

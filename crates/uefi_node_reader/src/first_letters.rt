@@ -40,7 +40,7 @@ pub(crate) fn begins_in_either_case<T: Text>(letters: u64, text: T) -> bool
 /// Returns the letters that the texts of the forms in a group begin with. Most groups have no form that
 /// begins with the first letter of a text.
 pub(crate) fn first_letters(index: usize) -> u64
-    requires { index < 12 }
+    requires { index < 15 }
     ensures { IsTrue (all_begin_in result (group_forms index)) }
 {
     FIRST_LETTERS[index]

@@ -13,41 +13,35 @@ use crate::notations::{Exact, Notation};
 use crate::texts::Text;
 use uefi_node_table::rows::{Piece, Row};
 
-/// Puts the field at the start of a text into the data of a node of a kind, and reads its ending. Returns the
-/// rest of the text.
+/// Puts the field at the start of a text into data, and reads its ending. Returns the rest of the text.
 fn read_piece<S: Notation, T: Text>(
-    kind: u8,
-    sub_kind: u8,
     piece: &Piece,
     content: &mut [u8],
     text: T,
 ) -> Result<T, S::Fault>
     requires { IsTrue (is_within (length content.old) (as_piece piece.now)) }
     ensures { result_map_both (λ rest. (content.new, T.bytes rest)) (λ e. e) result
-        ≡ piece_in S.rules kind sub_kind (as_piece piece.now) content.old (T.bytes text) }
+        ≡ piece_in S.rules (as_piece piece.now) content.old (T.bytes text) }
 {
     let from = piece.place as usize;
     let to = from + piece.width as usize;
-    let rest = S::value(kind, sub_kind, piece, &mut content[from..to], text)?;
+    let rest = S::value(piece, &mut content[from..to], text)?;
     S::ending(piece.ending.as_bytes(), rest)
 }
 
-/// Puts the fields at the start of a text into the data of a node of a kind, and reads their endings. Returns
-/// the rest of the text.
+/// Puts the fields at the start of a text into data, and reads their endings. Returns the rest of the text.
 pub(crate) fn read_pieces<S: Notation, T: Text>(
-    kind: u8,
-    sub_kind: u8,
     pieces: &[Piece],
     content: &mut [u8],
     text: T,
 ) -> Result<T, S::Fault>
     requires { IsTrue (list_all (is_within (length content.old)) (map as_piece pieces.now)) }
     ensures { result_map_both (λ rest. (content.new, T.bytes rest)) (λ e. e) result
-        ≡ pieces_in S.rules kind sub_kind (map as_piece pieces.now) content.old (T.bytes text) }
+        ≡ pieces_in S.rules (map as_piece pieces.now) content.old (T.bytes text) }
 {
     let mut rest = text;
     for piece in pieces {
-        rest = read_piece::<S, T>(kind, sub_kind, piece, content, rest)?;
+        rest = read_piece::<S, T>(piece, content, rest)?;
     }
     Ok(rest)
 }
@@ -59,7 +53,7 @@ pub(crate) fn exact_pieces<T: Text>(pieces: &[Piece], content: &mut [u8], text: 
     ensures { option_map (λ rest. (content.new, T.bytes rest)) result
         ≡ pieces_put (map as_piece pieces.now) content.old (T.bytes text) }
 {
-    read_pieces::<Exact, T>(0, 0, pieces, content, text).ok()
+    read_pieces::<Exact, T>(pieces, content, text).ok()
 }
 
 /// Puts the first fields of a form into its fixed part. Returns the rest of the text.
@@ -75,5 +69,5 @@ pub(crate) fn read_head<S: Notation, T: Text>(
         ≡ head_in S.rules (as_form row.now) (T.bytes text) }
 {
     let rest = S::literal(row.start.as_bytes(), text)?;
-    read_pieces::<S, T>(row.kind, row.sub_kind, row.pieces.as_slice(), content, rest)
+    read_pieces::<S, T>(row.pieces.as_slice(), content, rest)
 }

@@ -79,14 +79,6 @@ pub(crate) fn other_names() -> &'static [&'static str]
 {
     &[
         "File(",
-        "FvVol(",
-        "AcpiExp(",
-        "UartFlowControl(",
-        "VenPcAnsi(",
-        "VenVt100(",
-        "VenVt100Plus(",
-        "VenUtf8(",
-        "DebugPort(",
         "Path(",
         "HardwarePath(",
         "AcpiPath(",

@@ -8,7 +8,7 @@ ghost use Rattle.std.proofs.Math.ListN.{replicate};
 ghost use Rattle.uefi_node_table.specs.Fields.{fits_shape};
 ghost use Rattle.uefi_node_table.specs.Words.{as_word, words_of};
 ghost use Rattle.uefi_node_reader.specs.FieldReading.{as_bytes, less_one};
-ghost use Rattle.uefi_node_reader.specs.LenientFields.{after_ending, after_letter, after_literal, any_field, any_number, any_word, begins_base, expected_field, expected_word, is_number, left_out, number_or_word, past_base, some_digits, value_or_spare};
+ghost use Rattle.uefi_node_reader.specs.LenientFields.{after_ending, after_letter, after_literal, any_field, any_number, any_word, begins_base, expected_field, expected_word, is_number, number_or_word, past_base, some_digits, spare_byte, value_or_spare};
 
 use crate::clear_texts::first_of;
 use crate::faults::{Expected, Stop};
@@ -16,7 +16,7 @@ use crate::fields::{after, last, put_low, read_value};
 use crate::numerals::{digit_of, digits_after};
 use crate::stops::stop_at;
 use crate::texts::Text;
-use uefi_node_table::rows::Shape;
+use uefi_node_table::rows::{Shape, Spare};
 use uefi_node_table::word_lists::words_of;
 use uefi_node_table::words::{Word, Words};
 
@@ -186,20 +186,30 @@ fn is_number(shape: Shape) -> bool
     matches!(shape, Shape::Hexadecimal | Shape::Decimal)
 }
 
-/// Fills a buffer with copies of a byte. A loop that puts the same byte would become a call of `memset`,
-/// which firmware lacks.
-fn put_spare(found: &mut [u8], spare: u8)
-    requires { length found.old ≤ 8 }
-    ensures { found.new ≡ replicate (length found.old) spare }
+/// Returns each byte of a number that is omitted.
+fn spare_byte(spare: Spare) -> u8
+    ensures { result ≡ spare_byte spare }
 {
-    put_low(found, u64::from(spare) * 0x0101_0101_0101_0101);
+    match spare {
+        Spare::Zeros => 0,
+        Spare::Ones => 0xff,
+    }
 }
 
-/// Fills a buffer with the bytes of a field, or with `spare` if a number is omitted. Returns the rest of the
-/// text.
+/// Fills a buffer with the bytes of a number that is omitted. A loop that puts the same byte would become a
+/// call of `memset`, which firmware lacks.
+fn put_spare(found: &mut [u8], spare: Spare)
+    requires { length found.old ≤ 8 }
+    ensures { found.new ≡ replicate (length found.old) (spare_byte spare) }
+{
+    put_low(found, u64::from(spare_byte(spare)) * 0x0101_0101_0101_0101);
+}
+
+/// Fills a buffer with the bytes of a field, or with those of a number that is omitted. Returns the rest of
+/// the text.
 pub(crate) fn value_or_spare<T: Text>(
     shape: Shape,
-    spare: u8,
+    spare: Spare,
     found: &mut [u8],
     text: T,
 ) -> Option<T>
@@ -212,17 +222,6 @@ pub(crate) fn value_or_spare<T: Text>(
         return Some(text);
     }
     read_field(shape, found, text)
-}
-
-/// Returns the byte that fills an omitted field (UEFI Specification 2.10, section 10.6.1): 0xff for the port
-/// multiplier of SATA and for the fields of a class of USB devices, and otherwise 0.
-pub(crate) fn left_out(kind: u8, sub_kind: u8, place: usize) -> u8
-    ensures { result ≡ left_out kind sub_kind place }
-{
-    if kind == 3 && (sub_kind == 15 || sub_kind == 18 && place == 2) {
-        return 0xff;
-    }
-    0
 }
 
 /// Reads the ending of a field, and returns the rest of the text. Before `)`, a comma and its `0x` may be

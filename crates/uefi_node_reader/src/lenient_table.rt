@@ -7,13 +7,13 @@ ghost use Rattle.std.specs.Result.{result_map_both};
 ghost use Rattle.uefi_device_nodes.specs.Nodes.{Node};
 ghost use Rattle.uefi_node_table.specs.Rows.{as_form};
 ghost use Rattle.uefi_node_reader.specs.LenientFields.{after_literal};
-ghost use Rattle.uefi_node_reader.specs.LenientCalls.{begins_call_name, call_told, form_told, form_tried, is_textless, named_told, names_tried, plain_names, plain_told, told_in, whole};
+ghost use Rattle.uefi_node_reader.specs.LenientCalls.{begins_call_name, call_told, form_told, form_tried, is_textless, named_told, names_tried, plain_names, plain_told, textless_told, told_in, whole};
 ghost use Rattle.uefi_node_reader.specs.TableReading.{form_read, is_filled, is_read, is_sound};
 ghost use Rattle.uefi_node_reader.specs.ParsedNodeViews.{text_node_data, parsed_node};
 ghost use Rattle.uefi_node_reader.specs.ReadNodes.{node_from_text};
 
 use crate::ambiguous::ambiguous_stop;
-use crate::attempts::{Attempt, try_pasted, try_table};
+use crate::attempts::{Attempt, try_table};
 use crate::complete_texts::tells;
 use crate::faults::{Expected, Stop};
 use crate::first_letters::begins_in_either_case;
@@ -29,6 +29,9 @@ use crate::table_reader::{finish_row, fixed_part, read_row};
 use crate::tail_stops::{rest_end, stop_of};
 use crate::texts::{Text, is_empty};
 use crate::tidied::Tidied;
+use uefi_node_table::layouts::{
+    ACPI_TYPE, BIOS_BOOT_SPEC_TYPE, HARDWARE_TYPE, MEDIA_TYPE, MESSAGING_TYPE,
+};
 use uefi_node_table::rows::{Mode, Row, Tail};
 
 /// Returns whether the data after the fields contains no text.
@@ -109,6 +112,23 @@ pub(crate) fn begins_call_name<T: Text>(name: &[u8], text: T) -> bool
     true
 }
 
+/// Reads a tidied text in a form that is read, unless the form contains a text.
+fn textless_row<T: Text>(row: &Row, text: T) -> Result<ParsedNode<T>, Option<Stop>>
+    requires sound { IsTrue (is_sound (as_form row.now)) }
+    requires filled { IsTrue (is_filled (as_form row.now)) }
+    requires read { IsTrue (is_read row.now.mode) }
+    ensures { result_map_both parsed_node (λ e. e) result
+        ≡ textless_told (as_form row.now) (T.bytes text) }
+{
+    if !is_textless(row.tail) {
+        return Err(None);
+    }
+    match told_row(row, text) {
+        Ok(node) => Ok(node),
+        Err(stop) => Err(Some(stop)),
+    }
+}
+
 /// Reads a tidied text in a form whose name it begins with, unless the form contains a text.
 fn named_row<T: Text>(row: &Row, text: T) -> Result<ParsedNode<T>, Option<Stop>>
     requires sound { IsTrue (is_sound (as_form row.now)) }
@@ -117,17 +137,11 @@ fn named_row<T: Text>(row: &Row, text: T) -> Result<ParsedNode<T>, Option<Stop>>
         ≡ named_told row.now.mode (as_form row.now) (T.bytes text) }
 {
     match row.mode {
-        Mode::Read => {
-            if !is_textless(row.tail) {
-                return Err(None);
-            }
-            match told_row(row, text) {
-                Ok(node) => Ok(node),
-                Err(stop) => Err(Some(stop)),
-            }
-        }
+        Mode::Read => textless_row(row, text),
         Mode::Printed => Err(Some(stop_at(text, Expected::Untold))),
         Mode::Display => Err(None),
+        Mode::Libefivar => Err(None),
+        Mode::People => textless_row(row, text),
     }
 }
 
@@ -227,11 +241,11 @@ fn try_plain<T: Text>(furthest: Option<Stop>, text: T) -> Result<ParsedNode<T>, 
 {
     let names: [(&[u8], Option<u8>); 6] = [
         (b"Path(", None),
-        (b"HardwarePath(", Some(1)),
-        (b"AcpiPath(", Some(2)),
-        (b"Msg(", Some(3)),
-        (b"MediaPath(", Some(4)),
-        (b"BbsPath(", Some(5)),
+        (b"HardwarePath(", Some(HARDWARE_TYPE)),
+        (b"AcpiPath(", Some(ACPI_TYPE)),
+        (b"Msg(", Some(MESSAGING_TYPE)),
+        (b"MediaPath(", Some(MEDIA_TYPE)),
+        (b"BbsPath(", Some(BIOS_BOOT_SPEC_TYPE)),
     ];
     try_names(&names, furthest, text)
 }
@@ -246,10 +260,6 @@ pub(crate) fn try_call<T: NameText>(call: Tidied<T>) -> Result<ReadNode<T>, Opti
     }
     let attempt = TextlessCall { call };
     let furthest = match try_table(&attempt) {
-        Ok(node) => return Ok(node),
-        Err(stop) => stop,
-    };
-    let furthest = match try_pasted(&attempt, furthest) {
         Ok(node) => return Ok(node),
         Err(stop) => stop,
     };

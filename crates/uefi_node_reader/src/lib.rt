@@ -37,7 +37,6 @@ mod node_tails;
 pub mod nodes;
 mod notations;
 mod numerals;
-mod other_forms;
 #[doc(hidden)]
 pub mod parsed_node;
 mod plain_nodes;

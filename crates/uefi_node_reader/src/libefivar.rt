@@ -20,12 +20,12 @@ use crate::fields::after;
 use crate::lenient_names::begins_call;
 use crate::lenient_table::exact_told;
 use crate::named_files::NameText;
-use crate::other_forms::own_forms;
 use crate::parsed_node::ParsedNode;
 use crate::stops::stop_at;
 use crate::texts::Text;
 use crate::tidied::{Tidied, cut_call, place_at, tidy};
 use uefi_node_table::rows::Row;
+use uefi_node_table::table::libefivar_forms;
 
 /// Reads a tidied text in the first of these forms that it matches exactly.
 fn exact_group<T: Text>(rows: &[Row], text: T) -> Option<ParsedNode<T>>
@@ -46,7 +46,7 @@ fn own_call<T: NameText>(text: T) -> Option<(ParsedNode<Tidied<T>>, T)>
     ensures { option_map (λ x. (parsed_node x.0, T.bytes x.1)) result ≡ own_call (T.bytes text) }
 {
     let (front, rest) = cut_call(text)?;
-    let node = exact_group(own_forms(), tidy(front))?;
+    let node = exact_group(libefivar_forms(), tidy(front))?;
     Some((node, rest))
 }
 

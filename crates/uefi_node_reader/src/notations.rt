@@ -9,9 +9,7 @@ ghost use Rattle.uefi_node_reader.specs.Notations.{Rules, exact, lenient};
 
 use crate::faults::Stop;
 use crate::fields::{after, read_value};
-use crate::lenient_fields::{
-    after_ending, after_literal, expected_field, left_out, value_or_spare,
-};
+use crate::lenient_fields::{after_ending, after_literal, expected_field, value_or_spare};
 use crate::stops::stop_at;
 use crate::texts::Text;
 use uefi_node_table::rows::Piece;
@@ -28,18 +26,12 @@ pub(crate) trait Notation {
         ensures { result_map_both (λ x. T.bytes x) (λ e. e) result
             ≡ rules.literal literal.now (T.bytes text) };
 
-    /// Fills a buffer with the bytes of a field in the data of a node of a kind.
-    fn value<T: Text>(
-        kind: u8,
-        sub_kind: u8,
-        piece: &Piece,
-        found: &mut [u8],
-        text: T,
-    ) -> Result<T, Self::Fault>
+    /// Fills a buffer with the bytes of a field.
+    fn value<T: Text>(piece: &Piece, found: &mut [u8], text: T) -> Result<T, Self::Fault>
         requires fits { IsTrue (fits_shape piece.now.shape (length found.old)) }
         requires width { length found.old ≡ piece.now.width }
         ensures { result_map_both (λ x. (found.new, T.bytes x)) (λ e. e) result
-            ≡ rules.value kind sub_kind (as_piece piece.now) (T.bytes text) };
+            ≡ rules.value (as_piece piece.now) (T.bytes text) };
 
     /// Reads the literal after a field.
     fn ending<T: Text>(ending: &[u8], text: T) -> Result<T, Self::Fault>
@@ -59,13 +51,7 @@ impl Notation for Exact {
         after(literal, text).ok_or(())
     }
 
-    fn value<T: Text>(
-        _kind: u8,
-        _sub_kind: u8,
-        piece: &Piece,
-        found: &mut [u8],
-        text: T,
-    ) -> Result<T, ()> {
+    fn value<T: Text>(piece: &Piece, found: &mut [u8], text: T) -> Result<T, ()> {
         read_value(piece.shape, found, text).ok_or(())
     }
 
@@ -86,15 +72,8 @@ impl Notation for Lenient {
         after_literal(literal, text)
     }
 
-    fn value<T: Text>(
-        kind: u8,
-        sub_kind: u8,
-        piece: &Piece,
-        found: &mut [u8],
-        text: T,
-    ) -> Result<T, Stop> {
-        let spare = left_out(kind, sub_kind, piece.place as usize);
-        match value_or_spare(piece.shape, spare, found, text) {
+    fn value<T: Text>(piece: &Piece, found: &mut [u8], text: T) -> Result<T, Stop> {
+        match value_or_spare(piece.shape, piece.spare, found, text) {
             Some(rest) => Ok(rest),
             None => Err(stop_at(text, expected_field(piece.shape, piece.width as usize))),
         }

@@ -22,6 +22,7 @@ use crate::parsed_node::ParsedNode;
 use crate::stops::stop_at;
 use crate::tail_stops::{exact_end, rest_end};
 use crate::texts::Text;
+use uefi_node_table::layouts::{FILE_PATH, MEDIA_TYPE};
 use uefi_node_table::printing::has_form;
 use uefi_node_table::rows::Tail;
 
@@ -30,7 +31,7 @@ fn is_file(device_type: u8, sub_type: u8, len: usize) -> bool
     ensures { (content : List ℕ) → len ≡ length content
         → result ≡ is_irregular false (node_with device_type sub_type content) }
 {
-    device_type == 4 && sub_type == 4 && len % 2 == 0
+    device_type == MEDIA_TYPE && sub_type == FILE_PATH && len % 2 == 0
 }
 
 /// Returns whether a node has no form of its own, fits into a path, and does not end an instance or

@@ -10,6 +10,7 @@ use crate::parsed_node::ParsedNode;
 use crate::tidied::Tidied;
 use uefi_device_nodes::build_node::BuildNode;
 use uefi_device_nodes::{DeviceSubType, DeviceType};
+use uefi_node_table::layouts::{FILE_PATH, MEDIA_TYPE};
 
 /// A node that was read from a text.
 #[derive(Drop)]
@@ -30,7 +31,7 @@ impl<T: NameText> BuildNode for ReadNode<T> {
         let (device_type, sub_type) = match self {
             ReadNode::Exact(node) => node.types(),
             ReadNode::Tidied(node) => node.types(),
-            ReadNode::File(_) => (4, 4),
+            ReadNode::File(_) => (MEDIA_TYPE, FILE_PATH),
         };
         (DeviceType(device_type), DeviceSubType(sub_type))
     }

@@ -16,6 +16,7 @@ use crate::fields::after;
 use crate::lenient_fields::any_number;
 use crate::parsed_node::ParsedNode;
 use crate::texts::{Text, is_empty};
+use uefi_node_table::layouts::{IPV6, MESSAGING_TYPE};
 use uefi_node_table::printing::form_of;
 use uefi_node_table::rows::Tail;
 
@@ -243,6 +244,14 @@ pub(crate) fn short_ipv6<T: Text>(text: T) -> Option<ParsedNode<T>>
     ensures { option_map parsed_node result ≡ short_ipv6 (T.bytes text) }
 {
     let (fixed, len) = call_data(text)?;
-    let (node, _) = ParsedNode::with_tail(3, 13, fixed, len, Tail::Nothing, "", text)?;
+    let (node, _) = ParsedNode::with_tail(
+        MESSAGING_TYPE,
+        IPV6,
+        fixed,
+        len,
+        Tail::Nothing,
+        "",
+        text,
+    )?;
     told_fixed(node)
 }

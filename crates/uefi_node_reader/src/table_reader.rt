@@ -7,7 +7,7 @@ ghost use Rattle.std.specs.Prelude.{◌≡◌, None, false, ◌≤◌, ℕ, IfSo
 ghost use Rattle.uefi_node_table.specs.Rows.{as_form, is_within};
 ghost use Rattle.uefi_node_table.specs.Table.{forms};
 ghost use Rattle.uefi_device_nodes.specs.Nodes.{Node, node_with};
-ghost use Rattle.uefi_node_reader.specs.TableReading.{are_within, blank, form_place, form_read, is_filled, is_sound, kept, prints, put_all, rest_read, table_read};
+ghost use Rattle.uefi_node_reader.specs.TableReading.{are_within, blank, form_place, form_read, is_exact, is_filled, is_sound, kept, prints, put_all, rest_read, table_read};
 ghost use Rattle.uefi_node_reader.specs.ParsedNodes.{fitting};
 ghost use Rattle.uefi_node_reader.specs.WordReading.{after};
 ghost use Rattle.uefi_node_reader.specs.ParsedNodeViews.{text_node_data, parsed_node};
@@ -68,6 +68,13 @@ pub(crate) fn finish_row<T: Text>(row: &Row, fixed: [u8; 56], text: T) -> Option
     node.with_fields(row.rest.as_slice(), rest)
 }
 
+/// Returns whether texts of a form are read exactly as they are printed.
+pub(crate) fn is_exact(mode: Mode) -> bool
+    ensures { result ≡ is_exact mode }
+{
+    matches!(mode, Mode::Read | Mode::Libefivar)
+}
+
 /// Reads a node of a form, and returns the rest of the text too.
 pub(crate) fn read_row<T: Text>(row: &Row, text: T) -> Option<(ParsedNode<T>, T)>
     requires sound { IsTrue (is_sound (as_form row.now)) }
@@ -77,9 +84,9 @@ pub(crate) fn read_row<T: Text>(row: &Row, text: T) -> Option<(ParsedNode<T>, T)
     ensures data { option_map (λ x. (text_node_data x.0, T.bytes x.1)) result
         ≡ fitting (form_read (as_form row.now) (T.bytes text)) }
 {
-    let Mode::Read = row.mode else {
+    if !is_exact(row.mode) {
         return None;
-    };
+    }
     let mut fixed = fixed_part(row);
     let rest = read_head::<Exact, T>(row, &mut fixed[..row.least as usize], text).ok()?;
     finish_row(row, fixed, rest)

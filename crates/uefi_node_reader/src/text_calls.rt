@@ -14,9 +14,9 @@ ghost use Rattle.uefi_node_reader.specs.Stops.{past, stop_at};
 ghost use Rattle.uefi_node_reader.specs.declared.faults.Expected.TheVariants.{Untold};
 ghost use Rattle.uefi_node_reader.specs.ReadNodes.{node_from_text};
 ghost use Rattle.uefi_node_reader.specs.TableReading.{added, is_filled, is_read, is_sound, tail_read};
-ghost use Rattle.uefi_node_reader.specs.TextCalls.{are_left_out, call_left, holds_ids, holds_text, left_of, or_commas, past_second, stop_before, text_call_told, text_left, text_stop, text_told, text_tried, texts_tried, uid_call_told, uid_told, uid_tried};
+ghost use Rattle.uefi_node_reader.specs.TextCalls.{are_left_out, call_left, holds_ids, holds_text, left_of, or_commas, past_second, stop_before, text_call_told, text_left, text_stop, text_told, text_tried, texts_tried, uid_call_told, uid_told, uid_tried, words_tried};
 
-use crate::attempts::{Attempt, try_pasted, try_table};
+use crate::attempts::{Attempt, try_table};
 use crate::clear_texts::{first_of, past_clear};
 use crate::faults::{Expected, Stop};
 use crate::first_letters::begins_in_either_case;
@@ -34,7 +34,7 @@ use crate::texts::{Text, is_empty};
 use crate::tidied::{Tidied, past_mark, place_at, tidy};
 use uefi_node_table::rows::{Mode, Row, Tail};
 
-/// Returns whether a form is read and contains a text.
+/// Returns whether a form is printed and contains a text.
 fn holds_text(mode: Mode, tail: Tail) -> bool
     ensures { result ≡ holds_text mode tail }
 {
@@ -44,11 +44,11 @@ fn holds_text(mode: Mode, tail: Tail) -> bool
     }
 }
 
-/// Returns whether a form is read and contains the IDs of a device.
+/// Returns whether people write only one of the IDs of a device in a form.
 fn holds_ids(mode: Mode, tail: Tail) -> bool
     ensures { result ≡ holds_ids mode tail }
 {
-    matches!((mode, tail), (Mode::Read, Tail::Ids))
+    matches!((mode, tail), (Mode::People, Tail::Ids))
 }
 
 /// Returns the rest of a call from this rest of the tidied call.
@@ -191,8 +191,6 @@ fn text_told<T: NameText>(
     let rest = after_ending(close, call_left(call, end))?;
     let mut whole = fixed;
     let rest = read_pieces::<Lenient, Tidied<T>>(
-        row.kind,
-        row.sub_kind,
         row.rest.as_slice(),
         &mut whole[..row.least as usize],
         rest,
@@ -254,6 +252,39 @@ fn uid_call<T: NameText>(row: &Row, front: T, call: Tidied<T>) -> Result<ParsedN
     uid_told(row, fixed, left_of(front, call, rest))
 }
 
+/// Reads a call in a form that is printed, if the form contains a text and has the name of the call.
+fn try_text<T: NameText>(row: &Row, front: T, call: Tidied<T>) -> Result<ReadNode<T>, Option<Stop>>
+    requires sound { IsTrue (is_sound (as_form row.now)) }
+    requires filled { IsTrue (is_filled (as_form row.now)) }
+    ensures { result_map_both node_from_text (λ e. e) result
+        ≡ text_tried (T.bytes front) (⟦<Tidied<T> as Text>⟧.bytes call) (as_form row.now) }
+{
+    if !(holds_text(row.mode, row.tail) && begins_call_name(row.start.as_bytes(), call)) {
+        return Err(None);
+    }
+    match text_call(row, front, call) {
+        Ok(node) => Ok(ReadNode::Exact(node)),
+        Err(stop) => Err(Some(stop)),
+    }
+}
+
+/// Reads a call whose only ID string is `_UID`, if people write it in this form and the form has the name of
+/// the call.
+fn try_uid<T: NameText>(row: &Row, front: T, call: Tidied<T>) -> Result<ReadNode<T>, Option<Stop>>
+    requires sound { IsTrue (is_sound (as_form row.now)) }
+    requires filled { IsTrue (is_filled (as_form row.now)) }
+    ensures { result_map_both node_from_text (λ e. e) result
+        ≡ uid_tried (T.bytes front) (⟦<Tidied<T> as Text>⟧.bytes call) (as_form row.now) }
+{
+    if !(holds_ids(row.mode, row.tail) && begins_call_name(row.start.as_bytes(), call)) {
+        return Err(None);
+    }
+    match uid_call(row, front, call) {
+        Ok(node) => Ok(ReadNode::Exact(node)),
+        Err(stop) => Err(Some(stop)),
+    }
+}
+
 /// An attempt to read a call that contains a text.
 #[derive(Clone, Copy)]
 struct TextCall<T: NameText> {
@@ -270,53 +301,17 @@ impl<T: NameText> Attempt for TextCall<T> {
     ghost seen = { node_from_text };
 
     ghost tried = { λ attempt place.
-        text_tried (T.bytes attempt.front) (⟦<Tidied<T> as Text>⟧.bytes attempt.call) };
+        words_tried (T.bytes attempt.front) (⟦<Tidied<T> as Text>⟧.bytes attempt.call) };
 
     fn may_begin(&self, letters: u64) -> bool {
         begins_in_either_case(letters, self.call)
     }
 
     fn attempt(&self, _place: usize, row: &Row) -> Result<ReadNode<T>, Option<Stop>> {
-        if !(holds_text(row.mode, row.tail) && begins_call_name(row.start.as_bytes(), self.call)) {
-            return Err(None);
+        if holds_ids(row.mode, row.tail) {
+            return try_uid(row, self.front, self.call);
         }
-        match text_call(row, self.front, self.call) {
-            Ok(node) => Ok(ReadNode::Exact(node)),
-            Err(stop) => Err(Some(stop)),
-        }
-    }
-}
-
-/// An attempt to read a call whose only ID string is `_UID`.
-#[derive(Clone, Copy)]
-struct UidCall<T: NameText> {
-    /// The part of the call before its `)`.
-    front: T,
-    call: Tidied<T>,
-}
-
-impl<T: NameText> Attempt for UidCall<T> {
-    type Read = ReadNode<T>;
-
-    ghost Seen = { Node };
-
-    ghost seen = { node_from_text };
-
-    ghost tried = { λ attempt place.
-        uid_tried (T.bytes attempt.front) (⟦<Tidied<T> as Text>⟧.bytes attempt.call) };
-
-    fn may_begin(&self, letters: u64) -> bool {
-        begins_in_either_case(letters, self.call)
-    }
-
-    fn attempt(&self, _place: usize, row: &Row) -> Result<ReadNode<T>, Option<Stop>> {
-        if !(holds_ids(row.mode, row.tail) && begins_call_name(row.start.as_bytes(), self.call)) {
-            return Err(None);
-        }
-        match uid_call(row, self.front, self.call) {
-            Ok(node) => Ok(ReadNode::Exact(node)),
-            Err(stop) => Err(Some(stop)),
-        }
+        try_text(row, self.front, self.call)
     }
 }
 
@@ -326,8 +321,5 @@ pub(crate) fn try_texts<T: NameText>(front: T, call: Tidied<T>) -> Result<ReadNo
     ensures { result_map_both node_from_text (λ e. e) result
         ≡ texts_tried (T.bytes front) (⟦<Tidied<T> as Text>⟧.bytes call) }
 {
-    match try_table(&TextCall { front, call }) {
-        Ok(node) => Ok(node),
-        Err(stop) => try_pasted(&UidCall { front, call }, stop),
-    }
+    try_table(&TextCall { front, call })
 }

@@ -12,16 +12,18 @@ pub table_laid_out : list_all is_laid_out forms ≡ true
 unfolding group_forms
 table_laid_out = refl
 
--- the forms of each group are for nodes of one type: computed
-groups_of_one_kind : map (λ (k : ℕ). have_one_kind (group_forms k)) (range_with_len 0 12) ≡ map (λ (k : ℕ). true) (range_with_len 0 12)
-unfolding group_forms
-groups_of_one_kind = refl
+-- what is computed for each group, by its index
+pub all_groups : (test : ℕ → Bool) → map test (range_with_len 0 16) ≡ map (λ (k : ℕ). true) (range_with_len 0 16)
+    → (index : ℕ) → index < 16 → test index ≡ true
+all_groups test computed index more =
+    sym (get_or-map-range_with_len test 0 16 index index false more (omega arith))
+    ∙ ap (λ (bs : List Bool). get_or bs index false) computed
+    ∙ get_or-map-range_with_len (λ (k : ℕ). true) 0 16 index index false more (omega arith)
 
-pub one_kind : (index : ℕ) → index < 12 → have_one_kind (group_forms index) ≡ true
-one_kind index more =
-    sym (get_or-map-range_with_len (λ (k : ℕ). have_one_kind (group_forms k)) 0 12 index index false more (omega arith))
-    ∙ ap (λ (bs : List Bool). get_or bs index false) groups_of_one_kind
-    ∙ get_or-map-range_with_len (λ (k : ℕ). true) 0 12 index index false more (omega arith)
+-- the forms of each group are for nodes of one type: computed
+pub one_kind : (index : ℕ) → index < 16 → have_one_kind (group_forms index) ≡ true
+unfolding group_forms
+one_kind = all_groups (λ k. have_one_kind (group_forms k)) refl
 
 module _ (display_only : Bool) (kind sub_kind : ℕ) (content : List ℕ) where
   no_match : (form : Form) → (form.kind == kind) ≡ false → matches display_only kind sub_kind content form ≡ false
@@ -46,8 +48,8 @@ module _ (display_only : Bool) (kind sub_kind : ℕ) (content : List ℕ) where
       ap (λ (b : Bool). cond b (Some form) (find_form (matches display_only kind sub_kind content) forms)) (no_match form not)
       ∙ none_of form.kind not forms one
 
-pub next_group : (index : ℕ) → index < 12 → forms_from index (12 - index) ≡ group_forms index ++ forms_from (index + 1) (12 - (index + 1))
-next_group index l = ap (λ (n : ℕ). forms_from index n) {x = 12 - index} {y = suc (12 - (index + 1))} (omega arith)
+pub next_group : (index : ℕ) → index < 15 → forms_from index (15 - index) ≡ group_forms index ++ forms_from (index + 1) (15 - (index + 1))
+next_group index l = ap (λ (n : ℕ). forms_from index n) {x = 15 - index} {y = suc (15 - (index + 1))} (omega arith)
 
 module _ (test : Form → Bool) where
   find_some : (xs bs : List Form) (form : Form) → find_form test xs ≡ Some form → find_form test (xs ++ bs) ≡ Some form
@@ -68,20 +70,20 @@ module _ (test : Form → Bool) where
       by true p q h = cc
       by false p q h = ap (λ (b : Bool). cond b (Some a) (find_form test (xs ++ bs))) p ∙ h q
 
-  module _ (index : ℕ) (more : index < 12) (group : List Form) (is : group ≡ group_forms index) where
+  module _ (index : ℕ) (more : index < 15) (group : List Form) (is : group ≡ group_forms index) where
     rest : List Form
-    rest = forms_from (index + 1) (12 - (index + 1))
+    rest = forms_from (index + 1) (15 - (index + 1))
 
-    here : forms_from index (12 - index) ≡ group ++ rest
+    here : forms_from index (15 - index) ≡ group ++ rest
     unfolding rest
-    here = next_group index more ∙ ap (λ (l : List Form). l ++ forms_from (index + 1) (12 - (index + 1))) (sym is)
+    here = next_group index more ∙ ap (λ (l : List Form). l ++ forms_from (index + 1) (15 - (index + 1))) (sym is)
 
     -- the search of one group more
     pub some_step : (form : Form) (all : Option Form) → Some form ≡ find_form test group
-        → find_form test (forms_from index (12 - index)) ≡ all → Some form ≡ all
+        → find_form test (forms_from index (15 - index)) ≡ all → Some form ≡ all
     some_step form all e a = sym (find_some group rest form (sym e)) ∙ ap (λ (l : List Form). find_form test l) (sym here) ∙ a
 
     pub none_step : (all : Option Form) → None ≡ find_form test group
-        → find_form test (forms_from index (12 - index)) ≡ all → find_form test (forms_from (index + 1) (12 - (index + 1))) ≡ all
+        → find_form test (forms_from index (15 - index)) ≡ all → find_form test (forms_from (index + 1) (15 - (index + 1))) ≡ all
     unfolding rest
     none_step all e a = sym (find_none group rest (sym e)) ∙ ap (λ (l : List Form). find_form test l) (sym here) ∙ a

@@ -9,23 +9,26 @@ use Rattle.uefi_node_table.specs.declared.parts.Bytes.{Bytes as PackedBytes}
 use Rattle.uefi_node_table.specs.declared.parts.Pieces.{Pieces}
 use Rattle.uefi_node_table.specs.declared.parts.Text.{Text as PackedText}
 use Rattle.uefi_node_table.specs.declared.rows.Mode.{Mode}
-use Rattle.uefi_node_table.specs.declared.rows.Mode.TheVariants.{Read, Printed, Display}
+use Rattle.uefi_node_table.specs.declared.rows.Mode.TheVariants.{Read, Printed, Display, Libefivar, People}
 use Rattle.uefi_node_table.specs.declared.rows.Shape.{Shape}
 use Rattle.uefi_node_table.specs.declared.rows.Tail.{Tail}
 use Rattle.uefi_node_table.specs.declared.rows.Tail.TheVariants.{Nothing, Bytes, Text, Utf16, Name, Padded, Ids, Repeated}
 use Rattle.uefi_node_table.specs.declared.rows.PieceOf.{PieceOf}
 use Rattle.uefi_node_table.specs.declared.rows.RowOf.{RowOf}
 use Rattle.uefi_node_table.specs.declared.rows.ItemOf.{ItemOf}
+use Rattle.uefi_node_table.specs.declared.rows.Spare.{Spare}
 use Rattle.uefi_node_table.specs.declared.rows.Items.{Items}
 use Rattle.uefi_node_table.specs.declared.rows.Items.TheVariants.{Numbers, Ipv4, Ipv6}
 use Rattle.uefi_node_table.specs.declared.table.TheConstants.{NUMBERS, IPV4_ADDRESSES, IPV6_ADDRESSES}
 
--- a field: its shape in the text, its offset and width in the data, and the text after it
+-- a field: its shape in the text, its offset and width in the data, the text after it, and its bytes if it is
+-- omitted
 pub record Piece : Type 0 where
   pub shape : Shape
   pub place : ℕ
   pub width : ℕ
   pub ending : List ℕ
+  pub spare : Spare
 
 -- a form of nodes: a row of the table
 pub record Form : Type 0 where
@@ -44,7 +47,13 @@ pub record Form : Type 0 where
 
 -- a packed field, unpacked
 abbrev pub as_piece : PieceOf ℕ PackedText → Piece
-as_piece p = record { shape = p.shape; place = p.place; width = p.width; ending = packed_text p.ending }
+as_piece p = record {
+  shape = p.shape;
+  place = p.place;
+  width = p.width;
+  ending = packed_text p.ending;
+  spare = p.spare;
+}
 
 -- a packed form, unpacked
 abbrev pub as_form : RowOf ℕ PackedText PackedBytes Pieces → Form
@@ -65,7 +74,13 @@ as_form r = record {
 
 -- a field in the source of the table
 abbrev pub const_piece : PieceOf ℕ (record { now : List ℕ }) → Piece
-const_piece p = record { shape = p.shape; place = p.place; width = p.width; ending = p.ending.now }
+const_piece p = record {
+  shape = p.shape;
+  place = p.place;
+  width = p.width;
+  ending = p.ending.now;
+  spare = p.spare;
+}
 
 -- a form in the source of the table
 abbrev pub const_form : RowOf ℕ (record { now : List ℕ }) (record { now : List (ℕ × ℕ) })
@@ -159,6 +174,8 @@ abbrev pub is_used : Bool → Mode → Bool
 is_used display_only Read = true
 is_used display_only Printed = true
 is_used display_only Display = display_only
+is_used display_only Libefivar = false
+is_used display_only People = false
 
 -- whether a form can print a node of a type, a sub-type and data
 abbrev pub matches : Bool → ℕ → ℕ → List ℕ → Form → Bool

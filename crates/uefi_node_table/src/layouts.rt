@@ -235,6 +235,8 @@ pub const IPV4_SUBNET_MASK: Field = field!(19, 4);
 pub const IPV6: u8 = 13;
 
 pub const IPV6_LEAST: usize = 56;
+/// The number of bytes of an older node, which has no prefix and no gateway.
+pub const IPV6_OLDER: usize = 39;
 
 pub const IPV6_LOCAL_IP_ADDRESS: Field = field!(0, 16);
 
@@ -421,6 +423,8 @@ pub const BLUETOOTH_LE_ADDRESS_TYPE: Field = field!(6, 1);
 pub const DNS: u8 = 31;
 
 pub const DNS_LEAST: usize = 1;
+/// The number of bytes with one address.
+pub const DNS_FIRST: usize = 17;
 
 pub const DNS_ADDRESS_TYPE: Field = field!(0, 1);
 
@@ -456,6 +460,24 @@ pub const NVME_OF_NAMESPACE_NIDT: Field = field!(0, 1);
 pub const NVME_OF_NAMESPACE_NID: Field = field!(1, 16);
 
 pub const NVME_OF_NAMESPACE_SUBSYSTEM_NQN: Field = field!(17, 0);
+
+/// A device on SAS, as a vendor-defined node.
+pub const SAS_VENDOR_LEAST: usize = 40;
+
+pub const SAS_VENDOR_RESERVED: Field = field!(16, 4);
+
+pub const SAS_VENDOR_SAS_ADDRESS: Field = field!(20, 8);
+
+pub const SAS_VENDOR_LOGICAL_UNIT_NUMBER: Field = field!(28, 8);
+
+pub const SAS_VENDOR_INFO: Field = field!(36, 2);
+
+pub const SAS_VENDOR_RELATIVE_TARGET_PORT: Field = field!(38, 2);
+
+/// The flow control of a serial port, as a vendor-defined node.
+pub const UART_FLOW_CONTROL_LEAST: usize = 20;
+
+pub const UART_FLOW_CONTROL_MAP: Field = field!(16, 4);
 
 /// A partition of a hard drive.
 pub const HARD_DRIVE: u8 = 1;

@@ -1,24 +1,26 @@
 //! The packed table, which is compiled. tools/pack-table makes this file from the table that people write, in
-//! `table.rt`, `words.rt` and `other_forms.rt` of `uefi_node_reader`. Definitions cite the written table, and
-//! `group`, `item_of`, `words_of`, `own_forms` and `pasted_forms` prove that the packed one means the same.
+//! `table.rt` and `words.rt`. Definitions cite the written table, and `group`, `item_of` and `words_of` prove
+//! that the packed one means the same.
 //!
 //! Texts, fields, bytes, rows and words are one constant each. Part `n` of a constant begins at number `n` of
 //! its starts, and ends where part `n + 1` begins.
 #![tactic(auto)]
 
 use crate::parts::{Bytes, Pieces, Text};
-use crate::rows::{Item, ItemOf, Items, Mode, Piece, PieceOf, Row, RowOf, Shape, Tail};
+use crate::rows::{Item, ItemOf, Items, Mode, Piece, PieceOf, Row, RowOf, Shape, Spare, Tail};
 use crate::words::{Word, WordOf, Words};
 
-/// Fields: the shape of one field or more, and for each of them the place, the width, and the number of
-/// the text that stands after it.
+/// Fields: the shape of one field or more and their bytes if they are omitted, and for each of them the
+/// place, the width, and the number of the text that stands after it.
 macro_rules! pieces {
-    ($($shape:ident: $($(($words:ident))? $place:literal $width:literal $ending:literal),+);+) => {
+    ($($shape:ident $spare:ident:
+        $($(($words:ident))? $place:literal $width:literal $ending:literal),+);+) => {
         [$($(PieceOf {
             shape: Shape::$shape $((Words::$words))?,
             place: $place,
             width: $width,
             ending: Text { number: $ending },
+            spare: Spare::$spare,
         }),+),+]
     };
 }
@@ -97,12 +99,12 @@ pub const TEXTS: [u8; 2285] = *b"\
     0xUsbCDCData(0xUsbSmartCard(0xUsbVideo(0xUsbDiagnostic(0xUsbWireless(0xUsbDeviceFirmwareUpdate(0xU\
     sbIrdaBridge(0xUsbTestAndMeasurement(0xUsbClass(0xHD(,MBR,0x,GPT,,0,0xCDROM(0xVenMedia(Media(FvFil\
     e(Fv(Offset(0xVirtualDisk(0xVirtualCD(0xPersistentVirtualDisk(0xPersistentVirtualCD(0xRamDisk(0xBB\
-    S(Floppy,BBS(HD,BBS(CDROM,BBS(PCMCIA,BBS(USB,BBS(Network,BBS(0xD,N,E,O,M,S,x,D)1)1.5)2)x)CRC32C,CR\
-    C32C,CRC32C,None,None,CRC32C,None,None,None,CHAP_UNI,CHAP_BI,TCP)reserved)ATA(NVME(0xVenPcAnsi()Ve\
-    nVt100()VenVt100Plus()VenUtf8()DebugPort()UartFlowControl(None)UartFlowControl(Hardware)UartFlowCo\
-    ntrol(XonXoff),NoTopology)Ata(0x0)Ata(Primary,Master)Ata(Primary,Slave)Ata(Secondary,Master)Ata(Se\
-    condary,Slave),TCP),TCP,DHCP),TCP,Static),UDP),UDP,DHCP),UDP,Static)IPv4(0.0.0.00.0.0.0,0,0)IPv6([\
-    ::]:<->[::]:,0,0)FvVol(AcpiExp(";
+    S(Floppy,BBS(HD,BBS(CDROM,BBS(PCMCIA,BBS(USB,BBS(Network,BBS(0xAcpiExp(VenPcAnsi()VenVt100()VenVt1\
+    00Plus()VenUtf8()DebugPort()UartFlowControl(None)UartFlowControl(Hardware)UartFlowControl(XonXoff)\
+    ,NoTopology)Ata(0x0)Ata(Primary,Master)Ata(Primary,Slave)Ata(Secondary,Master)Ata(Secondary,Slave)\
+    ,TCP),TCP,DHCP),TCP,Static),UDP),UDP,DHCP),UDP,Static)IPv4(0.0.0.00.0.0.0,0,0)IPv6([::]:<->[::]:,0\
+    ,0)FvVol(ATA(NVME(0xD,N,E,O,M,S,x,D)1)1.5)2)x)CRC32C,CRC32C,CRC32C,None,None,CRC32C,None,None,None\
+    ,CHAP_UNI,CHAP_BI,TCP)reserved)";
 
 /// Where each text begins.
 #[rattlefmt::skip]
@@ -114,106 +116,120 @@ pub const TEXT_STARTS: [u16; 189] = [
     1111, 1117, 1121, 1127, 1132, 1142, 1149, 1161, 1166, 1176, 1188, 1198, 1210, 1216, 1224, 1229,
     1257, 1284, 1312, 1339, 1363, 1386, 1397, 1413, 1422, 1433, 1446, 1463, 1472, 1485, 1500, 1511,
     1527, 1541, 1567, 1583, 1607, 1618, 1621, 1628, 1633, 1638, 1646, 1655, 1661, 1668, 1671, 1680,
-    1694, 1706, 1730, 1752, 1762, 1773, 1780, 1790, 1801, 1809, 1821, 1827, 1829, 1831, 1833, 1835,
-    1837, 1839, 1841, 1843, 1845, 1849, 1851, 1853, 1867, 1879, 1891, 1901, 1906, 1915, 1923, 1927,
-    1936, 1940, 1947, 1958, 1968, 1982, 1991, 2002, 2023, 2048, 2072, 2084, 2092, 2111, 2129, 2150,
-    2170, 2175, 2185, 2197, 2202, 2212, 2224, 2248, 2271, 2277, 2285
+    1694, 1706, 1730, 1752, 1762, 1773, 1780, 1790, 1801, 1809, 1821, 1827, 1835, 1846, 1856, 1870,
+    1879, 1890, 1911, 1936, 1960, 1972, 1980, 1999, 2017, 2038, 2058, 2063, 2073, 2085, 2090, 2100,
+    2112, 2136, 2159, 2165, 2169, 2176, 2178, 2180, 2182, 2184, 2186, 2188, 2190, 2192, 2194, 2198,
+    2200, 2202, 2216, 2228, 2240, 2250, 2255, 2264, 2272, 2276, 2285
 ];
 
 /// The fields.
 #[rattlefmt::skip]
 pub const PIECES: [Piece; 909] = pieces!(
-    Hexadecimal: 0 4 0; Decimal: 0 1 3, 1 1 3, 2 1 3, 3 1 0; Forth: 0 2 4, 2 2 4, 4 2 4, 6 2 4, 8 2 4,
-    10 2 4, 12 2 4, 14 2 0; Hexadecimal: 1 1 1, 0 1 6, 0 1 6, 0 4 1, 4 8 1, 12 8 6; Back: 0 4 10,
-    4 2 10, 6 2 10; Forth: 8 2 10, 10 6 0; Hexadecimal: 0 4 6, 0 1 1, 1 8 6, 4 4 6; Back: 2 2 1;
-    Hexadecimal: 4 4 6; Eisa: 0 4 2, 8 4 1; Hexadecimal: 4 4 2; Back: 0 4 1; Hexadecimal: 4 4 6, 20 8 1,
-    28 8 1, 38 2 24, 16 4 6, 20 8 1, 28 8 1, 38 2 25, 16 4 6, 20 8 1, 28 8 1, 38 2 26, 16 4 6, 20 8 1,
-    28 8 1, 38 2 27, 16 4 6, 20 8 1, 28 8 1, 38 2 28, 16 4 6, 20 8 1, 28 8 1, 38 2 29, 16 4 6, 20 8 1,
-    28 8 1, 38 2 30, 16 4 6, 20 8 1, 28 8 1, 38 2 31, 16 4 6, 20 8 1, 28 8 1, 38 2 32, 16 4 6, 20 8 1,
-    28 8 1, 38 2 33; Next: 37 1 1; Hexadecimal: 16 4 6, 20 8 1, 28 8 1, 38 2 34; Next: 37 1 1;
-    Hexadecimal: 16 4 6, 20 8 1, 28 8 1, 38 2 35; Next: 37 1 1; Hexadecimal: 16 4 6, 20 8 1, 28 8 1,
-    38 2 36; Next: 37 1 1; Hexadecimal: 16 4 6, 20 8 1, 28 8 1, 38 2 37; Next: 37 1 1;
-    Hexadecimal: 16 4 6, 20 8 1, 28 8 1, 38 2 38; Next: 37 1 1; Hexadecimal: 16 4 6, 20 8 1, 28 8 1,
-    38 2 39; Next: 37 1 1; Hexadecimal: 16 4 6, 20 8 1, 28 8 1, 38 2 40; Next: 37 1 1;
-    Hexadecimal: 16 4 6, 20 8 1, 28 8 1, 38 2 1, 36 2 41, 16 4 6; Forth: 0 8 1, 8 8 1;
-    Hexadecimal: 18 2 43; Forth: 0 8 1, 8 8 1; Hexadecimal: 18 2 44; Forth: 0 8 1, 8 8 1;
-    Hexadecimal: 18 2 45; Forth: 0 8 1, 8 8 1; Hexadecimal: 18 2 46; Forth: 0 8 1, 8 8 1;
-    Hexadecimal: 18 2 47; Forth: 0 8 1, 8 8 1; Hexadecimal: 18 2 48; Forth: 0 8 1, 8 8 1;
-    Hexadecimal: 18 2 49; Forth: 0 8 1, 8 8 1; Hexadecimal: 18 2 50; Forth: 0 8 1, 8 8 1;
-    Hexadecimal: 18 2 51; Forth: 0 8 1, 8 8 1; Hexadecimal: 18 2 33; Next: 17 1 6; Forth: 0 8 1, 8 8 1;
-    Hexadecimal: 18 2 34; Next: 17 1 6; Forth: 0 8 1, 8 8 1; Hexadecimal: 18 2 35; Next: 17 1 6;
-    Forth: 0 8 1, 8 8 1; Hexadecimal: 18 2 36; Next: 17 1 6; Forth: 0 8 1, 8 8 1; Hexadecimal: 18 2 37;
-    Next: 17 1 6; Forth: 0 8 1, 8 8 1; Hexadecimal: 18 2 38; Next: 17 1 6; Forth: 0 8 1, 8 8 1;
-    Hexadecimal: 18 2 39; Next: 17 1 6; Forth: 0 8 1, 8 8 1; Hexadecimal: 18 2 40; Next: 17 1 6;
-    Forth: 0 8 1, 8 8 1; Hexadecimal: 18 2 1, 16 2 52, 2 2 6, 0 2 1, 2 2 6, 4 8 1, 12 8 6; Back: 4 8 6;
-    Hexadecimal: 0 1 1, 1 1 6, 0 4 2; Back: 4 4 10, 8 2 10, 10 2 10; Forth: 12 2 10, 14 6 1;
-    Hexadecimal: 20 8 1, 28 8 1, 36 8 6; Forth: 0 6 69, 0 6 70, 0 32 1; Hexadecimal: 32 1 6;
-    OrDefault: 4 8 2, 12 1 2; Word: (Parity) 13 1 0, (StopBits) 14 1 0; Hexadecimal: 2 2 1, 4 2 1,
-    0 2 73; Decimal: 1 1 3, 2 1 3, 3 1 3, 4 1 0; Forth: 1 2 4, 3 2 4, 5 2 4, 7 2 4, 9 2 4, 11 2 4,
-    13 2 4, 15 2 0; Hexadecimal: 0 2 1, 2 2 1, 4 2 6; Decimal: 0 2 6; Forth: 4 8 1, 12 8 6;
-    Hexadecimal: 0 4 2; Dashed: 4 8 6; Hexadecimal: 12 2 1; Forth: 4 8 2; Word: (Digests) 2 1 0,
-    (Login) 3 1 0, (Protocol) 0 2 0; Forth: 0 6 6, 0 6 1, 6 1 6; Decimal: 4 1 3, 5 1 3, 6 1 3, 7 1 6,
+    Hexadecimal Zeros: 0 4 0; Decimal Zeros: 0 1 3, 1 1 3, 2 1 3, 3 1 0; Forth Zeros: 0 2 4, 2 2 4,
+    4 2 4, 6 2 4, 8 2 4, 10 2 4, 12 2 4, 14 2 0; Hexadecimal Zeros: 1 1 1, 0 1 6, 0 1 6, 0 4 1, 4 8 1,
+    12 8 6; Back Zeros: 0 4 10, 4 2 10, 6 2 10; Forth Zeros: 8 2 10, 10 6 0; Hexadecimal Zeros: 0 4 6,
+    0 1 1, 1 8 6, 4 4 6; Back Zeros: 2 2 1; Hexadecimal Zeros: 4 4 6; Eisa Zeros: 0 4 2, 8 4 1;
+    Hexadecimal Zeros: 4 4 2; Back Zeros: 0 4 1; Hexadecimal Zeros: 4 4 6, 20 8 1, 28 8 1, 38 2 24,
+    16 4 6, 20 8 1, 28 8 1, 38 2 25, 16 4 6, 20 8 1, 28 8 1, 38 2 26, 16 4 6, 20 8 1, 28 8 1, 38 2 27,
+    16 4 6, 20 8 1, 28 8 1, 38 2 28, 16 4 6, 20 8 1, 28 8 1, 38 2 29, 16 4 6, 20 8 1, 28 8 1, 38 2 30,
+    16 4 6, 20 8 1, 28 8 1, 38 2 31, 16 4 6, 20 8 1, 28 8 1, 38 2 32, 16 4 6, 20 8 1, 28 8 1, 38 2 33;
+    Next Zeros: 37 1 1; Hexadecimal Zeros: 16 4 6, 20 8 1, 28 8 1, 38 2 34; Next Zeros: 37 1 1;
+    Hexadecimal Zeros: 16 4 6, 20 8 1, 28 8 1, 38 2 35; Next Zeros: 37 1 1; Hexadecimal Zeros: 16 4 6,
+    20 8 1, 28 8 1, 38 2 36; Next Zeros: 37 1 1; Hexadecimal Zeros: 16 4 6, 20 8 1, 28 8 1, 38 2 37;
+    Next Zeros: 37 1 1; Hexadecimal Zeros: 16 4 6, 20 8 1, 28 8 1, 38 2 38; Next Zeros: 37 1 1;
+    Hexadecimal Zeros: 16 4 6, 20 8 1, 28 8 1, 38 2 39; Next Zeros: 37 1 1; Hexadecimal Zeros: 16 4 6,
+    20 8 1, 28 8 1, 38 2 40; Next Zeros: 37 1 1; Hexadecimal Zeros: 16 4 6, 20 8 1, 28 8 1, 38 2 1,
+    36 2 41, 16 4 6; Forth Zeros: 0 8 1, 8 8 1; Hexadecimal Zeros: 18 2 43; Forth Zeros: 0 8 1, 8 8 1;
+    Hexadecimal Zeros: 18 2 44; Forth Zeros: 0 8 1, 8 8 1; Hexadecimal Zeros: 18 2 45;
+    Forth Zeros: 0 8 1, 8 8 1; Hexadecimal Zeros: 18 2 46; Forth Zeros: 0 8 1, 8 8 1;
+    Hexadecimal Zeros: 18 2 47; Forth Zeros: 0 8 1, 8 8 1; Hexadecimal Zeros: 18 2 48;
+    Forth Zeros: 0 8 1, 8 8 1; Hexadecimal Zeros: 18 2 49; Forth Zeros: 0 8 1, 8 8 1;
+    Hexadecimal Zeros: 18 2 50; Forth Zeros: 0 8 1, 8 8 1; Hexadecimal Zeros: 18 2 51;
+    Forth Zeros: 0 8 1, 8 8 1; Hexadecimal Zeros: 18 2 33; Next Zeros: 17 1 6; Forth Zeros: 0 8 1,
+    8 8 1; Hexadecimal Zeros: 18 2 34; Next Zeros: 17 1 6; Forth Zeros: 0 8 1, 8 8 1;
+    Hexadecimal Zeros: 18 2 35; Next Zeros: 17 1 6; Forth Zeros: 0 8 1, 8 8 1;
+    Hexadecimal Zeros: 18 2 36; Next Zeros: 17 1 6; Forth Zeros: 0 8 1, 8 8 1;
+    Hexadecimal Zeros: 18 2 37; Next Zeros: 17 1 6; Forth Zeros: 0 8 1, 8 8 1;
+    Hexadecimal Zeros: 18 2 38; Next Zeros: 17 1 6; Forth Zeros: 0 8 1, 8 8 1;
+    Hexadecimal Zeros: 18 2 39; Next Zeros: 17 1 6; Forth Zeros: 0 8 1, 8 8 1;
+    Hexadecimal Zeros: 18 2 40; Next Zeros: 17 1 6; Forth Zeros: 0 8 1, 8 8 1;
+    Hexadecimal Zeros: 18 2 1, 16 2 52, 2 2 6, 0 2 1, 2 2 6, 4 8 1, 12 8 6; Back Zeros: 4 8 6;
+    Hexadecimal Zeros: 0 1 1, 1 1 6, 0 4 2; Back Zeros: 4 4 10, 8 2 10, 10 2 10; Forth Zeros: 12 2 10,
+    14 6 1; Hexadecimal Zeros: 20 8 1, 28 8 1, 36 8 6; Forth Zeros: 0 6 69, 0 6 70, 0 32 1;
+    Hexadecimal Zeros: 32 1 6; OrDefault Zeros: 4 8 2, 12 1 2; Word Zeros: (Parity) 13 1 0,
+    (StopBits) 14 1 0; Hexadecimal Zeros: 2 2 1, 4 2 1, 0 2 73; Decimal Zeros: 1 1 3, 2 1 3, 3 1 3,
+    4 1 0; Forth Zeros: 1 2 4, 3 2 4, 5 2 4, 7 2 4, 9 2 4, 11 2 4, 13 2 4, 15 2 0;
+    Hexadecimal Zeros: 0 2 1; Hexadecimal Ones: 2 2 1; Hexadecimal Zeros: 4 2 6; Decimal Zeros: 0 2 6;
+    Forth Zeros: 4 8 1, 12 8 6; Hexadecimal Zeros: 0 4 2; Dashed Zeros: 4 8 6;
+    Hexadecimal Zeros: 12 2 1; Forth Zeros: 4 8 2; Word Zeros: (Digests) 2 1 0, (Login) 3 1 0,
+    (Protocol) 0 2 0; Forth Zeros: 0 6 6, 0 6 1, 6 1 6; Decimal Zeros: 4 1 3, 5 1 3, 6 1 3, 7 1 6,
     4 1 3, 5 1 3, 6 1 3, 7 1 90, 0 1 3, 1 1 3, 2 1 3, 3 1 2, 15 1 3, 16 1 3, 17 1 3, 18 1 2, 19 1 3,
     20 1 3, 21 1 3, 22 1 6, 4 1 3, 5 1 3, 6 1 3, 7 1 91, 0 1 3, 1 1 3, 2 1 3, 3 1 2, 15 1 3, 16 1 3,
     17 1 3, 18 1 2, 19 1 3, 20 1 3, 21 1 3, 22 1 6, 4 1 3, 5 1 3, 6 1 3, 7 1 92, 0 1 3, 1 1 3, 2 1 3,
     3 1 2, 15 1 3, 16 1 3, 17 1 3, 18 1 2, 19 1 3, 20 1 3, 21 1 3, 22 1 6, 4 1 3, 5 1 3, 6 1 3, 7 1 93,
     0 1 3, 1 1 3, 2 1 3, 3 1 2, 15 1 3, 16 1 3, 17 1 3, 18 1 2, 19 1 3, 20 1 3, 21 1 3, 22 1 6, 4 1 3,
-    5 1 3, 6 1 3, 7 1 1; Hexadecimal: 12 2 94; Decimal: 0 1 3, 1 1 3, 2 1 3, 3 1 2, 15 1 3, 16 1 3,
-    17 1 3, 18 1 2, 19 1 3, 20 1 3, 21 1 3, 22 1 6, 4 1 3, 5 1 3, 6 1 3, 7 1 1; Hexadecimal: 12 2 95;
-    Decimal: 0 1 3, 1 1 3, 2 1 3, 3 1 2, 15 1 3, 16 1 3, 17 1 3, 18 1 2, 19 1 3, 20 1 3, 21 1 3, 22 1 6,
-    4 1 3, 5 1 3, 6 1 3, 7 1 90, 0 1 3, 1 1 3, 2 1 3, 3 1 6, 4 1 3, 5 1 3, 6 1 3, 7 1 91, 0 1 3, 1 1 3,
-    2 1 3, 3 1 6, 4 1 3, 5 1 3, 6 1 3, 7 1 92, 0 1 3, 1 1 3, 2 1 3, 3 1 6, 4 1 3, 5 1 3, 6 1 3, 7 1 93,
-    0 1 3, 1 1 3, 2 1 3, 3 1 6, 4 1 3, 5 1 3, 6 1 3, 7 1 1; Hexadecimal: 12 2 94; Decimal: 0 1 3, 1 1 3,
-    2 1 3, 3 1 6, 4 1 3, 5 1 3, 6 1 3, 7 1 1; Hexadecimal: 12 2 95; Decimal: 0 1 3, 1 1 3, 2 1 3, 3 1 6;
-    Forth: 16 2 4, 18 2 4, 20 2 4, 22 2 4, 24 2 4, 26 2 4, 28 2 4, 30 2 6, 16 2 4, 18 2 4, 20 2 4,
-    22 2 4, 24 2 4, 26 2 4, 28 2 4, 30 2 91, 0 2 4, 2 2 4, 4 2 4, 6 2 4, 8 2 4, 10 2 4, 12 2 4, 14 2 1;
-    Hexadecimal: 39 1 2; Forth: 40 2 4, 42 2 4, 44 2 4, 46 2 4, 48 2 4, 50 2 4, 52 2 4, 54 2 6, 16 2 4,
-    18 2 4, 20 2 4, 22 2 4, 24 2 4, 26 2 4, 28 2 4, 30 2 97, 0 2 4, 2 2 4, 4 2 4, 6 2 4, 8 2 4, 10 2 4,
-    12 2 4, 14 2 1; Hexadecimal: 39 1 2; Forth: 40 2 4, 42 2 4, 44 2 4, 46 2 4, 48 2 4, 50 2 4, 52 2 4,
-    54 2 6, 16 2 4, 18 2 4, 20 2 4, 22 2 4, 24 2 4, 26 2 4, 28 2 4, 30 2 98, 0 2 4, 2 2 4, 4 2 4, 6 2 4,
-    8 2 4, 10 2 4, 12 2 4, 14 2 1; Hexadecimal: 39 1 2; Forth: 40 2 4, 42 2 4, 44 2 4, 46 2 4, 48 2 4,
-    50 2 4, 52 2 4, 54 2 6, 16 2 4, 18 2 4, 20 2 4, 22 2 4, 24 2 4, 26 2 4, 28 2 4, 30 2 93, 0 2 4,
-    2 2 4, 4 2 4, 6 2 4, 8 2 4, 10 2 4, 12 2 4, 14 2 1; Hexadecimal: 39 1 2; Forth: 40 2 4, 42 2 4,
+    5 1 3, 6 1 3, 7 1 1; Hexadecimal Zeros: 12 2 94; Decimal Zeros: 0 1 3, 1 1 3, 2 1 3, 3 1 2, 15 1 3,
+    16 1 3, 17 1 3, 18 1 2, 19 1 3, 20 1 3, 21 1 3, 22 1 6, 4 1 3, 5 1 3, 6 1 3, 7 1 1;
+    Hexadecimal Zeros: 12 2 95; Decimal Zeros: 0 1 3, 1 1 3, 2 1 3, 3 1 2, 15 1 3, 16 1 3, 17 1 3,
+    18 1 2, 19 1 3, 20 1 3, 21 1 3, 22 1 6, 4 1 3, 5 1 3, 6 1 3, 7 1 90, 0 1 3, 1 1 3, 2 1 3, 3 1 6,
+    4 1 3, 5 1 3, 6 1 3, 7 1 91, 0 1 3, 1 1 3, 2 1 3, 3 1 6, 4 1 3, 5 1 3, 6 1 3, 7 1 92, 0 1 3, 1 1 3,
+    2 1 3, 3 1 6, 4 1 3, 5 1 3, 6 1 3, 7 1 93, 0 1 3, 1 1 3, 2 1 3, 3 1 6, 4 1 3, 5 1 3, 6 1 3, 7 1 1;
+    Hexadecimal Zeros: 12 2 94; Decimal Zeros: 0 1 3, 1 1 3, 2 1 3, 3 1 6, 4 1 3, 5 1 3, 6 1 3, 7 1 1;
+    Hexadecimal Zeros: 12 2 95; Decimal Zeros: 0 1 3, 1 1 3, 2 1 3, 3 1 6; Forth Zeros: 16 2 4, 18 2 4,
+    20 2 4, 22 2 4, 24 2 4, 26 2 4, 28 2 4, 30 2 6, 16 2 4, 18 2 4, 20 2 4, 22 2 4, 24 2 4, 26 2 4,
+    28 2 4, 30 2 91, 0 2 4, 2 2 4, 4 2 4, 6 2 4, 8 2 4, 10 2 4, 12 2 4, 14 2 1;
+    Hexadecimal Zeros: 39 1 2; Forth Zeros: 40 2 4, 42 2 4, 44 2 4, 46 2 4, 48 2 4, 50 2 4, 52 2 4,
+    54 2 6, 16 2 4, 18 2 4, 20 2 4, 22 2 4, 24 2 4, 26 2 4, 28 2 4, 30 2 97, 0 2 4, 2 2 4, 4 2 4, 6 2 4,
+    8 2 4, 10 2 4, 12 2 4, 14 2 1; Hexadecimal Zeros: 39 1 2; Forth Zeros: 40 2 4, 42 2 4, 44 2 4,
+    46 2 4, 48 2 4, 50 2 4, 52 2 4, 54 2 6, 16 2 4, 18 2 4, 20 2 4, 22 2 4, 24 2 4, 26 2 4, 28 2 4,
+    30 2 98, 0 2 4, 2 2 4, 4 2 4, 6 2 4, 8 2 4, 10 2 4, 12 2 4, 14 2 1; Hexadecimal Zeros: 39 1 2;
+    Forth Zeros: 40 2 4, 42 2 4, 44 2 4, 46 2 4, 48 2 4, 50 2 4, 52 2 4, 54 2 6, 16 2 4, 18 2 4, 20 2 4,
+    22 2 4, 24 2 4, 26 2 4, 28 2 4, 30 2 93, 0 2 4, 2 2 4, 4 2 4, 6 2 4, 8 2 4, 10 2 4, 12 2 4, 14 2 1;
+    Hexadecimal Zeros: 39 1 2; Forth Zeros: 40 2 4, 42 2 4, 44 2 4, 46 2 4, 48 2 4, 50 2 4, 52 2 4,
+    54 2 6, 16 2 4, 18 2 4, 20 2 4, 22 2 4, 24 2 4, 26 2 4, 28 2 4, 30 2 99, 0 2 4, 2 2 4, 4 2 4, 6 2 4,
+    8 2 4, 10 2 4, 12 2 4, 14 2 1; Hexadecimal Zeros: 39 1 2; Forth Zeros: 40 2 4, 42 2 4, 44 2 4,
+    46 2 4, 48 2 4, 50 2 4, 52 2 4, 54 2 6, 16 2 4, 18 2 4, 20 2 4, 22 2 4, 24 2 4, 26 2 4, 28 2 4,
+    30 2 100, 0 2 4, 2 2 4, 4 2 4, 6 2 4, 8 2 4, 10 2 4, 12 2 4, 14 2 1; Hexadecimal Zeros: 39 1 2;
+    Forth Zeros: 40 2 4, 42 2 4, 44 2 4, 46 2 4, 48 2 4, 50 2 4, 52 2 4, 54 2 6, 16 2 4, 18 2 4, 20 2 4,
+    22 2 4, 24 2 4, 26 2 4, 28 2 4, 30 2 1; Hexadecimal Zeros: 36 2 95; Forth Zeros: 0 2 4, 2 2 4,
+    4 2 4, 6 2 4, 8 2 4, 10 2 4, 12 2 4, 14 2 1; Hexadecimal Zeros: 39 1 2; Forth Zeros: 40 2 4, 42 2 4,
     44 2 4, 46 2 4, 48 2 4, 50 2 4, 52 2 4, 54 2 6, 16 2 4, 18 2 4, 20 2 4, 22 2 4, 24 2 4, 26 2 4,
-    28 2 4, 30 2 99, 0 2 4, 2 2 4, 4 2 4, 6 2 4, 8 2 4, 10 2 4, 12 2 4, 14 2 1; Hexadecimal: 39 1 2;
-    Forth: 40 2 4, 42 2 4, 44 2 4, 46 2 4, 48 2 4, 50 2 4, 52 2 4, 54 2 6, 16 2 4, 18 2 4, 20 2 4,
-    22 2 4, 24 2 4, 26 2 4, 28 2 4, 30 2 100, 0 2 4, 2 2 4, 4 2 4, 6 2 4, 8 2 4, 10 2 4, 12 2 4, 14 2 1;
-    Hexadecimal: 39 1 2; Forth: 40 2 4, 42 2 4, 44 2 4, 46 2 4, 48 2 4, 50 2 4, 52 2 4, 54 2 6, 16 2 4,
-    18 2 4, 20 2 4, 22 2 4, 24 2 4, 26 2 4, 28 2 4, 30 2 1; Hexadecimal: 36 2 95; Forth: 0 2 4, 2 2 4,
-    4 2 4, 6 2 4, 8 2 4, 10 2 4, 12 2 4, 14 2 1; Hexadecimal: 39 1 2; Forth: 40 2 4, 42 2 4, 44 2 4,
-    46 2 4, 48 2 4, 50 2 4, 52 2 4, 54 2 6, 16 2 4, 18 2 4, 20 2 4, 22 2 4, 24 2 4, 26 2 4, 28 2 4,
-    30 2 1; Hexadecimal: 36 2 101; Forth: 0 2 4, 2 2 4, 4 2 4, 6 2 4, 8 2 4, 10 2 4, 12 2 4, 14 2 1;
-    Hexadecimal: 39 1 2; Forth: 40 2 4, 42 2 4, 44 2 4, 46 2 4, 48 2 4, 50 2 4, 52 2 4, 54 2 6, 16 2 4,
-    18 2 4, 20 2 4, 22 2 4, 24 2 4, 26 2 4, 28 2 4, 30 2 1; Hexadecimal: 36 2 102; Forth: 0 2 4, 2 2 4,
-    4 2 4, 6 2 4, 8 2 4, 10 2 4, 12 2 4, 14 2 1; Hexadecimal: 39 1 2; Forth: 40 2 4, 42 2 4, 44 2 4,
-    46 2 4, 48 2 4, 50 2 4, 52 2 4, 54 2 6, 16 2 4, 18 2 4, 20 2 4, 22 2 4, 24 2 4, 26 2 4, 28 2 4,
-    30 2 91, 0 2 4, 2 2 4, 4 2 4, 6 2 4, 8 2 4, 10 2 4, 12 2 4, 14 2 6, 16 2 4, 18 2 4, 20 2 4, 22 2 4,
-    24 2 4, 26 2 4, 28 2 4, 30 2 97, 0 2 4, 2 2 4, 4 2 4, 6 2 4, 8 2 4, 10 2 4, 12 2 4, 14 2 6, 16 2 4,
-    18 2 4, 20 2 4, 22 2 4, 24 2 4, 26 2 4, 28 2 4, 30 2 98, 0 2 4, 2 2 4, 4 2 4, 6 2 4, 8 2 4, 10 2 4,
-    12 2 4, 14 2 6, 16 2 4, 18 2 4, 20 2 4, 22 2 4, 24 2 4, 26 2 4, 28 2 4, 30 2 93, 0 2 4, 2 2 4,
-    4 2 4, 6 2 4, 8 2 4, 10 2 4, 12 2 4, 14 2 6, 16 2 4, 18 2 4, 20 2 4, 22 2 4, 24 2 4, 26 2 4, 28 2 4,
-    30 2 99, 0 2 4, 2 2 4, 4 2 4, 6 2 4, 8 2 4, 10 2 4, 12 2 4, 14 2 6, 16 2 4, 18 2 4, 20 2 4, 22 2 4,
-    24 2 4, 26 2 4, 28 2 4, 30 2 100, 0 2 4, 2 2 4, 4 2 4, 6 2 4, 8 2 4, 10 2 4, 12 2 4, 14 2 6, 16 2 4,
-    18 2 4, 20 2 4, 22 2 4, 24 2 4, 26 2 4, 28 2 4, 30 2 1; Hexadecimal: 36 2 95; Forth: 0 2 4, 2 2 4,
-    4 2 4, 6 2 4, 8 2 4, 10 2 4, 12 2 4, 14 2 6, 16 2 4, 18 2 4, 20 2 4, 22 2 4, 24 2 4, 26 2 4, 28 2 4,
-    30 2 1; Hexadecimal: 36 2 101; Forth: 0 2 4, 2 2 4, 4 2 4, 6 2 4, 8 2 4, 10 2 4, 12 2 4, 14 2 6,
-    16 2 4, 18 2 4, 20 2 4, 22 2 4, 24 2 4, 26 2 4, 28 2 4, 30 2 1; Hexadecimal: 36 2 102; Forth: 0 2 4,
-    2 2 4, 4 2 4, 6 2 4, 8 2 4, 10 2 4, 12 2 4, 14 2 6; Hexadecimal: 0 2 1, 2 2 1, 5 1 1, 6 1 6, 0 2 1,
-    2 2 1, 6 1 6, 0 2 1, 2 2 1, 4 1 1, 5 1 1, 6 1 6; Decimal: 0 4 120; Back: 20 4 1; Hexadecimal: 4 8 1,
-    12 8 6; Decimal: 0 4 121; Back: 20 4 10, 24 2 10, 26 2 10; Forth: 28 2 10, 30 6 1;
-    Hexadecimal: 4 8 1, 12 8 6; Decimal: 0 4 2, 37 1 122; Hexadecimal: 4 8 1, 12 8 6; Back: 0 4 10,
-    4 2 10, 6 2 10; Forth: 8 2 10, 10 6 6; Hexadecimal: 0 8 1, 8 8 2; Decimal: 32 2 6;
-    Hexadecimal: 0 8 1, 8 8 2; Decimal: 32 2 2; Back: 16 4 10, 20 2 10, 22 2 10; Forth: 24 2 10, 26 6 6;
-    Hexadecimal: 0 2 2; Decimal: 0 1 2, 1 1 2, 2 2 6; Hexadecimal: 0 4 2; Forth: 4 1 10, 5 1 10, 6 1 10,
-    7 1 10, 8 1 10, 9 1 10, 10 1 10, 11 1 6; Hexadecimal: 20 8 1, 28 8 1, 38 2 6, 20 8 1, 28 8 1,
-    38 2 172; Forth: 0 8 6, 0 6 1; Hexadecimal: 32 1 6; Forth: 0 1 4, 1 1 4, 2 1 4, 3 1 4, 4 1 4, 5 1 1;
-    Hexadecimal: 32 1 6; Forth: 0 1 10, 1 1 10, 2 1 10, 3 1 10, 4 1 10, 5 1 1; Hexadecimal: 32 1 6;
-    Decimal: 4 1 3, 5 1 3, 6 1 3, 7 1 178, 4 1 3, 5 1 3, 6 1 3, 7 1 179, 4 1 3, 5 1 3, 6 1 3, 7 1 180,
-    4 1 3, 5 1 3, 6 1 3, 7 1 181, 4 1 3, 5 1 3, 6 1 3, 7 1 182, 4 1 3, 5 1 3, 6 1 3, 7 1 183;
-    Forth: 4 8 69, 0 1 4, 1 1 4, 2 1 4, 3 1 4, 4 1 4, 5 1 6, 0 1 10, 1 1 10, 2 1 10, 3 1 10, 4 1 10,
-    5 1 6, 0 6 1; Hexadecimal: 6 1 6; Forth: 0 1 10, 1 1 10, 2 1 10, 3 1 10, 4 1 10, 5 1 1;
-    Hexadecimal: 6 1 6; Forth: 0 1 4, 1 1 4, 2 1 4, 3 1 4, 4 1 4, 5 1 1; Hexadecimal: 6 1 6;
-    Decimal: 0 4 120; Hexadecimal: 20 4 1, 4 8 1, 12 8 6; Eisa: 0 4 2, 8 4 2
+    28 2 4, 30 2 1; Hexadecimal Zeros: 36 2 101; Forth Zeros: 0 2 4, 2 2 4, 4 2 4, 6 2 4, 8 2 4, 10 2 4,
+    12 2 4, 14 2 1; Hexadecimal Zeros: 39 1 2; Forth Zeros: 40 2 4, 42 2 4, 44 2 4, 46 2 4, 48 2 4,
+    50 2 4, 52 2 4, 54 2 6, 16 2 4, 18 2 4, 20 2 4, 22 2 4, 24 2 4, 26 2 4, 28 2 4, 30 2 1;
+    Hexadecimal Zeros: 36 2 102; Forth Zeros: 0 2 4, 2 2 4, 4 2 4, 6 2 4, 8 2 4, 10 2 4, 12 2 4, 14 2 1;
+    Hexadecimal Zeros: 39 1 2; Forth Zeros: 40 2 4, 42 2 4, 44 2 4, 46 2 4, 48 2 4, 50 2 4, 52 2 4,
+    54 2 6, 16 2 4, 18 2 4, 20 2 4, 22 2 4, 24 2 4, 26 2 4, 28 2 4, 30 2 91, 0 2 4, 2 2 4, 4 2 4, 6 2 4,
+    8 2 4, 10 2 4, 12 2 4, 14 2 6, 16 2 4, 18 2 4, 20 2 4, 22 2 4, 24 2 4, 26 2 4, 28 2 4, 30 2 97,
+    0 2 4, 2 2 4, 4 2 4, 6 2 4, 8 2 4, 10 2 4, 12 2 4, 14 2 6, 16 2 4, 18 2 4, 20 2 4, 22 2 4, 24 2 4,
+    26 2 4, 28 2 4, 30 2 98, 0 2 4, 2 2 4, 4 2 4, 6 2 4, 8 2 4, 10 2 4, 12 2 4, 14 2 6, 16 2 4, 18 2 4,
+    20 2 4, 22 2 4, 24 2 4, 26 2 4, 28 2 4, 30 2 93, 0 2 4, 2 2 4, 4 2 4, 6 2 4, 8 2 4, 10 2 4, 12 2 4,
+    14 2 6, 16 2 4, 18 2 4, 20 2 4, 22 2 4, 24 2 4, 26 2 4, 28 2 4, 30 2 99, 0 2 4, 2 2 4, 4 2 4, 6 2 4,
+    8 2 4, 10 2 4, 12 2 4, 14 2 6, 16 2 4, 18 2 4, 20 2 4, 22 2 4, 24 2 4, 26 2 4, 28 2 4, 30 2 100,
+    0 2 4, 2 2 4, 4 2 4, 6 2 4, 8 2 4, 10 2 4, 12 2 4, 14 2 6, 16 2 4, 18 2 4, 20 2 4, 22 2 4, 24 2 4,
+    26 2 4, 28 2 4, 30 2 1; Hexadecimal Zeros: 36 2 95; Forth Zeros: 0 2 4, 2 2 4, 4 2 4, 6 2 4, 8 2 4,
+    10 2 4, 12 2 4, 14 2 6, 16 2 4, 18 2 4, 20 2 4, 22 2 4, 24 2 4, 26 2 4, 28 2 4, 30 2 1;
+    Hexadecimal Zeros: 36 2 101; Forth Zeros: 0 2 4, 2 2 4, 4 2 4, 6 2 4, 8 2 4, 10 2 4, 12 2 4, 14 2 6,
+    16 2 4, 18 2 4, 20 2 4, 22 2 4, 24 2 4, 26 2 4, 28 2 4, 30 2 1; Hexadecimal Zeros: 36 2 102;
+    Forth Zeros: 0 2 4, 2 2 4, 4 2 4, 6 2 4, 8 2 4, 10 2 4, 12 2 4, 14 2 6; Hexadecimal Ones: 0 2 1,
+    2 2 1, 5 1 1, 6 1 6, 0 2 1, 2 2 1, 6 1 6, 0 2 1, 2 2 1, 4 1 1, 5 1 1, 6 1 6; Decimal Zeros: 0 4 120;
+    Back Zeros: 20 4 1; Hexadecimal Zeros: 4 8 1, 12 8 6; Decimal Zeros: 0 4 121; Back Zeros: 20 4 10,
+    24 2 10, 26 2 10; Forth Zeros: 28 2 10, 30 6 1; Hexadecimal Zeros: 4 8 1, 12 8 6;
+    Decimal Zeros: 0 4 2, 37 1 122; Hexadecimal Zeros: 4 8 1, 12 8 6; Back Zeros: 0 4 10, 4 2 10,
+    6 2 10; Forth Zeros: 8 2 10, 10 6 6; Hexadecimal Zeros: 0 8 1, 8 8 2; Decimal Zeros: 32 2 6;
+    Hexadecimal Zeros: 0 8 1, 8 8 2; Decimal Zeros: 32 2 2; Back Zeros: 16 4 10, 20 2 10, 22 2 10;
+    Forth Zeros: 24 2 10, 26 6 6; Hexadecimal Zeros: 0 2 2; Eisa Zeros: 0 4 2, 8 4 2;
+    Hexadecimal Zeros: 20 8 1, 28 8 1, 38 2 6, 20 8 1, 28 8 1, 38 2 150; Forth Zeros: 0 8 6, 0 6 1;
+    Hexadecimal Zeros: 32 1 6; Forth Zeros: 0 1 4, 1 1 4, 2 1 4, 3 1 4, 4 1 4, 5 1 1;
+    Hexadecimal Zeros: 32 1 6; Forth Zeros: 0 1 10, 1 1 10, 2 1 10, 3 1 10, 4 1 10, 5 1 1;
+    Hexadecimal Zeros: 32 1 6; Decimal Zeros: 4 1 3, 5 1 3, 6 1 3, 7 1 156, 4 1 3, 5 1 3, 6 1 3,
+    7 1 157, 4 1 3, 5 1 3, 6 1 3, 7 1 158, 4 1 3, 5 1 3, 6 1 3, 7 1 159, 4 1 3, 5 1 3, 6 1 3, 7 1 160,
+    4 1 3, 5 1 3, 6 1 3, 7 1 161; Forth Zeros: 4 8 69, 0 1 4, 1 1 4, 2 1 4, 3 1 4, 4 1 4, 5 1 6, 0 1 10,
+    1 1 10, 2 1 10, 3 1 10, 4 1 10, 5 1 6, 0 6 1; Hexadecimal Zeros: 6 1 6; Forth Zeros: 0 1 10, 1 1 10,
+    2 1 10, 3 1 10, 4 1 10, 5 1 1; Hexadecimal Zeros: 6 1 6; Forth Zeros: 0 1 4, 1 1 4, 2 1 4, 3 1 4,
+    4 1 4, 5 1 1; Hexadecimal Zeros: 6 1 6; Decimal Zeros: 0 4 120; Hexadecimal Zeros: 20 4 1, 4 8 1,
+    12 8 6; Decimal Zeros: 0 1 2, 1 1 2, 2 2 6; Hexadecimal Zeros: 0 4 2; Forth Zeros: 4 1 10, 5 1 10,
+    6 1 10, 7 1 10, 8 1 10, 9 1 10, 10 1 10, 11 1 6
 );
 
 /// Where each list of fields begins.
@@ -224,8 +240,8 @@ pub const PIECE_STARTS: [u16; 135] = [
     163, 167, 171, 175, 179, 180, 182, 184, 185, 187, 196, 197, 198, 200, 204, 207, 211, 219, 222, 223,
     225, 227, 232, 233, 235, 239, 255, 271, 287, 303, 320, 337, 345, 353, 361, 369, 378, 387, 395, 420,
     445, 470, 495, 520, 545, 571, 597, 623, 639, 655, 671, 687, 703, 719, 736, 753, 770, 774, 777, 782,
-    786, 794, 798, 803, 806, 814, 815, 818, 827, 830, 833, 834, 836, 843, 850, 854, 858, 862, 866, 870,
-    874, 875, 881, 887, 889, 896, 903, 907, 909
+    786, 794, 798, 803, 806, 814, 815, 817, 820, 823, 824, 826, 833, 840, 844, 848, 852, 856, 860, 864,
+    865, 871, 877, 879, 886, 893, 897, 900, 909
 ];
 
 /// The places and the bytes.
@@ -279,7 +295,7 @@ pub const BYTE_STARTS: [u16; 111] = [
 
 /// The rows of all groups.
 #[rattlefmt::skip]
-pub const ROWS: [Row; 164] = rows!(
+pub const ROWS: [Row; 206] = rows!(
     1 1 Read 2 0 0 0 Tail::Nothing => 0 0 5 4; 1 2 Read 1 0 0 0 Tail::Nothing => 0 0 7 5;
     1 3 Read 20 0 0 0 Tail::Nothing => 0 0 8 6; 1 4 Read 16 0 6 0 Tail::Bytes => 0 0 9 7;
     1 5 Read 4 0 0 0 Tail::Nothing => 0 0 11 8; 1 6 Read 9 0 0 0 Tail::Nothing => 0 0 12 9;
@@ -327,29 +343,44 @@ pub const ROWS: [Row; 164] = rows!(
     4 9 Read 34 0 0 0 Tail::Nothing => 86 0 129 109, 87 0 130 109, 88 0 131 109, 89 0 132 109,
     0 0 133 110; 5 1 Display 4 1 6 0 Tail::Name => 90 0 134 0, 91 0 135 0, 92 0 136 0, 93 0 137 0,
     94 0 138 0, 95 0 139 0, 0 0 140 111; 5 1 Read 4 1 1 50 Tail::Name => 90 0 134 0, 91 0 135 0,
-    92 0 136 0, 93 0 137 0, 94 0 138 0, 95 0 139 0, 0 0 140 111
+    92 0 136 0, 93 0 137 0, 94 0 138 0, 95 0 139 0, 0 0 140 111;
+    2 2 People 12 0 6 0 Tail::Ids => 0 0 141 112; 3 10 People 16 0 0 0 Tail::Nothing => 0 96 142 0,
+    0 97 143 0, 0 98 144 0, 0 99 145 0, 0 100 146 0; 3 10 People 20 0 0 0 Tail::Nothing => 0 101 147 0,
+    0 102 148 0, 0 103 149 0; 3 10 People 40 0 0 0 Tail::Nothing => 0 25 23 113, 0 25 23 114;
+    3 22 People 20 0 0 0 Tail::Nothing => 0 0 42 115; 3 1 People 4 0 0 0 Tail::Nothing => 0 0 151 0,
+    0 0 152 0, 0 45 153 0, 0 44 154 0, 0 43 155 0; 3 11 People 33 0 0 0 Tail::Nothing => 0 0 68 116,
+    0 0 68 117, 0 0 68 118, 0 0 68 58; 3 12 People 23 0 0 0 Tail::Nothing => 0 0 89 70, 0 104 89 119,
+    0 104 89 120, 0 105 89 121, 0 106 89 122, 0 106 89 123, 0 107 89 124, 0 0 162 0;
+    3 13 People 56 0 0 0 Tail::Nothing => 0 108 163 0; 3 21 People 20 0 0 0 Tail::Nothing => 0 0 79 125;
+    3 13 People 56 0 0 0 Tail::Nothing => 0 108 96 83; 3 23 People 12 0 0 0 Tail::Nothing => 0 0 80 8;
+    3 27 People 6 0 0 0 Tail::Nothing => 0 0 86 126, 0 0 86 127;
+    3 30 People 7 0 0 0 Tail::Nothing => 0 0 88 128, 0 0 88 129, 0 0 88 130;
+    4 1 People 38 0 0 0 Tail::Nothing => 0 109 119 131;
+    4 7 People 16 0 0 0 Tail::Nothing => 0 0 164 108;
+    3 1 Libefivar 4 0 0 0 Tail::Nothing => 0 0 165 132;
+    3 23 Libefivar 12 0 0 0 Tail::Nothing => 0 0 166 133
 );
 
 /// Where each group begins.
 #[rattlefmt::skip]
-pub const ROW_STARTS: [u16; 13] = [
-    0, 6, 16, 25, 34, 52, 87, 100, 110, 119, 135, 150, 164
+pub const ROW_STARTS: [u16; 17] = [
+    0, 6, 16, 25, 34, 52, 87, 100, 110, 119, 135, 150, 164, 165, 202, 204, 206
 ];
 
 /// The first letters of the texts in each group, with a bit for each letter: the bit of a byte is the number
 /// of its low six bits.
 #[rattlefmt::skip]
-pub const FIRST_LETTERS: [u64; 12] = [
+pub const FIRST_LETTERS: [u64; 16] = [
     0x41200c, 0x90842, 0x80000, 0x80000, 0x80000, 0x22000e86256, 0x200, 0x200, 0x200, 0x200000,
-    0x45a148, 0x4
+    0x45a148, 0x4, 0x2, 0x686256, 0x140, 0x4002
 ];
 
 /// The words of all lists.
 #[rattlefmt::skip]
 pub const WORDS: [Word; 21] = words!(
-    255 0 141, 255 1 142, 255 2 143, 255 3 144, 255 4 145, 255 5 146, 0 255 147, 255 0 148, 255 1 149,
-    255 2 150, 255 3 151, 0 255 152, 10 10 153, 10 2 154, 10 8 155, 0 0 156, 8 8 157, 16 16 158,
-    0 0 159, 65535 0 160, 0 1 161
+    255 0 167, 255 1 168, 255 2 169, 255 3 170, 255 4 171, 255 5 172, 0 255 173, 255 0 174, 255 1 175,
+    255 2 176, 255 3 177, 0 255 178, 10 10 179, 10 2 180, 10 8 181, 0 0 182, 8 8 183, 16 16 184,
+    0 0 185, 65535 0 186, 0 1 187
 );
 
 /// Where each list of words begins.
@@ -366,27 +397,3 @@ pub const IPV4_ADDRESSES_ITEM: Item = item!(16 2 2);
 
 /// `IPV6_ADDRESSES`, packed.
 pub const IPV6_ADDRESSES_ITEM: Item = item!(16 2 3);
-
-/// `OWN`, packed.
-#[rattlefmt::skip]
-pub const OWN_ROWS: &[Row] = &rows!(
-    3 1 Read 4 0 0 0 Tail::Nothing => 0 0 162 112; 3 23 Read 12 0 0 0 Tail::Nothing => 0 0 163 113
-);
-
-/// `PASTED`, packed.
-#[rattlefmt::skip]
-pub const PASTED_ROWS: &[Row] = &rows!(
-    3 10 Read 16 0 0 0 Tail::Nothing => 0 96 164 0, 0 97 165 0, 0 98 166 0, 0 99 167 0, 0 100 168 0;
-    3 10 Read 20 0 0 0 Tail::Nothing => 0 101 169 0, 0 102 170 0, 0 103 171 0;
-    3 10 Read 40 0 0 0 Tail::Nothing => 0 25 23 114, 0 25 23 115;
-    3 22 Read 20 0 0 0 Tail::Nothing => 0 0 42 116; 3 1 Read 4 0 0 0 Tail::Nothing => 0 0 173 0,
-    0 0 174 0, 0 45 175 0, 0 44 176 0, 0 43 177 0; 3 11 Read 33 0 0 0 Tail::Nothing => 0 0 68 117,
-    0 0 68 118, 0 0 68 119, 0 0 68 58; 3 12 Read 23 0 0 0 Tail::Nothing => 0 0 89 70, 0 104 89 120,
-    0 104 89 121, 0 105 89 122, 0 106 89 123, 0 106 89 124, 0 107 89 125, 0 0 184 0;
-    3 13 Read 56 0 0 0 Tail::Nothing => 0 108 185 0; 3 21 Read 20 0 0 0 Tail::Nothing => 0 0 79 126;
-    3 13 Read 56 0 0 0 Tail::Nothing => 0 108 96 83; 3 23 Read 12 0 0 0 Tail::Nothing => 0 0 80 8;
-    3 27 Read 6 0 0 0 Tail::Nothing => 0 0 86 127, 0 0 86 128;
-    3 30 Read 7 0 0 0 Tail::Nothing => 0 0 88 129, 0 0 88 130, 0 0 88 131;
-    4 1 Read 38 0 0 0 Tail::Nothing => 0 109 119 132; 4 7 Read 16 0 0 0 Tail::Nothing => 0 0 186 108;
-    2 2 Read 12 0 6 0 Tail::Ids => 0 0 187 133
-);

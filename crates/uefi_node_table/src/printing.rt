@@ -183,6 +183,8 @@ fn is_used(mode: Mode, display_only: bool) -> bool
         Mode::Read => true,
         Mode::Printed => true,
         Mode::Display => display_only,
+        Mode::Libefivar => false,
+        Mode::People => false,
     }
 }
 

@@ -27,6 +27,15 @@ pub enum Shape {
     Word(Words),
 }
 
+/// The bytes of a number that people omit.
+#[derive(Clone, Copy)]
+pub enum Spare {
+    /// Zeros.
+    Zeros,
+    /// Bytes of 0xff.
+    Ones,
+}
+
 /// A field in the order of the text. `N` is a number, and `T` a text. They are parameters because no
 /// contract can name a constant whose type has a reference of its own.
 #[derive(Clone, Copy)]
@@ -39,6 +48,8 @@ pub struct PieceOf<N, T> {
     pub width: N,
     /// The text after it.
     pub ending: T,
+    /// Its bytes, if it is a number that people omit.
+    pub spare: Spare,
 }
 
 /// The data after the fixed bytes.
@@ -85,25 +96,31 @@ pub struct ItemOf<T, P> {
     pub pieces: P,
 }
 
-/// The texts that a form is used for.
+/// Who writes a form, and whether it is read.
 #[derive(Clone, Copy)]
 pub enum Mode {
-    /// All texts; the form is read back.
+    /// The specification. The form is printed, and read back.
     Read,
-    /// All texts; the form is not read back.
+    /// The specification. The form is printed, and not read back, since its text does not describe the node
+    /// completely.
     Printed,
-    /// Texts that are only for display.
+    /// Texts that are only for display. The form is not read back.
     Display,
+    /// Libefivar. The form is only read, and exactly as it is written.
+    Libefivar,
+    /// People, and programs whose output people paste. The form is only read.
+    People,
 }
 
-/// A form of the nodes of one kind. A node is printed in the first form of the table that fits it.
+/// A form of the nodes of one kind. A node is printed in the first form of the table that is printed and fits
+/// it.
 #[derive(Clone, Copy)]
 pub struct RowOf<N, T, B, P> {
     /// The type.
     pub kind: u8,
     /// The sub-type.
     pub sub_kind: u8,
-    /// The texts that it is used for.
+    /// Who writes it.
     pub mode: Mode,
     /// The number of bytes of the fixed part of the data.
     pub least: N,

@@ -1,5 +1,5 @@
 //! The table of kinds of nodes (UEFI Specification 2.10, sections 10.3 and 10.6.1), with a row for each form
-//! that a node is printed in. If a row can describe the text of a kind, only the table contains it.
+//! that a node is printed or read in. If a row can describe the text of a kind, only the table contains it.
 //! `specs/Rows.antt` defines what a row means. Only definitions cite these constants: the compiled table is
 //! `packed.rt`.
 #![tactic(auto)]
@@ -8,20 +8,36 @@ ghost use Rattle.std.specs.Prelude.{◌≡◌, ◌<◌, ◌≤◌, IsTrue, lengt
 ghost use Rattle.std.specs.List.{list_all};
 ghost use Rattle.uefi_node_table.specs.Parts.{part_of};
 ghost use Rattle.uefi_node_table.specs.Rows.{as_form, as_item, as_piece, const_form, is_within, item_of};
-ghost use Rattle.uefi_node_table.specs.Table.{group_forms};
+ghost use Rattle.uefi_node_table.specs.Table.{group_forms, libefivar_forms};
 
 use crate::packed::{ROW_STARTS, ROWS};
 use crate::pools::part;
 use crate::rows::{
-    Item, ItemOf, Items, Mode, PieceOf, Row, RowOf, Shape, Tail, WrittenItem, WrittenRow,
+    Item, ItemOf, Items, Mode, PieceOf, Row, RowOf, Shape, Spare, Tail, WrittenItem, WrittenRow,
 };
 use crate::words::Words;
 use crate::{layouts, packed};
 
-/// Makes a field from its shape, its offset, its width and its ending.
+/// Makes the bytes of an omitted number: zeros, unless a field says otherwise.
+macro_rules! spare {
+    () => {
+        Spare::Zeros
+    };
+    ($spare:ident) => {
+        Spare::$spare
+    };
+}
+
+/// Makes a field from its shape, its offset, its width and its ending, and from its bytes if it is omitted.
 macro_rules! field {
-    ($shape:ident $(($words:ident))?, $place:expr, $width:expr, $ending:expr) => {
-        PieceOf { shape: Shape::$shape $((Words::$words))?, place: $place, width: $width, ending: $ending }
+    ($shape:ident $(($words:ident))?, $place:expr, $width:expr, $ending:expr $(, $spare:ident)?) => {
+        PieceOf {
+            shape: Shape::$shape $((Words::$words))?,
+            place: $place,
+            width: $width,
+            ending: $ending,
+            spare: spare!($($spare)?),
+        }
     };
 }
 
@@ -45,8 +61,9 @@ macro_rules! place {
     };
 }
 
-/// Makes the fields of a form. A GUID is five fields, and an IP address four or eight. A field is given by
-/// its name, and a part of a field by its offset in the field and its width.
+/// Makes the fields of a form. A GUID is five fields, an IP address four or eight, and six or eight single
+/// bytes have a text between them. A field is given by its name, and a part of a field by its offset in the
+/// field and its width.
 macro_rules! fields {
     ([$($done:expr),*]) => { &[$($done),*] };
     ([$($done:expr),*] [Guid $at:tt $ending:literal] $($rest:tt)*) => {
@@ -64,8 +81,25 @@ macro_rules! fields {
             field!(Forth, place!($at) + 8, 2, ":"), field!(Forth, place!($at) + 10, 2, ":"),
             field!(Forth, place!($at) + 12, 2, ":"), field!(Forth, place!($at) + 14, 2, $ending)] $($rest)*)
     };
-    ([$($done:expr),*] [$shape:ident $(($words:ident))? $at:ident $ending:literal] $($rest:tt)*) => {
-        fields!([$($done,)* field!($shape $(($words))?, layouts::$at.place, layouts::$at.width, $ending)]
+    ([$($done:expr),*] [Six $at:ident $between:literal $ending:literal] $($rest:tt)*) => {
+        fields!([$($done,)*
+            field!(Forth, place!($at), 1, $between), field!(Forth, place!($at) + 1, 1, $between),
+            field!(Forth, place!($at) + 2, 1, $between), field!(Forth, place!($at) + 3, 1, $between),
+            field!(Forth, place!($at) + 4, 1, $between), field!(Forth, place!($at) + 5, 1, $ending)]
+            $($rest)*)
+    };
+    ([$($done:expr),*] [Eight $at:ident $between:literal $ending:literal] $($rest:tt)*) => {
+        fields!([$($done,)*
+            field!(Forth, place!($at), 1, $between), field!(Forth, place!($at) + 1, 1, $between),
+            field!(Forth, place!($at) + 2, 1, $between), field!(Forth, place!($at) + 3, 1, $between),
+            field!(Forth, place!($at) + 4, 1, $between), field!(Forth, place!($at) + 5, 1, $between),
+            field!(Forth, place!($at) + 6, 1, $between), field!(Forth, place!($at) + 7, 1, $ending)]
+            $($rest)*)
+    };
+    ([$($done:expr),*] [$shape:ident $(($words:ident))? $at:ident $ending:literal $($spare:ident)?]
+        $($rest:tt)*) => {
+        fields!([$($done,)*
+            field!($shape $(($words))?, layouts::$at.place, layouts::$at.width, $ending $(, $spare)?)]
             $($rest)*)
     };
     ([$($done:expr),*] [$shape:ident $(($words:ident))? $at:ident + $part:literal $width:literal
@@ -88,11 +122,41 @@ macro_rules! tail {
     };
 }
 
-/// Makes bytes from fields or offsets. `Sas` and `Uart` are the first 16 bytes of a vendor-defined node, its
-/// GUID: D487DDB4-008B-11D9-AFDC-001083FFCA4D for SAS devices, and 37499A9D-542F-4C89-A026-35DA142094E4 for
-/// flow control.
+/// Makes bytes from fields. A name without a field is that of a GUID, the first 16 bytes of a vendor-defined
+/// node: D487DDB4-008B-11D9-AFDC-001083FFCA4D for SAS devices, 37499A9D-542F-4C89-A026-35DA142094E4 for flow
+/// control, and those of terminals and of the debug port (UEFI Specification 2.10, section 10.6.1.6).
 macro_rules! bytes {
     ([$($done:expr),*]) => { &[$($done),*] };
+    ([] PcAnsi) => {
+        bytes!([
+            (0, 0x53), (1, 0x47), (2, 0xc1), (3, 0xe0), (4, 0xbe), (5, 0xf9), (6, 0xd2), (7, 0x11),
+            (8, 0x9a), (9, 0x0c), (10, 0x00), (11, 0x90), (12, 0x27), (13, 0x3f), (14, 0xc1), (15, 0x4d)
+        ])
+    };
+    ([] Vt100) => {
+        bytes!([
+            (0, 0x65), (1, 0x60), (2, 0xa6), (3, 0xdf), (4, 0x19), (5, 0xb4), (6, 0xd3), (7, 0x11),
+            (8, 0x9a), (9, 0x2d), (10, 0x00), (11, 0x90), (12, 0x27), (13, 0x3f), (14, 0xc1), (15, 0x4d)
+        ])
+    };
+    ([] Vt100Plus) => {
+        bytes!([
+            (0, 0x0b), (1, 0xc7), (2, 0xae), (3, 0x7b), (4, 0xe0), (5, 0x57), (6, 0x76), (7, 0x4c),
+            (8, 0x8e), (9, 0x87), (10, 0x2f), (11, 0x9e), (12, 0x28), (13, 0x08), (14, 0x83), (15, 0x43)
+        ])
+    };
+    ([] VtUtf8) => {
+        bytes!([
+            (0, 0xd6), (1, 0xa0), (2, 0x15), (3, 0xad), (4, 0xec), (5, 0x8b), (6, 0xcf), (7, 0x4a),
+            (8, 0xa0), (9, 0x73), (10, 0xd0), (11, 0x1d), (12, 0xe7), (13, 0x7e), (14, 0x2d), (15, 0x88)
+        ])
+    };
+    ([] DebugPort) => {
+        bytes!([
+            (0, 0xd2), (1, 0xe8), (2, 0xa4), (3, 0xeb), (4, 0x58), (5, 0x38), (6, 0xec), (7, 0x41),
+            (8, 0xa2), (9, 0x81), (10, 0x26), (11, 0x47), (12, 0xba), (13, 0x96), (14, 0x60), (15, 0xd0)
+        ])
+    };
     ([] Sas $($rest:tt)*) => {
         bytes!([
             (0, 0xb4), (1, 0xdd), (2, 0x87), (3, 0xd4), (4, 0x8b), (5, 0x00), (6, 0xd9), (7, 0x11),
@@ -147,24 +211,26 @@ macro_rules! row {
 /// product, the class and the sub-class where the start of the text does not name them, and protocol.
 macro_rules! usb_class {
     ($class:literal $start:literal) => {
-        usb_class!([USB_CLASS_DEVICE_CLASS = $class] $start [Hexadecimal USB_CLASS_DEVICE_SUBCLASS ",0x"])
+        usb_class!([USB_CLASS_DEVICE_CLASS = $class] $start
+            [Hexadecimal USB_CLASS_DEVICE_SUBCLASS ",0x" Ones])
     };
     (0xfe $sub_class:literal $start:literal) => {
         usb_class!([USB_CLASS_DEVICE_CLASS = 0xfe, USB_CLASS_DEVICE_SUBCLASS = $sub_class] $start)
     };
     ([$($when:tt)*] $start:literal $([$($more:tt)*])*) => {
         row!(MESSAGING_TYPE USB_CLASS Read USB_CLASS_LEAST [$($when)*] [] $start
-            [Hexadecimal USB_CLASS_VENDOR_ID ",0x"] [Hexadecimal USB_CLASS_PRODUCT_ID ",0x"]
-            $([$($more)*])* [Hexadecimal USB_CLASS_DEVICE_PROTOCOL ")"] Nothing "")
+            [Hexadecimal USB_CLASS_VENDOR_ID ",0x" Ones] [Hexadecimal USB_CLASS_PRODUCT_ID ",0x" Ones]
+            $([$($more)*])* [Hexadecimal USB_CLASS_DEVICE_PROTOCOL ")" Ones] Nothing "")
     };
 }
 
 /// Makes a form of SAS devices as vendor-defined messaging nodes.
 macro_rules! sas {
     ([$($when:tt)*] $ending:literal $([$($more:tt)*])*) => {
-        row!(MESSAGING_TYPE MESSAGING_VENDOR Read 40 [Sas $($when)*] [] "SAS(0x" [Hexadecimal 20 8 ",0x"]
-            [Hexadecimal 28 8 ",0x"] [Hexadecimal 38 2 $ending] $([$($more)*])* [Hexadecimal 16 4 ")"]
-            Nothing "")
+        row!(MESSAGING_TYPE MESSAGING_VENDOR Read SAS_VENDOR_LEAST [Sas $($when)*] [] "SAS(0x"
+            [Hexadecimal SAS_VENDOR_SAS_ADDRESS ",0x"] [Hexadecimal SAS_VENDOR_LOGICAL_UNIT_NUMBER ",0x"]
+            [Hexadecimal SAS_VENDOR_RELATIVE_TARGET_PORT $ending] $([$($more)*])*
+            [Hexadecimal SAS_VENDOR_RESERVED ")"] Nothing "")
     };
 }
 
@@ -207,7 +273,7 @@ macro_rules! ipv6 {
             [Hexadecimal IPV6_PREFIX_LENGTH ","] [Ipv6 IPV6_GATEWAY_IP_ADDRESS ")"] Nothing "")
     };
     (short [$($when:tt)*] [$($also:tt)*] $ending:literal $([$($more:tt)*])*) => {
-        row!(MESSAGING_TYPE IPV6 Read 39 [$($when)*] [$($also)*] "IPv6("
+        row!(MESSAGING_TYPE IPV6 Read IPV6_OLDER [$($when)*] [$($also)*] "IPv6("
             [Ipv6 IPV6_REMOTE_IP_ADDRESS $ending] $([$($more)*])* [Ipv6 IPV6_LOCAL_IP_ADDRESS ")"]
             Nothing "")
     };
@@ -322,29 +388,29 @@ const ACPI: &[WrittenRow] = &[
 /// vendors.
 #[rattlefmt::skip]
 const SAS: &[WrittenRow] = &[
-    sas!([36 = 0x00, 37 = 0x00] ",NoTopology,0,0,0,0x"),
-    sas!([36 = 0x01, 37 = 0x00] ",SAS,Internal,Direct,0,0x"),
-    sas!([36 = 0x11, 37 = 0x00] ",SATA,Internal,Direct,0,0x"),
-    sas!([36 = 0x21, 37 = 0x00] ",SAS,External,Direct,0,0x"),
-    sas!([36 = 0x31, 37 = 0x00] ",SATA,External,Direct,0,0x"),
-    sas!([36 = 0x41, 37 = 0x00] ",SAS,Internal,Expanded,0,0x"),
-    sas!([36 = 0x51, 37 = 0x00] ",SATA,Internal,Expanded,0,0x"),
-    sas!([36 = 0x61, 37 = 0x00] ",SAS,External,Expanded,0,0x"),
-    sas!([36 = 0x71, 37 = 0x00] ",SATA,External,Expanded,0,0x"),
+    sas!([SAS_VENDOR_INFO = [0x00 0x00]] ",NoTopology,0,0,0,0x"),
+    sas!([SAS_VENDOR_INFO = [0x01 0x00]] ",SAS,Internal,Direct,0,0x"),
+    sas!([SAS_VENDOR_INFO = [0x11 0x00]] ",SATA,Internal,Direct,0,0x"),
+    sas!([SAS_VENDOR_INFO = [0x21 0x00]] ",SAS,External,Direct,0,0x"),
+    sas!([SAS_VENDOR_INFO = [0x31 0x00]] ",SATA,External,Direct,0,0x"),
+    sas!([SAS_VENDOR_INFO = [0x41 0x00]] ",SAS,Internal,Expanded,0,0x"),
+    sas!([SAS_VENDOR_INFO = [0x51 0x00]] ",SATA,Internal,Expanded,0,0x"),
+    sas!([SAS_VENDOR_INFO = [0x61 0x00]] ",SAS,External,Expanded,0,0x"),
+    sas!([SAS_VENDOR_INFO = [0x71 0x00]] ",SATA,External,Expanded,0,0x"),
 ];
 
 /// SAS devices as vendor-defined messaging nodes, in a drive bay, or with a topology that no word describes.
 #[rattlefmt::skip]
 const SAS_IN_BAYS: &[WrittenRow] = &[
-    sas!([36 = 0x02] ",SAS,Internal,Direct,0x" [Next 37 1 ",0x"]),
-    sas!([36 = 0x12] ",SATA,Internal,Direct,0x" [Next 37 1 ",0x"]),
-    sas!([36 = 0x22] ",SAS,External,Direct,0x" [Next 37 1 ",0x"]),
-    sas!([36 = 0x32] ",SATA,External,Direct,0x" [Next 37 1 ",0x"]),
-    sas!([36 = 0x42] ",SAS,Internal,Expanded,0x" [Next 37 1 ",0x"]),
-    sas!([36 = 0x52] ",SATA,Internal,Expanded,0x" [Next 37 1 ",0x"]),
-    sas!([36 = 0x62] ",SAS,External,Expanded,0x" [Next 37 1 ",0x"]),
-    sas!([36 = 0x72] ",SATA,External,Expanded,0x" [Next 37 1 ",0x"]),
-    sas!([] ",0x" [Hexadecimal 36 2 ",0,0,0,0x"]),
+    sas!([SAS_VENDOR_INFO = 0x02] ",SAS,Internal,Direct,0x" [Next SAS_VENDOR_INFO + 1 1 ",0x"]),
+    sas!([SAS_VENDOR_INFO = 0x12] ",SATA,Internal,Direct,0x" [Next SAS_VENDOR_INFO + 1 1 ",0x"]),
+    sas!([SAS_VENDOR_INFO = 0x22] ",SAS,External,Direct,0x" [Next SAS_VENDOR_INFO + 1 1 ",0x"]),
+    sas!([SAS_VENDOR_INFO = 0x32] ",SATA,External,Direct,0x" [Next SAS_VENDOR_INFO + 1 1 ",0x"]),
+    sas!([SAS_VENDOR_INFO = 0x42] ",SAS,Internal,Expanded,0x" [Next SAS_VENDOR_INFO + 1 1 ",0x"]),
+    sas!([SAS_VENDOR_INFO = 0x52] ",SATA,Internal,Expanded,0x" [Next SAS_VENDOR_INFO + 1 1 ",0x"]),
+    sas!([SAS_VENDOR_INFO = 0x62] ",SAS,External,Expanded,0x" [Next SAS_VENDOR_INFO + 1 1 ",0x"]),
+    sas!([SAS_VENDOR_INFO = 0x72] ",SATA,External,Expanded,0x" [Next SAS_VENDOR_INFO + 1 1 ",0x"]),
+    sas!([] ",0x" [Hexadecimal SAS_VENDOR_INFO ",0,0,0,0x"]),
 ];
 
 /// SAS devices as nodes of their own kind.
@@ -399,12 +465,12 @@ const MESSAGING: &[WrittenRow] = &[
         [Hexadecimal INFINIBAND_IOC_GUID_OR_SERVICE_ID ",0x"]
         [Hexadecimal INFINIBAND_TARGET_PORT_ID ",0x"] [Hexadecimal INFINIBAND_DEVICE_ID ")"] Nothing
         ""),
-    row!(MESSAGING_TYPE MESSAGING_VENDOR Read 20 [Uart, 16 = 0x00, 17 = 0x00, 18 = 0x00, 19 = 0x00]
-        [] "UartFlowCtrl(None)" Nothing ""),
-    row!(MESSAGING_TYPE MESSAGING_VENDOR Read 20 [Uart, 16 = 0x01, 17 = 0x00, 18 = 0x00, 19 = 0x00]
-        [] "UartFlowCtrl(Hardware)" Nothing ""),
-    row!(MESSAGING_TYPE MESSAGING_VENDOR Read 20 [Uart, 16 = 0x02, 17 = 0x00, 18 = 0x00, 19 = 0x00]
-        [] "UartFlowCtrl(XonXoff)" Nothing ""),
+    row!(MESSAGING_TYPE MESSAGING_VENDOR Read UART_FLOW_CONTROL_LEAST
+        [Uart, UART_FLOW_CONTROL_MAP = [0x00 0x00 0x00 0x00]] [] "UartFlowCtrl(None)" Nothing ""),
+    row!(MESSAGING_TYPE MESSAGING_VENDOR Read UART_FLOW_CONTROL_LEAST
+        [Uart, UART_FLOW_CONTROL_MAP = [0x01 0x00 0x00 0x00]] [] "UartFlowCtrl(Hardware)" Nothing ""),
+    row!(MESSAGING_TYPE MESSAGING_VENDOR Read UART_FLOW_CONTROL_LEAST
+        [Uart, UART_FLOW_CONTROL_MAP = [0x02 0x00 0x00 0x00]] [] "UartFlowCtrl(XonXoff)" Nothing ""),
     row!(MESSAGING_TYPE MESSAGING_VENDOR Read MESSAGING_VENDOR_LEAST [] [] "VenMsg("
         [Guid MESSAGING_VENDOR_VENDOR_GUID ""] Bytes ")"),
     row!(MESSAGING_TYPE MAC_ADDRESS Read MAC_ADDRESS_LEAST [MAC_ADDRESS_INTERFACE_TYPE = 0x00] []
@@ -420,15 +486,15 @@ const MESSAGING: &[WrittenRow] = &[
     row!(MESSAGING_TYPE USB_WWID Read USB_WWID_LEAST [] [] "UsbWwid(0x"
         [Hexadecimal USB_WWID_DEVICE_VENDOR_ID ",0x"] [Hexadecimal USB_WWID_DEVICE_PRODUCT_ID ",0x"]
         [Hexadecimal USB_WWID_INTERFACE_NUMBER ",\""] Utf16 "\")"),
-    row!(MESSAGING_TYPE DNS Read 17 [DNS_ADDRESS_TYPE = 0x00] [] "Dns(" [Ipv4 DNS_ADDRESS ""]
+    row!(MESSAGING_TYPE DNS Read DNS_FIRST [DNS_ADDRESS_TYPE = 0x00] [] "Dns(" [Ipv4 DNS_ADDRESS ""]
         Repeated Ipv4 ")"),
-    row!(MESSAGING_TYPE DNS Read 17 [] [DNS_ADDRESS_TYPE = 0x01] "Dns(" [Ipv6 DNS_ADDRESS ""]
+    row!(MESSAGING_TYPE DNS Read DNS_FIRST [] [DNS_ADDRESS_TYPE = 0x01] "Dns(" [Ipv6 DNS_ADDRESS ""]
         Repeated Ipv6 ")"),
     row!(MESSAGING_TYPE DEVICE_LOGICAL_UNIT Read DEVICE_LOGICAL_UNIT_LEAST [] [] "Unit(0x"
         [Hexadecimal DEVICE_LOGICAL_UNIT_LOGICAL_UNIT_NUMBER ")"] Nothing ""),
     row!(MESSAGING_TYPE SATA Read SATA_LEAST [] [] "Sata(0x"
         [Hexadecimal SATA_HBA_PORT_NUMBER ",0x"]
-        [Hexadecimal SATA_PORT_MULTIPLIER_PORT_NUMBER ",0x"]
+        [Hexadecimal SATA_PORT_MULTIPLIER_PORT_NUMBER ",0x" Ones]
         [Hexadecimal SATA_LOGICAL_UNIT_NUMBER ")"] Nothing ""),
     row!(MESSAGING_TYPE VLAN Read VLAN_LEAST [] [] "Vlan(" [Decimal VLAN_VLAN_ID ")"] Nothing ""),
     row!(MESSAGING_TYPE FIBRE_CHANNEL_EX Read FIBRE_CHANNEL_EX_LEAST [] [] "FibreEx(0x"
@@ -476,7 +542,7 @@ const IPV4: &[WrittenRow] = &[
 /// IPv6 connections, with a prefix and a gateway.
 #[rattlefmt::skip]
 const IPV6: &[WrittenRow] = ipv6_forms!(whole
-    row!(MESSAGING_TYPE IPV6 Display 39 [] [] "IPv6(" [Ipv6 IPV6_REMOTE_IP_ADDRESS ")"] Nothing ""),
+    row!(MESSAGING_TYPE IPV6 Display IPV6_OLDER [] [] "IPv6(" [Ipv6 IPV6_REMOTE_IP_ADDRESS ")"] Nothing ""),
 );
 
 /// IPv6 connections of older nodes, without a prefix and a gateway.
@@ -500,8 +566,8 @@ const USB_CLASSES: &[WrittenRow] = &[
     usb_class!(0xfe 0x01 "UsbDeviceFirmwareUpdate(0x"),
     usb_class!(0xfe 0x02 "UsbIrdaBridge(0x"),
     usb_class!(0xfe 0x03 "UsbTestAndMeasurement(0x"),
-    usb_class!([] "UsbClass(0x" [Hexadecimal USB_CLASS_DEVICE_CLASS ",0x"]
-        [Hexadecimal USB_CLASS_DEVICE_SUBCLASS ",0x"]),
+    usb_class!([] "UsbClass(0x" [Hexadecimal USB_CLASS_DEVICE_CLASS ",0x" Ones]
+        [Hexadecimal USB_CLASS_DEVICE_SUBCLASS ",0x" Ones]),
 ];
 
 /// Nodes of type Media, except nodes that name files.
@@ -561,6 +627,112 @@ const BOOT: &[WrittenRow] = boot_forms!(
     [] "BBS(0x" [Hexadecimal BOOT_SPECIFICATION_DEVICE_TYPE ","],
 );
 
+/// Nodes of type ACPI, as people write them.
+#[rattlefmt::skip]
+const TYPED_ACPI: &[WrittenRow] = &[
+    row!(ACPI_TYPE EXPANDED People EXPANDED_FIXED [] [] "AcpiExp(" [Eisa EXPANDED_HID ","]
+        [Eisa EXPANDED_CID ","] Ids ")"),
+];
+
+/// Nodes of type Messaging, as people and other programs write them: short names of vendor-defined nodes,
+/// which the UEFI Specification 2.10 lists in section 10.6.1.6, and forms whose fields other programs write
+/// differently or omit.
+#[rattlefmt::skip]
+const TYPED_MESSAGING: &[WrittenRow] = &[
+    row!(MESSAGING_TYPE MESSAGING_VENDOR People MESSAGING_VENDOR_LEAST [] [PcAnsi] "VenPcAnsi()" Nothing ""),
+    row!(MESSAGING_TYPE MESSAGING_VENDOR People MESSAGING_VENDOR_LEAST [] [Vt100] "VenVt100()" Nothing ""),
+    row!(MESSAGING_TYPE MESSAGING_VENDOR People MESSAGING_VENDOR_LEAST [] [Vt100Plus] "VenVt100Plus()"
+        Nothing ""),
+    row!(MESSAGING_TYPE MESSAGING_VENDOR People MESSAGING_VENDOR_LEAST [] [VtUtf8] "VenUtf8()" Nothing ""),
+    row!(MESSAGING_TYPE MESSAGING_VENDOR People MESSAGING_VENDOR_LEAST [] [DebugPort] "DebugPort()"
+        Nothing ""),
+    row!(MESSAGING_TYPE MESSAGING_VENDOR People UART_FLOW_CONTROL_LEAST [] [Uart] "UartFlowControl(None)"
+        Nothing ""),
+    row!(MESSAGING_TYPE MESSAGING_VENDOR People UART_FLOW_CONTROL_LEAST []
+        [Uart, UART_FLOW_CONTROL_MAP = 0x01] "UartFlowControl(Hardware)" Nothing ""),
+    row!(MESSAGING_TYPE MESSAGING_VENDOR People UART_FLOW_CONTROL_LEAST []
+        [Uart, UART_FLOW_CONTROL_MAP = 0x02] "UartFlowControl(XonXoff)" Nothing ""),
+    row!(MESSAGING_TYPE MESSAGING_VENDOR People SAS_VENDOR_LEAST [] [Sas] "SAS(0x"
+        [Hexadecimal SAS_VENDOR_SAS_ADDRESS ",0x"] [Hexadecimal SAS_VENDOR_LOGICAL_UNIT_NUMBER ",0x"]
+        [Hexadecimal SAS_VENDOR_RELATIVE_TARGET_PORT ")"] Nothing ""),
+    row!(MESSAGING_TYPE MESSAGING_VENDOR People SAS_VENDOR_LEAST [] [Sas] "SAS(0x"
+        [Hexadecimal SAS_VENDOR_SAS_ADDRESS ",0x"] [Hexadecimal SAS_VENDOR_LOGICAL_UNIT_NUMBER ",0x"]
+        [Hexadecimal SAS_VENDOR_RELATIVE_TARGET_PORT ",NoTopology)"] Nothing ""),
+    row!(MESSAGING_TYPE SAS_EX People SAS_EX_LEAST [] [] "SasEx(0x" [Forth SAS_EX_SAS_ADDRESS ")"] Nothing
+        ""),
+    row!(MESSAGING_TYPE ATAPI People ATAPI_LEAST [] [] "Ata(0x0)" Nothing ""),
+    row!(MESSAGING_TYPE ATAPI People ATAPI_LEAST [] [] "Ata(Primary,Master)" Nothing ""),
+    row!(MESSAGING_TYPE ATAPI People ATAPI_LEAST [] [ATAPI_MASTER_SLAVE = 0x01] "Ata(Primary,Slave)"
+        Nothing ""),
+    row!(MESSAGING_TYPE ATAPI People ATAPI_LEAST [] [ATAPI_PRIMARY_SECONDARY = 0x01]
+        "Ata(Secondary,Master)" Nothing ""),
+    row!(MESSAGING_TYPE ATAPI People ATAPI_LEAST []
+        [ATAPI_PRIMARY_SECONDARY = 0x01, ATAPI_MASTER_SLAVE = 0x01] "Ata(Secondary,Slave)" Nothing ""),
+    row!(MESSAGING_TYPE MAC_ADDRESS People MAC_ADDRESS_LEAST [] [] "MAC("
+        [Forth MAC_ADDRESS_MAC_ADDRESS + 0 6 ",0x"] [Hexadecimal MAC_ADDRESS_INTERFACE_TYPE ")"] Nothing ""),
+    row!(MESSAGING_TYPE MAC_ADDRESS People MAC_ADDRESS_LEAST [] [] "MAC("
+        [Six MAC_ADDRESS_MAC_ADDRESS ":" ",0x"] [Hexadecimal MAC_ADDRESS_INTERFACE_TYPE ")"] Nothing ""),
+    row!(MESSAGING_TYPE MAC_ADDRESS People MAC_ADDRESS_LEAST [] [] "MAC("
+        [Six MAC_ADDRESS_MAC_ADDRESS "-" ",0x"] [Hexadecimal MAC_ADDRESS_INTERFACE_TYPE ")"] Nothing ""),
+    row!(MESSAGING_TYPE MAC_ADDRESS People MAC_ADDRESS_LEAST [] [] "MAC("
+        [Forth MAC_ADDRESS_MAC_ADDRESS ",0x"] [Hexadecimal MAC_ADDRESS_INTERFACE_TYPE ")"] Nothing ""),
+    row!(MESSAGING_TYPE IPV4 People IPV4_WHOLE [] [] "IPv4(" [Ipv4 IPV4_REMOTE_IP_ADDRESS ")"] Nothing ""),
+    row!(MESSAGING_TYPE IPV4 People IPV4_WHOLE [] [IPV4_PROTOCOL = 0x06] "IPv4("
+        [Ipv4 IPV4_REMOTE_IP_ADDRESS ",TCP)"] Nothing ""),
+    row!(MESSAGING_TYPE IPV4 People IPV4_WHOLE [] [IPV4_PROTOCOL = 0x06] "IPv4("
+        [Ipv4 IPV4_REMOTE_IP_ADDRESS ",TCP,DHCP)"] Nothing ""),
+    row!(MESSAGING_TYPE IPV4 People IPV4_WHOLE [] [IPV4_PROTOCOL = 0x06, IPV4_IP_ADDRESS_ORIGIN = 0x01]
+        "IPv4(" [Ipv4 IPV4_REMOTE_IP_ADDRESS ",TCP,Static)"] Nothing ""),
+    row!(MESSAGING_TYPE IPV4 People IPV4_WHOLE [] [IPV4_PROTOCOL = 0x11] "IPv4("
+        [Ipv4 IPV4_REMOTE_IP_ADDRESS ",UDP)"] Nothing ""),
+    row!(MESSAGING_TYPE IPV4 People IPV4_WHOLE [] [IPV4_PROTOCOL = 0x11] "IPv4("
+        [Ipv4 IPV4_REMOTE_IP_ADDRESS ",UDP,DHCP)"] Nothing ""),
+    row!(MESSAGING_TYPE IPV4 People IPV4_WHOLE [] [IPV4_PROTOCOL = 0x11, IPV4_IP_ADDRESS_ORIGIN = 0x01]
+        "IPv4(" [Ipv4 IPV4_REMOTE_IP_ADDRESS ",UDP,Static)"] Nothing ""),
+    row!(MESSAGING_TYPE IPV4 People IPV4_WHOLE [] [] "IPv4(0.0.0.00.0.0.0,0,0)" Nothing ""),
+    row!(MESSAGING_TYPE IPV6 People IPV6_LEAST [] [IPV6_PREFIX_LENGTH = 0x40] "IPv6([::]:<->[::]:,0,0)"
+        Nothing ""),
+    row!(MESSAGING_TYPE FIBRE_CHANNEL_EX People FIBRE_CHANNEL_EX_LEAST [] [] "FibreEx(0x"
+        [Forth FIBRE_CHANNEL_EX_WORLD_WIDE_NAME ",0x0)"] Nothing ""),
+    row!(MESSAGING_TYPE IPV6 People IPV6_LEAST [] [IPV6_PREFIX_LENGTH = 0x40] "IPv6("
+        [Ipv6 IPV6_REMOTE_IP_ADDRESS ")"] Nothing ""),
+    row!(MESSAGING_TYPE NVME_NAMESPACE People NVME_NAMESPACE_LEAST [] [] "NVMe(0x"
+        [Hexadecimal NVME_NAMESPACE_NAMESPACE_IDENTIFIER ")"] Nothing ""),
+    row!(MESSAGING_TYPE BLUETOOTH People BLUETOOTH_LEAST [] [] "Bluetooth("
+        [Six BLUETOOTH_DEVICE_ADDRESS ":" ")"] Nothing ""),
+    row!(MESSAGING_TYPE BLUETOOTH People BLUETOOTH_LEAST [] [] "Bluetooth("
+        [Six BLUETOOTH_DEVICE_ADDRESS "-" ")"] Nothing ""),
+    row!(MESSAGING_TYPE BLUETOOTH_LE People BLUETOOTH_LE_LEAST [] [] "BluetoothLE("
+        [Forth BLUETOOTH_LE_DEVICE_ADDRESS ",0x"] [Hexadecimal BLUETOOTH_LE_ADDRESS_TYPE ")"] Nothing ""),
+    row!(MESSAGING_TYPE BLUETOOTH_LE People BLUETOOTH_LE_LEAST [] [] "BluetoothLE("
+        [Six BLUETOOTH_LE_DEVICE_ADDRESS "-" ",0x"] [Hexadecimal BLUETOOTH_LE_ADDRESS_TYPE ")"] Nothing ""),
+    row!(MESSAGING_TYPE BLUETOOTH_LE People BLUETOOTH_LE_LEAST [] [] "BluetoothLE("
+        [Six BLUETOOTH_LE_DEVICE_ADDRESS ":" ",0x"] [Hexadecimal BLUETOOTH_LE_ADDRESS_TYPE ")"] Nothing ""),
+];
+
+/// Nodes of type Media, as people write them.
+#[rattlefmt::skip]
+const TYPED_MEDIA: &[WrittenRow] = &[
+    row!(MEDIA_TYPE HARD_DRIVE People HARD_DRIVE_LEAST []
+        [HARD_DRIVE_PARTITION_FORMAT = 0x01, HARD_DRIVE_SIGNATURE_TYPE = 0x01] "HD("
+        [Decimal HARD_DRIVE_PARTITION_NUMBER ",MBR,0x"]
+        [Hexadecimal HARD_DRIVE_PARTITION_SIGNATURE + 0 4 ",0x"]
+        [Hexadecimal HARD_DRIVE_PARTITION_START ",0x"] [Hexadecimal HARD_DRIVE_PARTITION_SIZE ")"]
+        Nothing ""),
+    row!(MEDIA_TYPE FIRMWARE_VOLUME People FIRMWARE_VOLUME_LEAST [] [] "FvVol("
+        [Guid FIRMWARE_VOLUME_VOLUME_NAME ")"] Nothing ""),
+];
+
+/// The forms that only libefivar writes, in the letters of a tidied call.
+#[rattlefmt::skip]
+const LIBEFIVAR: &[WrittenRow] = &[
+    row!(MESSAGING_TYPE ATAPI Libefivar ATAPI_LEAST [] [] "ATA(" [Decimal ATAPI_PRIMARY_SECONDARY ","]
+        [Decimal ATAPI_MASTER_SLAVE ","] [Decimal ATAPI_LOGICAL_UNIT_NUMBER ")"] Nothing ""),
+    row!(MESSAGING_TYPE NVME_NAMESPACE Libefivar NVME_NAMESPACE_LEAST [] [] "NVME(0x"
+        [Hexadecimal NVME_NAMESPACE_NAMESPACE_IDENTIFIER ","]
+        [Eight NVME_NAMESPACE_IEEE_EXTENDED_UNIQUE_IDENTIFIER "-" ")"] Nothing ""),
+];
+
 /// Returns the item of a list.
 #[tactic(auto, unfolding(crate::specs::Parts::packed_pieces, crate::specs::Parts::packed_text, crate::specs::Rows::item_of))]
 pub fn item_of(items: Items) -> Item
@@ -576,8 +748,8 @@ pub fn item_of(items: Items) -> Item
     }
 }
 
-/// The number of groups of forms.
-pub const GROUPS: usize = 12;
+/// The number of groups of forms, except those of libefivar.
+pub const GROUPS: usize = 15;
 
 /// Returns the part number of a group's packed rows.
 #[tactic(auto, unfolding(crate::specs::Parts::packed_bytes, crate::specs::Parts::packed_pieces, crate::specs::Parts::packed_text, crate::specs::Table::group_forms))]
@@ -598,8 +770,12 @@ fn part_of_group(index: usize) -> u8
         9 => 9,
         10 => 10,
         11 => 11,
+        12 => 12,
+        13 => 13,
+        14 => 14,
+        15 => 15,
         // No part begins here, so this one is empty.
-        _ => 12,
+        _ => 16,
     }
 }
 
@@ -609,4 +785,11 @@ pub fn group(index: usize) -> &'static [Row]
     ensures few { length result.now ≤ 1000 }
 {
     part(&ROWS, &ROW_STARTS, part_of_group(index))
+}
+
+/// Returns the forms that only libefivar writes.
+pub fn libefivar_forms() -> &'static [Row]
+    ensures { map as_form result.now ≡ libefivar_forms }
+{
+    group(GROUPS)
 }

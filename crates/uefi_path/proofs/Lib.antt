@@ -4,7 +4,6 @@ pub mod Drafts
 pub mod ParentForm
 pub mod Validity
 pub mod TakenComponents
-pub mod MatchCosts
 pub mod NormalLengths
 pub mod Rewriting
 pub mod KeptNames

@@ -1,15 +1,40 @@
 -- A normal path has no more units than the path.
-use Rattle.std.proofs.Common.{◌≡◌, ◌+◌, ◌≤◌, ℕ, List, [], ◌∷◌, Some, None, Option, ap, arith, length, length-append}
+use Rattle.std.proofs.Common.{◌≡◌, ◌+◌, ◌≤◌, ℕ, List, [], ◌∷◌, Some, None, Option, ap, arith, length, length-append, inl, inr, if◌then◌else◌}
+use Rattle.std.proofs.lemmas.Bool.{cases_Bool}
 use Rattle.uefi_path.specs.Components.{components_of, joined}
 use Rattle.uefi_path.specs.Laws.{NormalIsNoLonger}
 use Rattle.uefi_path.specs.NormalForms.{before_normal, before_piece, kind, normal_of, normal_text}
-use Rattle.uefi_path.specs.Separators.{separator}
+use Rattle.uefi_path.specs.Separators.{canonical, is_separator, separator}
 use Rattle.uefi_path.specs.Verdicts.{verdict}
 use Rattle.uefi_path.specs.Writing.{normal_where}
-use Rattle.uefi_path.specs.WithoutCase.{units_and_ends}
 use Rattle.uefi_path.specs.declared.component_kinds.Kind.{Kind}
 use Rattle.uefi_path.specs.declared.validation.PathError.{PathError}
-use Rattle.uefi_path.proofs.MatchCosts.{path_units}
+use Rattle.uefi_path.proofs.Joining.{AreComponents-components_of}
+
+-- how many units pieces have, and one for each piece
+abbrev units_and_ends : List (List ℕ) → ℕ
+units_and_ends [] = 0
+units_and_ends (piece ∷ pieces) = length piece + 1 + units_and_ends pieces
+
+joined_units : (pieces : List (List ℕ)) → units_and_ends pieces ≤ length (joined pieces) + 1
+joined_units [] = omega arith
+joined_units (piece ∷ []) = omega (arith, length-append piece [])
+joined_units (piece ∷ next ∷ pieces) =
+    let rest = joined_units (next ∷ pieces) in
+    omega (arith, rest, length-append piece (separator ∷ joined (next ∷ pieces)))
+
+canonical_units : (text : List ℕ) → length (canonical text) ≤ length text
+canonical_units [] = omega arith
+canonical_units (unit ∷ units) = elim (cases_Bool (is_separator unit)) [
+  | inl cut ↦ omega (arith, ap (λ b. length (if b then units else unit ∷ units)) cut)
+  | inr whole ↦ omega (arith, ap (λ b. length (if b then units else unit ∷ units)) whole)
+]
+
+path_units : (text : List ℕ) → units_and_ends (components_of text) ≤ length text + 1
+path_units text =
+    let pieces = joined_units (components_of text) in
+    let same = ap length (AreComponents-components_of text).join in
+    omega (arith, pieces, same, canonical_units text)
 
 piece_units : (k : Kind) (name piece : List ℕ) (others : List (List ℕ))
     → units_and_ends (before_piece k name piece others) ≤ length name + 1 + (length piece + 1 + units_and_ends others)

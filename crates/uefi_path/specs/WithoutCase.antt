@@ -1,5 +1,5 @@
 -- Paths without case, and paths that patterns match.
-use Rattle.std.specs.Prelude.{◌≡◌, ◌+◌, ℕ, List, [], ◌∷◌, ◌++◌, length, map}
+use Rattle.std.specs.Prelude.{◌≡◌, ℕ, List, [], ◌∷◌, ◌++◌, map}
 use Rattle.uefi_text.specs.Case.{uppers}
 use Rattle.uefi_text.specs.Patterns.{Matches}
 use Rattle.uefi_path.specs.Components.{components_of}
@@ -24,8 +24,3 @@ MatchEach (pattern ∷ patterns) (piece ∷ pieces) = Matches pattern piece × M
 -- a pattern matches a path, component by component
 abbrev pub MatchesPath : List ℕ → List ℕ → Type 0
 MatchesPath pattern text = MatchEach (components_of pattern) (components_of text)
-
--- how many units pieces have, and one for each piece. Only private clauses cite it
-abbrev pub units_and_ends : List (List ℕ) → ℕ
-units_and_ends [] = 0
-units_and_ends (piece ∷ pieces) = length piece + 1 + units_and_ends pieces

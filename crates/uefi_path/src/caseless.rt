@@ -1,7 +1,7 @@
 //! Paths that are compared without case, and matched against patterns. The rules of case and of
 //! patterns are those of the firmware's Unicode collation (UEFI Specification 2.10, section 21.1).
 //! No call allocates.
-ghost use Rattle.std.specs.Prelude.{◌+◌, ◌*◌, ◌≤◌, ◌≡◌, ◌<◌, ◌^◌, ◌↔◌, All, IfSome, IsSome, IsTrue, drop, length};
+ghost use Rattle.std.specs.Prelude.{◌≡◌, ◌<◌, ◌^◌, ◌↔◌, All, IfSome, IsSome, IsTrue, drop, length};
 ghost use Rattle.uefi_path.specs.Components.{components_of};
 ghost use Rattle.uefi_path.specs.Separators.{canonical};
 ghost use Rattle.uefi_path.specs.Views.{path_text, components_left};
@@ -9,13 +9,12 @@ ghost use Rattle.uefi_path.specs.WithoutCase.{MatchesPath, StartsWithoutCase};
 ghost use Rattle.uefi_text.specs.Case.{caseless_order, uppers};
 ghost use Rattle.uefi_text.specs.Runs.{GivesEach};
 ghost use Rattle.uefi_text.specs.Units.{IsText};
-ghost use Rattle.uefi_text.specs.Views.{read_count, units_of};
+ghost use Rattle.uefi_text.specs.Views.{units_of};
 ghost use Rattle.uefi_path.specs.Runs.{GivesNoNulIn};
 
 use crate::components::Components;
 use crate::path::Path;
 use std::cmp::Ordering;
-use uefi_text::counted::CountedReader;
 
 impl<'a> Path<'a> {
     /// Returns whether both paths are equal without case: whether their canonical texts are.
@@ -90,9 +89,7 @@ impl<'a> Path<'a> {
     /// Returns whether a pattern matches this path: whether both have the same number of
     /// components, and each component of the pattern matches the component of the path at the same
     /// index, as `CStr16::matches` does. So neither `*` nor `?` matches a separator, and a
-    /// separator between `[` and `]` ends a component too. Once the components are known, reads at
-    /// most (p + 1) * (t + 1) units of each, if the pattern has p units and this path t.
-    /// [`Path::matches_counted`] promises that.
+    /// separator between `[` and `]` ends a component too.
     ///
     /// ```rust
     /// let pattern = CString16::try_from_str(rt.alloc(), r"\efi\*\shim*.efi")?;
@@ -105,36 +102,6 @@ impl<'a> Path<'a> {
     pub fn matches(&self, pattern: Path<'_>) -> bool
         ensures { IsTrue result ↔ MatchesPath (path_text pattern.entry) (path_text self.now) }
     {
-        let mut own = CountedReader::new(self.to_cstr16().as_slice());
-        let mut other = CountedReader::new(pattern.to_cstr16().as_slice());
-        self.matches_counted(pattern, &mut own, &mut other)
-    }
-
-    /// Does what [`Path::matches`] does, and reads the units of the components through two readers,
-    /// whose counts continue. The units that the readers had before are not read.
-    ///
-    /// ```rust
-    /// use uefi_text::counted::CountedReader;
-    ///
-    /// let name = CStr16::from_u16_with_nul(&[0x48, 0x69, 0])?;
-    /// let path = Path::new(name);
-    /// let (mut own, mut other) = (CountedReader::new(name.as_slice()), CountedReader::new(name.as_slice()));
-    /// assert!(rt; path.matches_counted(path, &mut own, &mut other));
-    /// ```
-    #[tactic(auto, using(crate::proofs::MatchCosts::path_cost))]
-    pub fn matches_counted<'p>(
-        &self,
-        pattern: Path<'p>,
-        own: &mut CountedReader<'a>,
-        other: &mut CountedReader<'p>,
-    ) -> bool
-        ensures matches { IsTrue result ↔ MatchesPath (path_text pattern.entry) (path_text self.now) }
-        ensures own_reads { read_count own.new ≤ read_count own.old
-            + (length (path_text pattern.entry) + 1) * (length (path_text self.now) + 1) }
-        ensures other_reads { read_count other.new ≤ read_count other.old
-            + (length (path_text pattern.entry) + 1) * (length (path_text self.now) + 1) }
-    {
-        self.components()
-            .match_each(pattern.components(), own, other)
+        self.components().match_each(pattern.components())
     }
 }

@@ -2,22 +2,21 @@
 //! remain.
 #![tactic(auto, using(crate::proofs::Rules::cuts_rules), unfolding(crate::specs::Views::components_left))]
 
-ghost use Rattle.std.specs.Prelude.{◌≡◌, ℕ, ◌+◌, ◌*◌, ◌<◌, ◌^◌, ◌↔◌, [], ◌∷◌, ◌++◌, ◌≤◌, All, List, None, Option, drop, false, length, IfSome, IsSome, IsTrue};
+ghost use Rattle.std.specs.Prelude.{◌≡◌, ℕ, ◌+◌, ◌<◌, ◌^◌, ◌↔◌, [], ◌∷◌, ◌++◌, ◌≤◌, All, List, None, Option, drop, false, length, IfSome, IsSome, IsTrue};
 ghost use Rattle.std.specs.List.{slice_split};
 ghost use Rattle.uefi_path.specs.Components.{AreComponents, components_of, hint_of_pieces};
 ghost use Rattle.uefi_path.specs.Parents.{is_non_empty};
 ghost use Rattle.uefi_path.specs.Separators.{canonical, is_separator, places_from};
 ghost use Rattle.uefi_path.specs.SeparatorsLeft.{places_left};
-ghost use Rattle.uefi_path.specs.WithoutCase.{MatchEach, capital_pieces, units_and_ends};
+ghost use Rattle.uefi_path.specs.WithoutCase.{MatchEach, capital_pieces};
 ghost use Rattle.uefi_text.specs.Runs.{GivesEach};
 ghost use Rattle.uefi_text.specs.Units.{IsText};
-ghost use Rattle.uefi_text.specs.Views.{read_count, text_of, units_of};
+ghost use Rattle.uefi_text.specs.Views.{text_of, units_of};
 ghost use Rattle.std.specs.Iterator.{UpTo, YieldsFirstBy, item_count, YieldsLastBy};
 ghost use Rattle.std.specs.Iterator.SizeHint.{IsWithinCount};
 
 use crate::separators::{Separators, cut_last};
 use std::fmt;
-use uefi_text::counted::CountedReader;
 use uefi_text::strs::{CStr16, Char16Slice};
 
 /// An iterator over the components of a path. A contract sees it as `components_left` of it: the
@@ -218,28 +217,17 @@ impl<'a> Components<'a> {
     }
 
     /// Returns whether both have the same number of components, and each component matches the
-    /// pattern at its index. Reads the units of both through the readers.
-    pub(crate) fn match_each<'p>(
-        self,
-        patterns: Components<'p>,
-        text: &mut CountedReader<'a>,
-        pattern: &mut CountedReader<'p>,
-    ) -> bool
-        ensures matches { IsTrue result
+    /// pattern at its index.
+    pub(crate) fn match_each(self, patterns: Components<'_>) -> bool
+        ensures { IsTrue result
             ↔ MatchEach (components_left patterns.entry) (components_left self.entry) }
-        ensures text_reads { read_count text.new ≤ read_count text.old
-            + units_and_ends (components_left patterns.entry) * units_and_ends (components_left self.entry) }
-        ensures pattern_reads { read_count pattern.new ≤ read_count pattern.old
-            + units_and_ends (components_left patterns.entry) * units_and_ends (components_left self.entry) }
     {
         let mut rest = self;
-        for next in patterns {
+        for pattern in patterns {
             let Some(component) = rest.next() else {
                 return false;
             };
-            text.turn_to(component);
-            pattern.turn_to(next);
-            if !text.matches(pattern) {
+            if !component.matches(pattern) {
                 return false;
             }
         }

@@ -48,6 +48,8 @@ const COMPONENTS: &[(&str, &str, usize)] = &[
     (r"a\", "|a|", 2),
     (r"\\a", "||a", 2),
     (r"a\b", "|a|b", 2),
+    (r"a\\b", "|a||b", 3),
+    (r"\\\a", "|||a", 3),
     (r"foo\bar\hello", "|foo|bar|hello", 3),
     (r"\foo\bar\hello", "|foo|bar|hello", 3),
     (r"\hello\foo\bar", "|hello|foo|bar", 3),

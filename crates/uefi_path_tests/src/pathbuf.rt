@@ -56,7 +56,7 @@ fn clears_twice(mut path: PathBuf) -> bool {
 /// A copy keeps its text when the original is cleared.
 #[test]
 fn copied_and_cleared(rt: HostRuntime) -> Result<(), Fail> {
-    let path = pushed_in_turn(&rt, &["first"])?;
+    let path = buffer(&rt, "first")?;
     let copy = path.clone()?;
     assert!(rt; is_path(&path, "first") && clears_twice(path) && is_path(&copy, "first"));
     Ok(())
@@ -110,6 +110,7 @@ const PUSHES: &[(&str, &str, &str)] = &[
     ("", "/x/y", r"\x\y"),
     ("a", "", "a"),
     ("a", "b", r"a\b"),
+    (r"\a", "b", r"\a\b"),
     (r"a\", "b", r"a\b"),
     ("a", "/b", r"a\\b"),
     ("a", "b/c", r"a\b\c"),
@@ -126,13 +127,16 @@ fn pushed_and_joined(rt: HostRuntime) -> Result<(), Fail> {
     Ok(())
 }
 
-/// Pushes these parts to the empty path in turn.
-fn pushed_in_turn(rt: &HostRuntime, parts: &[&str]) -> Result<PathBuf, Fail> {
-    let mut path = PathBuf::new(rt.alloc())?;
+/// Returns whether the empty path has the text `want` after these parts are pushed to it in turn, and after
+/// their texts are pushed unit by unit.
+fn is_pushed_in_turn(rt: &HostRuntime, parts: &[&str], want: &str) -> Result<bool, Fail> {
+    let (mut plain, mut counted) = (PathBuf::new(rt.alloc())?, PathBuf::new(rt.alloc())?);
     for part in parts {
-        path.push(buffer(rt, part)?.as_path())?;
+        let part = string(rt.alloc(), part)?;
+        plain.push(Path::new(part.as_cstr16()))?;
+        counted.push_counted(&mut CountedUnits::new(part.as_cstr16()))?;
     }
-    Ok(path)
+    Ok(is_path(&plain, want) && is_path(&counted, want))
 }
 
 /// Texts that are pushed in turn, and the text of the path.
@@ -146,7 +150,7 @@ const SEVERAL: &[(&[&str], &str)] = &[
 #[test]
 fn several_pushes(rt: HostRuntime) -> Result<(), Fail> {
     for (parts, want) in SEVERAL {
-        assert!(rt; is_path(&pushed_in_turn(&rt, parts)?, want), "{want}");
+        assert!(rt; is_pushed_in_turn(&rt, parts, want)?, "{want}");
     }
     Ok(())
 }

@@ -79,21 +79,6 @@ impl<'a> CountedReader<'a> {
         }
     }
 
-    /// Continues with other characters. The count is unchanged.
-    ///
-    /// ```rust
-    /// let name = CStr16::from_u16_with_nul(&[0x48, 0x69, 0])?.as_slice();
-    /// let mut reader = counted::CountedReader::new(name);
-    /// reader.turn_to(name.part(1, 2));
-    /// assert_eq!(rt; reader.get(0), 0x69);
-    /// ```
-    pub fn turn_to(&mut self, characters: Char16Slice<'a>)
-        ensures units { read_units self.new ≡ units_of characters.entry }
-        ensures count { read_count self.new ≡ read_count self.old }
-    {
-        self.units = characters.units();
-    }
-
     /// Returns the number of units.
     #[inline(always)]
     pub fn len(&self) -> usize

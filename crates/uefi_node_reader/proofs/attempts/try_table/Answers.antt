@@ -16,11 +16,11 @@ use Rattle.uefi_node_reader.proofs.attempts.try_table.Goals.{then-may_begin+in-E
 
 pub try_group-requires-clause-sound : goal.try_group-requires-clause-sound
 try_group-requires-clause-sound g c =
-    ap (λ (l : List Form). list_all is_sound l) c.group-rows.ensures.forms ∙ group_sound c.loop-index.index c.loop-index-test.true
+    ap (λ (l : List Form). list_all is_sound l) c.group-rows.ensures.forms ∙ group_sound c.loop-index.index (omega (arith, c.loop-index-test.true))
 
 pub try_group-requires-clause-filled : goal.try_group-requires-clause-filled
 try_group-requires-clause-filled g c =
-    ap (λ (l : List Form). list_all is_filled l) c.group-rows.ensures.forms ∙ group_filled c.loop-index.index c.loop-index-test.true
+    ap (λ (l : List Form). list_all is_filled l) c.group-rows.ensures.forms ∙ group_filled c.loop-index.index (omega (arith, c.loop-index-test.true))
 
 pub try_group-requires-clause-few : goal.try_group-requires-clause-few
 try_group-requires-clause-few g c = omega (arith, c.loop-index.invariant.1, c.loop-index-test.true, c.group-rows.ensures.few)
@@ -37,7 +37,7 @@ loop-index-preserved g c =
     let all = first_tried tried 0 forms None in
     let group : List Form = map as_form c.group-rows.result.now in
     let left : ℕ → Option Stop → Result g.A.Attempt.Seen (Option Stop) =
-    λ n stop. first_tried tried (c.loop-index.before + n) (forms_from (c.loop-index.index + 1) (12 - (c.loop-index.index + 1))) stop in
+    λ n stop. first_tried tried (c.loop-index.before + n) (forms_from (c.loop-index.index + 1) (15 - (c.loop-index.index + 1))) stop in
     let step : (stop : Option Stop) → Err stop ≡ first_tried tried c.loop-index.before group c.loop-index.furthest
     → left (length c.group-rows.result.now) stop ≡ all =
     λ stop e. ap (λ (n : ℕ). left n stop) (sym (length-map c.group-rows.result.now as_form))

@@ -6,5 +6,5 @@ use Rattle.uefi_node_reader.proofs.attempts.try_table.Given as goal
 
 abbrev pub invariant-loop-index : goal.invariant-loop-index
 invariant-loop-index g l =
-    (first_tried (g.A.Attempt.tried l.fn.attempt) l.before (forms_from l.index (12 - l.index)) l.furthest
+    (first_tried (g.A.Attempt.tried l.fn.attempt) l.before (forms_from l.index (15 - l.index)) l.furthest
     ≡ first_tried (g.A.Attempt.tried l.fn.attempt) 0 forms None) × (l.before ≤ 1000 * l.index)

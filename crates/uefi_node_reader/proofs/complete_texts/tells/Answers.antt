@@ -15,14 +15,14 @@ returns-in_default g c =
     c.head-head.result.now None c.types-kind.ensures.device_type c.types-kind.ensures.sub_type c.head-head.ensures
     (rw c.in_default.is at c.form_of.ensures)))
 
-pub returns-in_default-mode : goal.returns-in_default-mode
-returns-in_default-mode g c =
+pub returns-then-not-is_exact : goal.returns-then-not-is_exact
+returns-then-not-is_exact g c =
     let node : Node = parsed_node c.args.node.now in
     let form : Form = as_form c.in-Some.row.now in
     let shown : ShownIn node form = shown_in node form (by_parts node c.types-kind.result.0 c.types-kind.result.1
     c.head-head.result.now (Some form) c.types-kind.ensures.device_type c.types-kind.ensures.sub_type c.head-head.ensures
     (rw c.in-Some.is at c.form_of.ensures)) in
-    tells_other (as_form c.args.read.now) node form shown.chosen c.in_default-mode.not-Read
+    tells_other (as_form c.args.read.now) node form shown.chosen (sym c.is_exact.ensures ∙ c.if-not-is_exact.true)
 
 pub slice_bounds-tells_fixed-end : goal.slice_bounds-tells_fixed-end
 slice_bounds-tells_fixed-end g c =
@@ -66,7 +66,7 @@ returns-then-tells_fixed g c =
     let shown : ShownIn node form = shown_in node form (by_parts node c.types-kind.result.0 c.types-kind.result.1
     c.head-head.result.now (Some form) c.types-kind.ensures.device_type c.types-kind.ensures.sub_type c.head-head.ensures
     (rw c.in-Some.is at c.form_of.ensures)) in
-    tells_is read node form shown c.in-Read.is (omega (arith, c.data_len-len.ensures.count, c.data_len-len.ensures.fits)) true c.tells_tail.result
+    tells_is read node form shown (sym c.is_exact.ensures ∙ c.if-not-is_exact.false) (omega (arith, c.data_len-len.ensures.count, c.data_len-len.ensures.fits)) true c.tells_tail.result
     (sym c.if-tells_fixed.true ∙ c.tells_fixed.ensures
     ∙ ap (λ (l : List ℕ). tells_fixed form (take form.least l)) c.head-head.ensures)
     (c.tells_tail.ensures ∙ ap (tells_tail read form.least form.tail form.close) c.data_len-len.ensures.count)
@@ -79,7 +79,7 @@ returns-else-tells_fixed g c =
     let shown : ShownIn node form = shown_in node form (by_parts node c.types-kind.result.0 c.types-kind.result.1
     c.head-head.result.now (Some form) c.types-kind.ensures.device_type c.types-kind.ensures.sub_type c.head-head.ensures
     (rw c.in-Some.is at c.form_of.ensures)) in
-    c.if-tells_fixed.false ∙ tells_is read node form shown c.in-Read.is
+    c.if-tells_fixed.false ∙ tells_is read node form shown (sym c.is_exact.ensures ∙ c.if-not-is_exact.false)
     (omega (arith, c.data_len-len.ensures.count, c.data_len-len.ensures.fits)) false
     (tells_tail read form.least form.tail form.close (length node.content))
     (sym c.if-tells_fixed.false ∙ c.tells_fixed.ensures

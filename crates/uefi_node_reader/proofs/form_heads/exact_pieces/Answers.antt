@@ -7,4 +7,4 @@ use Rattle.uefi_node_reader.proofs.form_heads.exact_pieces.Goals as goal
 pub returns : goal.returns
 returns g c =
     rw c.ok.ensures.value (read_ok (λ x. (c.read_pieces.new.content, g.T.Text.bytes x)) c.read_pieces.result _ c.read_pieces.ensures
-    ∙ pieces_exact 0 0 (map as_piece c.args.pieces.now) c.args.content.now (g.T.Text.bytes c.args.text))
+    ∙ pieces_exact (map as_piece c.args.pieces.now) c.args.content.now (g.T.Text.bytes c.args.text))

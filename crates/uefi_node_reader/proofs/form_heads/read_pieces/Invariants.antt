@@ -5,5 +5,5 @@ use Rattle.uefi_node_reader.proofs.form_heads.read_pieces.Given as goal
 
 abbrev pub invariant-loop-piece : goal.invariant-loop-piece
 invariant-loop-piece g l =
-    pieces_in g.S.Notation.rules l.fn.kind l.fn.sub_kind (map as_piece (drop l.piece-index l.pieces)) l.content (g.T.Text.bytes l.rest)
-    ≡ pieces_in g.S.Notation.rules l.fn.kind l.fn.sub_kind (map as_piece l.pieces) l.initial.content (g.T.Text.bytes l.fn.text)
+    pieces_in g.S.Notation.rules (map as_piece (drop l.piece-index l.pieces)) l.content (g.T.Text.bytes l.rest)
+    ≡ pieces_in g.S.Notation.rules (map as_piece l.pieces) l.initial.content (g.T.Text.bytes l.fn.text)

@@ -26,4 +26,4 @@ loop-index-preserved g c =
 pub place_in-place-requires : goal.place_in-place-requires
 place_in-place-requires g c =
     subst (λ (group : List Form). IsTrue (have_one_kind group)) (sym c.group-rows.ensures.forms)
-    (one_kind c.loop-index.index c.loop-index-test.true)
+    (one_kind c.loop-index.index (omega (arith, c.loop-index-test.true)))

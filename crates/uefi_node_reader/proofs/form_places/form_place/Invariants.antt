@@ -4,5 +4,5 @@ use Rattle.uefi_node_reader.specs.TableReading.{form_place}
 use Rattle.uefi_node_reader.proofs.form_places.form_place.Given as goal
 
 abbrev pub invariant-loop-index : goal.invariant-loop-index
-invariant-loop-index g l = (l.before + form_place (g.T.FormTest.test l.test) (forms_from l.index (12 - l.index))
+invariant-loop-index g l = (l.before + form_place (g.T.FormTest.test l.test) (forms_from l.index (15 - l.index))
     ≡ form_place (g.T.FormTest.test l.test) forms) × (l.before ≤ 1000 * l.index)

@@ -38,7 +38,7 @@ returns-then-left-rows c =
     let size = length-map rows as_form in
     let all : start_at (group_forms c.loop-index.index) c.loop-index.left ≡ start_at forms c.args.place =
     sym (ap (λ (l : List Form). start_at l c.loop-index.left) (next_group c.loop-index.index c.loop-index-test.true)
-    ∙ within (group_forms c.loop-index.index) (forms_from (c.loop-index.index + 1) (12 - (c.loop-index.index + 1))) c.loop-index.left
+    ∙ within (group_forms c.loop-index.index) (forms_from (c.loop-index.index + 1) (15 - (c.loop-index.index + 1))) c.loop-index.left
     (omega (arith, size, ap length c.group-rows.ensures.forms, c.if-left-rows.true))) ∙ c.loop-index.invariant in
     ap (λ (s : List ℕ). Some s) c.as_str.ensures ∙ sym (start_in rows c.loop-index.left _ c.if-left-rows.true)
     ∙ ap (λ (l : List Form). start_at l c.loop-index.left) c.group-rows.ensures.forms ∙ all
@@ -48,7 +48,7 @@ loop-index-preserved c =
     let rows = c.group-rows.result.now in
     let size = length-map rows as_form in
     let many : length (group_forms c.loop-index.index) ≡ length rows = sym (ap length c.group-rows.ensures.forms) ∙ size in
-    let others : List Form = forms_from (c.loop-index.index + 1) (12 - (c.loop-index.index + 1)) in
+    let others : List Form = forms_from (c.loop-index.index + 1) (15 - (c.loop-index.index + 1)) in
     ap (λ (n : ℕ). start_at others (c.loop-index.left - n)) (sym many)
     ∙ sym (ap (λ (l : List Form). start_at l c.loop-index.left) (next_group c.loop-index.index c.loop-index-test.true)
     ∙ past (group_forms c.loop-index.index) others c.loop-index.left (omega (arith, many, c.if-left-rows.false)))

@@ -1,4 +1,4 @@
-use Rattle.std.proofs.Common.{List, map, subst, sym}
+use Rattle.std.proofs.Common.{List, arith, map, subst, sym}
 use Rattle.std.specs.Prelude.{IsTrue}
 use Rattle.uefi_node_table.specs.Rows.{Form, as_form, find_form, have_one_kind, matches}
 use Rattle.uefi_node_table.specs.Table.{forms}
@@ -18,4 +18,4 @@ loop-index-preserved c = let test = matches c.args.display_only c.args.kind c.ar
 pub find_in_group-requires : goal.find_in_group-requires
 find_in_group-requires c =
     subst (λ (group : List Form). IsTrue (have_one_kind group)) (sym c.group.ensures.forms)
-    (one_kind c.loop-index.index c.loop-index-test.true)
+    (one_kind c.loop-index.index (omega (arith, c.loop-index-test.true)))

@@ -4,5 +4,5 @@ use Rattle.uefi_node_table.specs.Table.{forms, forms_from}
 use Rattle.uefi_node_table.proofs.printing.form_of.Given as goal
 
 abbrev pub invariant-loop-index : goal.invariant-loop-index
-invariant-loop-index l = find_form (matches l.display_only l.kind l.sub_kind l.content) (forms_from l.index (12 - l.index))
+invariant-loop-index l = find_form (matches l.display_only l.kind l.sub_kind l.content) (forms_from l.index (15 - l.index))
     ≡ find_form (matches l.display_only l.kind l.sub_kind l.content) forms
