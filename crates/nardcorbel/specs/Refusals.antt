@@ -16,9 +16,9 @@ use Rattle.uefi_device_path.specs.declared.errors.LoadOptionError.{LoadOptionErr
 use Rattle.uefi_device_path.specs.NodeError.{NodeError}
 use Rattle.uefi_device_path.specs.declared.errors.OptionBuildError.{OptionBuildError}
 use Rattle.uefi_device_path.specs.declared.errors.OptionBuildError.TheVariants as option
-use Rattle.uefi_device_path.specs.declared.lenient_errors.PushLenientTextError.{PushLenientTextError}
-use Rattle.uefi_device_path.specs.declared.lenient_errors.PushLenientTextError.TheVariants as text
-use Rattle.uefi_device_path.specs.declared.lenient_errors.TextFault.{TextFault}
+use Rattle.uefi_device_path.specs.declared.text_errors.PushTextError.{PushTextError}
+use Rattle.uefi_device_path.specs.declared.text_errors.PushTextError.TheVariants as text
+use Rattle.uefi_device_path.specs.declared.text_errors.TextFault.{TextFault}
 use Rattle.uefi_device_path.specs.TextStyle.{TextStyle}
 use Rattle.uefi_device_path.specs.TextStyle.TheVariants.{Printed, Lenient, Libefivar}
 use Rattle.nardcorbel.specs.Outcomes.{refusal_at, refusal_for}
@@ -93,7 +93,7 @@ fault_refusal Lenient fault = refusal_at NO_NODE fault.byte
 fault_refusal Libefivar fault = refusal_at NO_NODE fault.byte
 
 -- a text in a style whose nodes are not added
-abbrev pub text_refused : TextStyle → PushLenientTextError → Refusal
+abbrev pub text_refused : TextStyle → PushTextError → Refusal
 text_refused style (text.Path error) = path_refusal error
 text_refused style (text.NoNode fault) = fault_refusal style fault
 text_refused style (text.BufferTooSmall needed) = refusal_at BUFFER_TOO_SMALL needed

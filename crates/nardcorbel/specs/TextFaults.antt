@@ -2,18 +2,18 @@
 use Rattle.std.specs.Prelude.{ℕ, List, [], Option, Some, None}
 use Rattle.std.specs.Result.{result_err, result_map_both}
 use Rattle.uefi_text.specs.UnitTexts.{utf16_units}
-use Rattle.uefi_device_path.specs.LenientErrorTexts.{text_fault_text}
+use Rattle.uefi_device_path.specs.TextErrorTexts.{text_fault_text}
 use Rattle.uefi_device_path.specs.StyledReading.{path_read, text_extent}
 use Rattle.uefi_device_path.specs.TextStyle.{TextStyle}
-use Rattle.uefi_device_path.specs.declared.lenient_errors.PushLenientTextError.{PushLenientTextError}
-use Rattle.uefi_device_path.specs.declared.lenient_errors.PushLenientTextError.TheVariants.{NoNode}
-use Rattle.uefi_device_path.specs.declared.lenient_errors.TextFault.{TextFault}
+use Rattle.uefi_device_path.specs.declared.text_errors.PushTextError.{PushTextError}
+use Rattle.uefi_device_path.specs.declared.text_errors.PushTextError.TheVariants.{NoNode}
+use Rattle.uefi_device_path.specs.declared.text_errors.TextFault.{TextFault}
 use Rattle.nardcorbel.specs.Outcomes.{Outcome, when_read, refusal_at}
 use Rattle.nardcorbel.specs.Outcomes.Outcome.{Number, Text}
 use Rattle.nardcorbel.specs.declared.reasons.TheConstants.{NO_NODE}
 
 -- the fault of a text whose nodes are not added, if that is why
-abbrev pub fault_in : PushLenientTextError → Option TextFault
+abbrev pub fault_in : PushTextError → Option TextFault
 fault_in (NoNode fault) = Some fault
 fault_in error = None
 

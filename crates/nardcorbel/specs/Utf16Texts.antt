@@ -8,9 +8,9 @@ use Rattle.uefi_device_path.specs.Paths.{path_bytes}
 use Rattle.uefi_device_path.specs.StyledReading.{path_read}
 use Rattle.uefi_device_path.specs.TextStyle.{TextStyle}
 use Rattle.uefi_device_path.specs.Utf16Texts.{paired_chars, units_within, utf16_read}
-use Rattle.uefi_device_path.specs.declared.lenient_errors.PushLenientTextError.{PushLenientTextError}
-use Rattle.uefi_device_path.specs.declared.lenient_errors.PushLenientTextError.TheVariants.{BufferTooSmall, NoNode, Path}
-use Rattle.uefi_device_path.specs.declared.lenient_errors.TextFault.{TextFault}
+use Rattle.uefi_device_path.specs.declared.text_errors.PushTextError.{PushTextError}
+use Rattle.uefi_device_path.specs.declared.text_errors.PushTextError.TheVariants.{BufferTooSmall, NoNode, Path}
+use Rattle.uefi_device_path.specs.declared.text_errors.TextFault.{TextFault}
 use Rattle.nardcorbel.specs.Outcomes.{Outcome, refusal_at, when_read}
 use Rattle.nardcorbel.specs.Outcomes.Outcome.{Content, Text}
 use Rattle.nardcorbel.specs.Refusals.{fault_refusal}
@@ -30,7 +30,7 @@ fault_in_units units fault = record {
   expected = fault.expected;
 }
 
-abbrev pub error_in_units : List ℕ → PushLenientTextError → PushLenientTextError
+abbrev pub error_in_units : List ℕ → PushTextError → PushTextError
 error_in_units units (NoNode fault) = NoNode (fault_in_units units fault)
 error_in_units units (Path error) = Path error
 error_in_units units (BufferTooSmall needed) = BufferTooSmall needed

@@ -1,7 +1,6 @@
 //! Device paths and load options that C writes into its own buffers, and comparisons of device
 //! paths.
-ghost use Rattle.std.specs.Prelude.{◌≡◌, ◌↔◌, ◌+◌, ◌%◌, ◌^◌, ◌≤◌, ◌++◌, ◌∷◌, [], All, IsTrue, List, length};
-ghost use Rattle.uefi_text.specs.Packed.{IsByte};
+ghost use Rattle.std.specs.Prelude.{◌≡◌, ◌↔◌, ◌+◌, ◌%◌, ◌^◌, ◌≤◌, ◌++◌, ◌∷◌, [], IsTrue, List, length};
 ghost use Rattle.uefi_device_path.specs.Building.{build_refusal, push_at_refusal, pushed_at};
 ghost use Rattle.uefi_device_path.specs.Matching.{IsExpansion};
 ghost use Rattle.uefi_device_path.specs.Nodes.{Node, node_with};
@@ -17,7 +16,7 @@ use crate::outcomes::{Refusal, Refused, read_path, read_string, read_utf8, refus
 use crate::reasons::{BUFFER_TOO_SMALL, NO_NODE};
 use uefi_device_path::build::RawNode;
 use uefi_device_path::{
-    DevicePath, DeviceSubType, DeviceType, LoadOptionBuilder, PushLenientTextError, TextStyle,
+    DevicePath, DeviceSubType, DeviceType, LoadOptionBuilder, PushTextError, TextStyle,
     append_in_buf, push_at_in_buf, push_in_buf, push_styled_text_in_buf,
 };
 
@@ -36,11 +35,6 @@ pub extern "C" fn nard_device_path_begin(buffer: &mut [u8], place: &mut usize) -
     buffer[..4].copy_from_slice(&[0x7f, 0xff, 4, 0]);
     report::<Refusal>(Ok(4), place)
 }
-
-/// Does nothing. Its clause serves the proofs of the calls below.
-fn are_bytes(bytes: &[u8])
-    ensures { All IsByte bytes.now }
-{}
 
 /// Adds a node before the end of the device path at the start of a buffer, as [`push_in_buf`] does.
 ///
@@ -69,14 +63,13 @@ pub extern "C" fn nard_device_path_push(
         sub_type: DeviceSubType(sub_type),
         content,
     };
-    are_bytes(buffer);
     report(push_in_buf(buffer, &node), place)
 }
 
 /// Adds a node before the end of the device path in the first `path_length` bytes of a buffer, as
 /// [`push_at_in_buf`] does. `path_length` is the `place` of the call before.
 ///
-/// Unlike [`nard_device_path_push`], the call reads none of the path but its end node. The call
+/// Unlike [`nard_device_path_push`], the call does not check what is before the end node. It
 /// fails for the first of these reasons: the buffer has fewer than `path_length` bytes, or these do
 /// not end with an end node (`NO_END_NODE`, with `path_length` as `place`); the reasons of
 /// [`nard_device_path_push`] from `NODE_OF_END` on, with the same `place`. Otherwise `place` becomes
@@ -128,16 +121,16 @@ pub extern "C" fn nard_device_path_append(buffer: &mut [u8], bytes: &[u8], place
 
 /// Returns why the nodes of a text are not added. The place of a fault is where its node begins if
 /// the style is that of printed texts, and otherwise the byte that is wrong.
-pub(crate) fn text_refused(style: TextStyle, error: PushLenientTextError) -> Refusal
+pub(crate) fn text_refused(style: TextStyle, error: PushTextError) -> Refusal
     ensures { result ≡ text_refused style error }
 {
     match error {
-        PushLenientTextError::Path(error) => error.refusal(),
-        PushLenientTextError::NoNode(fault) => match style {
+        PushTextError::Path(error) => error.refusal(),
+        PushTextError::NoNode(fault) => match style {
             TextStyle::Printed => Refusal::at(NO_NODE, fault.node),
             TextStyle::Lenient | TextStyle::Libefivar => Refusal::at(NO_NODE, fault.byte),
         },
-        PushLenientTextError::BufferTooSmall(needed) => Refusal::at(BUFFER_TOO_SMALL, needed),
+        PushTextError::BufferTooSmall(needed) => Refusal::at(BUFFER_TOO_SMALL, needed),
     }
 }
 

@@ -3,7 +3,7 @@ ghost use Rattle.std.specs.Prelude.{◌≡◌, Option};
 ghost use Rattle.std.specs.Option.{option_map};
 ghost use Rattle.std.specs.Result.{result_err};
 ghost use Rattle.uefi_device_path.specs.StyledReading.{path_read};
-ghost use Rattle.uefi_device_path.specs.declared.lenient_errors.TextFault.{TextFault};
+ghost use Rattle.uefi_device_path.specs.declared.text_errors.TextFault.{TextFault};
 ghost use Rattle.uefi_device_path.specs.TextStyle.TheVariants.{Lenient, Libefivar};
 ghost use Rattle.nardcorbel.specs.Outcomes.{Shows, when_read};
 ghost use Rattle.nardcorbel.specs.Reading.{read_utf8};
@@ -14,9 +14,7 @@ ghost use Rattle.nardcorbel.specs.Utf16Texts.{fault_in_units, fault_of_units, re
 use crate::outcomes::{read_utf8, refuse, report};
 use crate::strings::until_nul;
 use crate::utf16_texts::{fault_in_units, read_utf16};
-use uefi_device_path::{
-    NameText, PushLenientTextError, TextFault, TextStyle, laws, push_any_text_in_buf,
-};
+use uefi_device_path::{NameText, PushTextError, TextFault, TextStyle, push_any_text_in_buf};
 use uefi_text::text_sink::{Printed, TextSink};
 use uefi_text::write_units;
 
@@ -37,12 +35,12 @@ impl Printed for FaultText {
 }
 
 /// Returns the fault of a text whose nodes are not added.
-fn fault_in(error: PushLenientTextError) -> Option<TextFault>
+fn fault_in(error: PushTextError) -> Option<TextFault>
     ensures { result ≡ fault_in error }
 {
     match error {
-        PushLenientTextError::NoNode(fault) => Some(fault),
-        PushLenientTextError::Path(_) | PushLenientTextError::BufferTooSmall(_) => None,
+        PushTextError::NoNode(fault) => Some(fault),
+        PushTextError::Path(_) | PushTextError::BufferTooSmall(_) => None,
     }
 }
 
@@ -50,8 +48,6 @@ fn fault_in(error: PushLenientTextError) -> Option<TextFault>
 fn find_fault<T: NameText>(style: TextStyle, text: T) -> Option<TextFault>
     ensures { result ≡ result_err (path_read style (T.bytes text)) }
 {
-    // The law does nothing: it says that the empty path is not refused.
-    laws::accepted_paths();
     match push_any_text_in_buf(style, &mut [0x7f, 0xff, 4, 0], text) {
         Ok(_) => None,
         Err(error) => fault_in(error),

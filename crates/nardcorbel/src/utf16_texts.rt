@@ -11,7 +11,7 @@ use crate::outcomes::{Refusal, read_path, refuse, report};
 use crate::reasons::INVALID_CHAR;
 use crate::strings::until_nul;
 use uefi_device_path::{
-    PushLenientTextError, Text, TextFault, TextStyle, Utf16Text, push_any_text_in_buf, units_within,
+    PushTextError, Text, TextFault, TextStyle, Utf16Text, push_any_text_in_buf, units_within,
 };
 
 /// The text of units.
@@ -37,14 +37,12 @@ pub(crate) fn fault_in_units(units: &[u16], fault: TextFault) -> TextFault
 }
 
 /// Returns why the nodes of units are not added, with the places in the units.
-fn error_in_units(units: &[u16], error: PushLenientTextError) -> PushLenientTextError
+fn error_in_units(units: &[u16], error: PushTextError) -> PushTextError
     ensures { result ≡ error_in_units units.now error }
 {
     match error {
-        PushLenientTextError::NoNode(fault) => {
-            PushLenientTextError::NoNode(fault_in_units(units, fault))
-        }
-        PushLenientTextError::Path(_) | PushLenientTextError::BufferTooSmall(_) => error,
+        PushTextError::NoNode(fault) => PushTextError::NoNode(fault_in_units(units, fault)),
+        PushTextError::Path(_) | PushTextError::BufferTooSmall(_) => error,
     }
 }
 

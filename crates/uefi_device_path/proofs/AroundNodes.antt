@@ -1,13 +1,12 @@
 -- What is passed over around the nodes of a text: nothing of a text that begins as a printed one does.
-use Rattle.std.proofs.Common.{◌≡◌, ℕ, suc, ◌+◌, ◌-◌, ◌<◌, ◌≤◌, Bool, true, false, cond, List, [], ◌∷◌, length, drop, take, get_or, inl, inr, refl, ap, sym, ◌∙◌, length-drop, arith}
+use Rattle.std.proofs.Common.{◌≡◌, ℕ, suc, ◌+◌, ◌-◌, ◌≤◌, Bool, true, false, cond, List, [], ◌∷◌, length, drop, refl, ap, ◌∙◌, length-drop, arith}
 use Rattle.std.specs.Prelude.{◌==◌, ◌&&◌, ◌||◌, not}
 use Rattle.std.specs.Char.{is_ascii_whitespace}
 use Rattle.std.specs.List.{prefix_len, suffix_len}
-use Rattle.std.proofs.lemmas.Bool.{cases_lt, not-true, or_parts}
-use Rattle.std.proofs.lemmas.List.{drop-drop, get_or-take, length-take, take-take}
-use Rattle.std.proofs.lemmas.List.Sums.{suffix_len_is}
+use Rattle.std.proofs.lemmas.Bool.{not-true, or_parts}
+use Rattle.std.proofs.lemmas.List.{drop-drop, length-take}
 use Rattle.uefi_device_path.specs.AroundNodes.{after_first, before_closing, before_last, first_byte, first_place, is_mark, is_quoted, is_slashed, last_byte, may_begin, past_slash}
-use Rattle.uefi_node_reader.specs.NamedFiles.{before_spaces, is_after_node, past_spaces}
+use Rattle.uefi_node_reader.specs.NamedFiles.{before_spaces, past_spaces}
 use Rattle.uefi_node_reader.specs.TableReading.{first_of, is_empty}
 use Rattle.uefi_node_reader.specs.declared.styles.TextStyle.{TextStyle}
 use Rattle.uefi_node_reader.specs.declared.styles.TextStyle.TheVariants.{Printed, Lenient, Libefivar}

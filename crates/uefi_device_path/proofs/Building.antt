@@ -1,15 +1,19 @@
 -- A device path that grows.
 use borrow.Rule.Slice.PartMut.{put_mid}
-use Rattle.std.proofs.Common.{◌≡◌, ◌∙◌, ap, sym, refl, ℕ, ◌+◌, ◌-◌, ◌/◌, ◌%◌, ◌≤◌, take, drop, length-append, List, [], ◌∷◌, ◌++◌, All, None, length, append_assoc, arith}
+use Rattle.std.proofs.Common.{◌≡◌, ◌∙◌, ap, sym, subst, refl, ℕ, ◌+◌, ◌-◌, ◌≤◌, take, drop, length-append, List, [], ◌∷◌, ◌++◌, All, Option, None, Result, Ok, Err, length, append_assoc, arith}
 use Rattle.std.proofs.lemmas.Grind.{common_steps}
-use Rattle.std.proofs.lemmas.List.{take-append-drop, take-take, take_at}
-use Rattle.std.proofs.lemmas.Slice.{take-put_mid}
+use Rattle.std.proofs.lemmas.Bool.{le-ltb}
+use Rattle.std.proofs.lemmas.List.{append-nil, take-append-drop, take-take, take_at}
+use Rattle.std.proofs.lemmas.Slice.{drop-put_mid, take-put_mid}
 use Rattle.std.proofs.lemmas.List.Elements.{All-append, All-cons, All-nil}
-use Rattle.uefi_device_nodes.specs.Nodes.{Node, IsInner, node_bytes, end_entire}
-use Rattle.std.specs.Prelude.{false, nat_lt}
-use Rattle.uefi_text.specs.UnalignedCStr16.{with_prefix}
+use Rattle.std.specs.Option.{option_map}
+use Rattle.std.specs.Prelude.{false, nat_lt, IfOk, OnErr}
+use Rattle.std.specs.Result.{result_err, result_map_both}
+use Rattle.uefi_device_nodes.specs.Nodes.{Node, IsInner, node_bytes, node_length, end_entire}
 use Rattle.uefi_device_path.specs.Paths.{BeginWithPath, IsPath, nodes_bytes, nodes_in, path_bytes, without_end}
 use Rattle.uefi_device_path.specs.Building.{build_refusal}
+use Rattle.uefi_device_path.specs.NodeSinks.{Holds, nodes_up_to}
+use Rattle.uefi_device_path.specs.PushedPaths.{Leaves, bytes_unless}
 use Rattle.uefi_device_path.proofs.ShortForms.{bytes_of_both}
 use Rattle.uefi_device_path.proofs.Splits.{IsPath-path_bytes}
 
@@ -27,18 +31,6 @@ unrefused_inner node unrefused = record {
     empty_content [] none = refl
     empty_content (b ∷ bytes) none = absurd (omega arith)
 
--- the bytes of a path with one more node
-pub path_grown : (bytes grown : List ℕ) (node : Node) → IsPath bytes → IsInner node
-    → grown ≡ without_end bytes ++ (node_bytes node ++ node_bytes end_entire)
-    → IsPath grown × (nodes_in (without_end grown) ≡ nodes_in (without_end bytes) ++ node ∷ [])
-path_grown bytes grown node path inner e =
-    let ns = nodes_in (without_end bytes) in
-    let split : nodes_bytes (ns ++ node ∷ []) ≡ nodes_bytes ns ++ node_bytes node = grind (arith, common_steps) in
-    let whole : grown ≡ path_bytes (ns ++ node ∷ []) =
-    e ∙ ap (λ k. k ++ (node_bytes node ++ node_bytes end_entire)) path.nodes.join
-    ∙ sym (append_assoc (nodes_bytes ns) (node_bytes node) (node_bytes end_entire)) ∙ ap (λ k. k ++ node_bytes end_entire) (sym split) in
-    IsPath-path_bytes (ns ++ node ∷ []) grown (All-append IsInner ns (node ∷ []) path.nodes.inner (All-cons IsInner node [] inner (All-nil IsInner))) whole
-
 pub path_empty : (bytes : List ℕ) → bytes ≡ node_bytes end_entire → IsPath bytes × (nodes_in (without_end bytes) ≡ [])
 path_empty bytes e = IsPath-path_bytes [] bytes (All-nil IsInner) e
 
@@ -47,30 +39,6 @@ path_long : (bytes : List ℕ) → IsPath bytes → 4 ≤ length bytes
 path_long bytes path =
     let long = ap length path.ends in
     omega (arith, long, length-append (without_end bytes) (node_bytes end_entire))
-
--- a path at the start of a buffer, with one more node that is written over its end
-pub path_grown_in : (bytes places header : List ℕ) (node : Node) (len k end : ℕ) → len ≤ length bytes → IsPath (take len bytes) → IsInner node
-    → end ≡ len + length node.content + 4
-    → header ≡ node.device_type ∷ node.sub_type ∷ (length node.content + 4) % 256 ∷ (length node.content + 4) / 256 ∷ []
-    → places ≡ header ++ (node.content ++ node_bytes end_entire)
-    → (end ≤ length (put_mid (len - 4) k bytes places)) × IsPath (take end (put_mid (len - 4) k bytes places))
-    × (nodes_in (without_end (take end (put_mid (len - 4) k bytes places))) ≡ nodes_in (without_end (take len bytes)) ++ node ∷ [])
-path_grown_in bytes places header node len k end within path inner ends is put =
-    let old : length (take len bytes) ≡ len = grind (arith, common_steps) in
-    let least = path_long (take len bytes) path in
-    let four : 4 ≤ len = omega (arith, old, least) in
-    let whole : places ≡ node_bytes node ++ node_bytes end_entire = put ∙ ap (λ h. h ++ (node.content ++ node_bytes end_entire)) is in
-    let size : length places ≡ length node.content + 8 = ap length whole ∙ omega (arith, length-append node.content (node_bytes end_entire)) in
-    let front : without_end (take len bytes) ≡ take (len - 4) bytes =
-    ap (λ n. take (n - 4) (take len bytes)) old ∙ take-take (len - 4) len bytes (omega arith) in
-    let grown : take end (put_mid (len - 4) k bytes places) ≡ without_end (take len bytes) ++ (node_bytes node ++ node_bytes end_entire) =
-    take-put_mid (len - 4) k bytes places end (omega (arith, ends, size, four)) (omega (arith, within))
-    ∙ ap (λ us. us ++ places) (sym front) ∙ ap (λ us. without_end (take len bytes) ++ us) whole in
-    let start : length (take (len - 4) bytes) ≡ len - 4 = grind (arith, common_steps) in
-    let long = length-append (take (len - 4) bytes) (places ++ drop k (drop (len - 4) bytes)) in
-    let tail = length-append places (drop k (drop (len - 4) bytes)) in
-    let both = path_grown (take len bytes) _ node path inner grown in
-    (omega (arith, long, tail, start, size, ends, four), both.0, both.1)
 
 -- the bytes of a path with the nodes of another one
 pub path_appended : (bytes grown added : List ℕ) (others : List Node) → IsPath bytes → All IsInner others
@@ -82,25 +50,61 @@ path_appended bytes grown added others path inner is e =
     e ∙ ap (λ k. k ++ added) path.nodes.join ∙ ap (λ k. nodes_bytes ns ++ k) is ∙ sym (bytes_of_both (ns ++ others) ns others refl) in
     IsPath-path_bytes (ns ++ others) grown (All-append IsInner ns others path.nodes.inner inner) whole
 
+-- the same of one node
+pub one_node : (node : Node) → path_bytes (node ∷ []) ≡ node_bytes node ++ node_bytes end_entire
+one_node node = ap (λ us. us ++ node_bytes end_entire) (append-nil (node_bytes node))
+
+one_inner : (node : Node) → build_refusal node ≡ None → All IsInner (node ∷ [])
+one_inner node unrefused = All-cons IsInner node [] (unrefused_inner node unrefused) (All-nil IsInner)
+
+pub path_grown : (bytes grown : List ℕ) (node : Node) → IsPath bytes → build_refusal node ≡ None
+    → grown ≡ without_end bytes ++ (node_bytes node ++ node_bytes end_entire)
+    → IsPath grown × (nodes_in (without_end grown) ≡ nodes_in (without_end bytes) ++ node ∷ [])
+path_grown bytes grown node path unrefused e =
+    path_appended bytes grown _ (node ∷ []) path (one_inner node unrefused) (sym (one_node node)) e
+
 -- the same at the start of a buffer, where they are written over the end of the path
-pub path_appended_in : (bytes added : List ℕ) (others : List Node) (len k end : ℕ) → len ≤ length bytes
-    → IsPath (take len bytes) → All IsInner others → added ≡ path_bytes others → end ≡ len + (length added - 4)
-    → (end ≤ length (put_mid (len - 4) k bytes added)) × IsPath (take end (put_mid (len - 4) k bytes added))
-    × (nodes_in (without_end (take end (put_mid (len - 4) k bytes added))) ≡ nodes_in (without_end (take len bytes)) ++ others)
-path_appended_in bytes added others len k end within path inner is ends =
-    let old : length (take len bytes) ≡ len = grind (arith, common_steps) in
-    let least = path_long (take len bytes) path in
-    let four : 4 ≤ len = omega (arith, old, least) in
+pub path_appended_in : (old added : List ℕ) (others : List Node) (len k end : ℕ) → len ≤ length old
+    → IsPath (take len old) → All IsInner others → added ≡ path_bytes others → end ≡ len + (length added - 4) → length added ≡ k
+    → end ≤ length old → Holds old (nodes_up_to len old ++ others) (put_mid (len - 4) k old added) end
+path_appended_in old added others len k end within path inner is ends count room =
+    let long : length (take len old) ≡ len = grind (arith, common_steps) in
+    let least = path_long (take len old) path in
+    let four : 4 ≤ len = omega (arith, long, least) in
     let size : length added ≡ length (nodes_bytes others) + 4 = ap length is ∙ length-append (nodes_bytes others) (node_bytes end_entire) in
-    let front : without_end (take len bytes) ≡ take (len - 4) bytes =
-    ap (λ n. take (n - 4) (take len bytes)) old ∙ take-take (len - 4) len bytes (omega arith) in
-    let grown : take end (put_mid (len - 4) k bytes added) ≡ without_end (take len bytes) ++ added =
-    take-put_mid (len - 4) k bytes added end (omega (arith, ends, size, four)) (omega (arith, within)) ∙ ap (λ us. us ++ added) (sym front) in
-    let start : length (take (len - 4) bytes) ≡ len - 4 = grind (arith, common_steps) in
-    let long = length-append (take (len - 4) bytes) (added ++ drop k (drop (len - 4) bytes)) in
-    let tail = length-append added (drop k (drop (len - 4) bytes)) in
-    let both = path_appended (take len bytes) _ added others path inner is grown in
-    (omega (arith, long, tail, start, size, ends, four), both.0, both.1)
+    let front : without_end (take len old) ≡ take (len - 4) old =
+    ap (λ n. take (n - 4) (take len old)) long ∙ take-take (len - 4) len old (omega arith) in
+    let grown : take end (put_mid (len - 4) k old added) ≡ without_end (take len old) ++ added =
+    take-put_mid (len - 4) k old added end (omega (arith, ends, size, four)) (omega (arith, within)) ∙ ap (λ us. us ++ added) (sym front) in
+    let start : length (take (len - 4) old) ≡ len - 4 = grind (arith, common_steps) in
+    let left : length (drop k (drop (len - 4) old)) ≡ length old - (len - 4) - k = grind (arith, common_steps) in
+    let same : length (put_mid (len - 4) k old added) ≡ length old = omega (
+      arith,
+      length-append (take (len - 4) old) (added ++ drop k (drop (len - 4) old)),
+      length-append added (drop k (drop (len - 4) old)),
+      start,
+      left,
+      count,
+      size,
+      ends,
+      four,
+      room,
+    ) in
+    let both = path_appended (take len old) _ added others path inner is grown in
+    record {
+      within = omega (arith, same, room);
+      path = both.0;
+      shown = both.1;
+      same = same;
+      rest = drop-put_mid (len - 4) k old added end (omega (arith, count, ends, size, four)) (omega (arith, within)) count;
+    }
+
+pub path_grown_in : (old places : List ℕ) (node : Node) (len k end : ℕ) → len ≤ length old → IsPath (take len old)
+    → build_refusal node ≡ None → places ≡ node_bytes node ++ node_bytes end_entire → end ≡ len + node_length node → length places ≡ k
+    → end ≤ length old → Holds old (nodes_up_to len old ++ node ∷ []) (put_mid (len - 4) k old places) end
+path_grown_in old places node len k end within path unrefused put ends count room =
+    path_appended_in old places (node ∷ []) len k end within path (one_inner node unrefused) (put ∙ sym (one_node node))
+    (omega (arith, ends, ap length put, length-append node.content (node_bytes end_entire))) count room
 
 -- the path that bytes begin with is their first bytes
 pub path_in_front : (bytes : List ℕ) (ns : List Node) (len : ℕ) → BeginWithPath bytes ns → len ≡ length (path_bytes ns)
@@ -123,13 +127,17 @@ len_of_path bytes ns len path shown within =
     let long : length (take len bytes) ≡ len = grind (arith, common_steps) in
     sym long ∙ ap length front
 
--- a buffer that begins with the path of nodes, and else is unchanged
-pub grown_buffer : (old new : List ℕ) (ns : List Node) (len : ℕ) → IsPath (take len new) → nodes_in (without_end (take len new)) ≡ ns
-    → len ≤ length old → length new ≡ length old → drop len new ≡ drop len old → new ≡ with_prefix (path_bytes ns) old
-grown_buffer old new ns len path shown within same rest =
-    let long : len ≡ length (path_bytes ns) = len_of_path new ns len path shown (omega (arith, within, same)) in
-    let fits : nat_lt (length old) (length (path_bytes ns)) ≡ false = grind (arith, common_steps) in
+-- a call that returns the number of bytes of a path in a buffer, or an error, leaves what it says
+pub held_leaves : {E F : Type 0} (error : E → F) (fault : Option E) (old new : List ℕ) (ns : List Node) (given : Result ℕ E)
+    → result_err given ≡ fault → IfOk given (λ end. Holds old ns new end) → OnErr given (new ≡ old)
+    → Leaves (bytes_unless (option_map error fault) (path_bytes ns)) old (result_map_both (λ (n : ℕ). n) error given) new
+held_leaves {E} error fault old new ns (Ok len) is held same =
+    let long : len ≡ length (path_bytes ns) = len_of_path new ns len held.path held.shown held.within in
+    let fits : nat_lt (length old) (length (path_bytes ns)) ≡ false = le-ltb (length old) (length (path_bytes ns)) (omega (arith, long, held.within, held.same)) in
     let whole : new ≡ path_bytes ns ++ drop (length (path_bytes ns)) old =
-    sym (take-append-drop len new) ∙ ap (λ k. k ++ drop len new) (front_is_path new ns len path shown)
-    ∙ ap (λ k. path_bytes ns ++ k) rest ∙ ap (λ n. path_bytes ns ++ drop n old) long in
-    rw fits whole
+    sym (take-append-drop len new) ∙ ap (λ k. k ++ drop len new) (front_is_path new ns len held.path held.shown)
+    ∙ ap (λ k. path_bytes ns ++ k) held.rest ∙ ap (λ n. path_bytes ns ++ drop n old) long in
+    subst (λ (f : Option E). Leaves (bytes_unless (option_map error f) (path_bytes ns)) old (Ok len) new) is
+    (ap (λ (n : ℕ). Ok n) long, rw fits whole)
+held_leaves {E} error fault old new ns (Err e) is held same =
+    subst (λ (f : Option E). Leaves (bytes_unless (option_map error f) (path_bytes ns)) old (Err (error e)) new) is (refl, same)

@@ -14,7 +14,7 @@ use Rattle.uefi_device_path.proofs.AroundNodes.{is_clear, is_passed}
 use Rattle.uefi_node_reader.specs.FieldReading.{◌>>=◌, either_read, read_if}
 use Rattle.uefi_node_reader.specs.NamedFiles.{begins_name, ends_name, is_name, is_name_char, name_bytes, name_data, name_read, node_read}
 use Rattle.uefi_node_reader.specs.PlainNodes.{plain_read, types_read}
-use Rattle.uefi_node_reader.specs.TableReading.{blank, forms_read, is_read, kept, pieces_put, rest_read}
+use Rattle.uefi_node_reader.specs.TableReading.{blank, forms_read, is_exact, kept, pieces_put, rest_read}
 use Rattle.uefi_node_reader.specs.WordReading.{after}
 
 -- the test for a literal that begins with another byte
@@ -47,7 +47,7 @@ module _ (c : ℕ) (cs : List ℕ) (passed : is_passed c ≡ true) where
   no_form all place (form ∷ others) e =
       let parts = and_parts (begins_clear form.start) (list_all (λ other. begins_clear other.start) others) e in
       ap (λ (o : Option (List ℕ × List ℕ)). either_read (kept all place form o) (forms_read all (place + 1) others (c ∷ cs)))
-      (by (is_read form.mode) (no_literal form.start parts.0))
+      (by (is_exact form.mode) (no_literal form.start parts.0))
       ∙ no_form all (place + 1) others parts.1
     where
       body : Option (List ℕ) → Option (List ℕ × List ℕ)

@@ -13,7 +13,6 @@ pub mod OptionBytes
 pub mod BufferPaths
 pub mod PathTexts
 pub mod PathReading
-pub mod TextStops
 pub mod TextLengths
 mod PushedAt
 pub mod NamesInARow

@@ -1,9 +1,8 @@
 -- A path is read from its text: what is read of a text is printed so, up to where it stops.
-use Rattle.std.proofs.Common.{◌≡◌, ◌≢◌, ℕ, ◌<◌, ◌≤◌, ◌+◌, ◌-◌, Bool, true, false, cond, eqb, ltb, List, [], ◌∷◌, ◌++◌, codes, length, drop, ◌⊎◌, inl, inr, refl, ap, sym, subst, ◌∙◌, append_assoc, length-drop, arith, true≢false}
+use Rattle.std.proofs.Common.{◌≡◌, ◌≢◌, ℕ, ◌+◌, ◌-◌, Bool, true, false, cond, eqb, ltb, List, [], ◌∷◌, ◌++◌, codes, length, drop, ◌⊎◌, refl, ap, sym, ◌∙◌, append_assoc, arith, true≢false}
 use Rattle.std.specs.Prelude.{Option, Some, None, ◌==◌, ◌&&◌, ◌||◌, not}
 use Rattle.std.specs.List.{flat_map, join_by, last_or, onto_first}
 use Rattle.std.proofs.lemmas.List.{append-nil, length-append}
-use Rattle.std.proofs.lemmas.List.Elements.{All-nil, All-push}
 use Rattle.std.proofs.lemmas.Bool.Decides.{nat_tests}
 use borrow.Author.Tests.{eqb-true}
 use Rattle.uefi_device_nodes.specs.Nodes.{Node, is_end_instance}
@@ -13,7 +12,7 @@ use Rattle.uefi_device_path.specs.Instances.{instances}
 use Rattle.uefi_device_path.specs.PathTexts.{instance_text, nodes_text}
 use Rattle.uefi_device_path.specs.PathReading.{AreTold, BeginsWithNode, NoneBegins, StopsAt, end_instance, is_after_instance, starts_instance, text_before}
 use Rattle.uefi_device_path.specs.declared.errors.BuildError.TheVariants.{EndNode, NodeTooLong}
-use Rattle.uefi_node_reader.specs.Laws.{NodeFits, NodeStarts, NodeTakes}
+use Rattle.uefi_node_reader.specs.Laws.{NodeFits, NodeTakes}
 use Rattle.uefi_node_reader.specs.NamedFiles.{is_after_node, IsTold, node_read}
 
 -- the text of a node, in the form that is to be read back
@@ -90,6 +89,16 @@ pub path_text_is : (nodes : List Node) → nodes_text false false nodes ≡ rest
 unfolding nodes_text
 path_text_is nodes = sym (rest_is nodes).0
 
+-- after a node stands what may follow one
+pub onto_after : (nodes : List Node) (tail : Bool → List ℕ) → is_after_node (tail false) ≡ true
+    → is_after_node (text_onto false nodes tail) ≡ true
+onto_after [] tail e = e
+onto_after (n ∷ ns) tail e = by (is_end_instance n)
+  where
+    by : (t : Bool) → is_after_node (cond t (44 ∷ text_onto true ns tail) (codes "/" ++ (printed n ++ text_onto false ns tail))) ≡ true
+    by true = refl
+    by false = refl
+
 -- a node that is told, or the end of an instance
 abbrev pub IsToldOrEnd : Node → Type 0
 IsToldOrEnd node = IsTold node ⊎ (node ≡ end_instance)
@@ -97,13 +106,15 @@ IsToldOrEnd node = IsTold node ⊎ (node ≡ end_instance)
 pub no_end : NodeFits → (node : Node) → IsTold node → is_end_instance node ≡ false
 no_end fits node told = ap (λ (t : Bool). t && (node.sub_type == 0x01)) (fits node told).0
 
--- the text of a node is not empty
-pub some_text : NodeStarts → (node : Node) → IsTold node → 0 < length (printed node)
-some_text starts node told = by (printed node) (starts node told [])
-  where
-    by : (text : List ℕ) → is_after_node (text ++ []) ≡ false → 0 < length text
-    by [] e = absurd (true≢false e)
-    by (c ∷ cs) e = omega arith
+-- a text that goes on with a node that is told, or with a comma
+pub told_first : NodeFits → (s : Bool) (node : Node) (nodes : List Node) (tail : Bool → List ℕ) → IsTold node
+    → text_onto s (node ∷ nodes) tail ≡ separator s ++ (printed node ++ text_onto false nodes tail)
+told_first fits s node nodes tail told = ap (λ (t : Bool). cond t (44 ∷ text_onto true nodes tail)
+    (separator s ++ (printed node ++ text_onto false nodes tail))) (no_end fits node told)
+
+pub end_first : (s : Bool) (node : Node) (nodes : List Node) (tail : Bool → List ℕ) → node ≡ end_instance
+    → text_onto s (node ∷ nodes) tail ≡ 44 ∷ text_onto true nodes tail
+end_first s node nodes tail e = ap (λ (x : Node). text_onto s (x ∷ nodes) tail) e
 
 -- whether an instance begins after nodes
 abbrev pub starts_after : Bool → List Node → Bool
@@ -163,39 +174,17 @@ starts_after-push s (n ∷ ns) node = starts_after-push (is_end_instance n) ns n
 
 -- how far a text was read: the nodes of its beginning, and what is left
 pub record Going (text : List ℕ) (nodes : List Node) (at_start : Bool) (rest : List ℕ) : Type 0 where
-  pub told : AreTold nodes
   pub splits : text ≡ rest_text true nodes ++ rest
   pub start : at_start ≡ starts_after true nodes
-  pub ends : at_start ≡ false → is_after_node rest ≡ true
-
-pub going_first : (text : List ℕ) → Going text [] true text
-going_first text = record {
-  told = All-nil IsToldOrEnd;
-  splits = refl;
-  start = refl;
-  ends = λ e. absurd (true≢false e);
-}
 
 -- over a comma
-pub over_comma : (text : List ℕ) (nodes new : List Node) (at_start : Bool) (rest after : List ℕ)
-    → Going text nodes at_start rest → rest ≡ 44 ∷ after → new ≡ nodes ++ end_instance ∷ []
-    → Going text new true after × (length after < length rest)
-over_comma text nodes new at_start rest after on is more = (
-  subst (λ (x : List Node). Going text x true after) (sym more) going,
-  omega (arith, ap length is),
-)
-  where
-    before : List ℕ
-    before = rest_text true nodes
-
-    going : Going text (nodes ++ end_instance ∷ []) true after
-    going = record {
-      told = All-push IsToldOrEnd nodes end_instance on.told (inr refl);
-      splits = on.splits ∙ ap (λ (x : List ℕ). before ++ x) is ∙ sym (append_assoc before (44 ∷ []) after)
-          ∙ ap (λ (x : List ℕ). x ++ after) (sym (rest_text-push true nodes end_instance));
-      start = sym (starts_after-push true nodes end_instance);
-      ends = λ e. absurd (true≢false e);
-    }
+pub over_comma : (text : List ℕ) (nodes : List Node) (at_start : Bool) (after : List ℕ)
+    → Going text nodes at_start (44 ∷ after) → Going text (nodes ++ end_instance ∷ []) true after
+over_comma text nodes at_start after on = record {
+  splits = on.splits ∙ sym (append_assoc (rest_text true nodes) (44 ∷ []) after)
+      ∙ ap (λ (x : List ℕ). x ++ after) (sym (rest_text-push true nodes end_instance));
+  start = sym (starts_after-push true nodes end_instance);
+}
 
 -- where a node has to begin
 pub place_is : (at_start : Bool) (rest : List ℕ) → is_after_instance rest ≡ false
@@ -210,21 +199,14 @@ place_is false (c ∷ cs) other ends = by (eqb c 47) (eqb c 44) refl other (ends
     by false true p q e = absurd (true≢false q)
     by false false p q e = absurd (true≢false (sym e))
 
--- it lies within the text
-pub place_fits : (at_start : Bool) (rest place : List ℕ) → place ≡ cond at_start rest (drop 1 rest) → length place ≤ length rest
-place_fits true rest place e = omega (arith, ap length e)
-place_fits false rest place e = omega (arith, ap length e, length-drop 1 rest)
-
 -- over a node
-pub over_node : NodeFits → NodeStarts → (text : List ℕ) (nodes new : List Node) (at_start : Bool)
-    (rest place after : List ℕ) (node : Node) → Going text nodes at_start rest
-    → is_after_instance rest ≡ false → place ≡ cond at_start rest (drop 1 rest)
-    → BeginsWithNode place node after → new ≡ nodes ++ node ∷ []
-    → Going text new false after × (length after < length rest)
-over_node fits starts text nodes new at_start rest place after node on other is begins more = (
-  subst (λ (x : List Node). Going text x false after) (sym more) going,
-  omega (arith, ap length whole, length-append gap (own ++ after), length-append own after, some),
-)
+pub over_node : NodeFits → (text : List ℕ) (nodes : List Node) (at_start : Bool) (place after : List ℕ) (node : Node)
+    → Going text nodes at_start (separator at_start ++ place) → BeginsWithNode place node after → Going text (nodes ++ node ∷ []) false after
+over_node fits text nodes at_start place after node on begins = record {
+  splits = on.splits ∙ ap (λ (x : List ℕ). before ++ x) (ap (λ (x : List ℕ). gap ++ x) begins.splits ∙ sym (append_assoc gap own after))
+      ∙ sym (append_assoc before (gap ++ own) after) ∙ ap (λ (x : List ℕ). x ++ after) (sym all);
+  start = sym (starts_after-push true nodes node ∙ no_end fits node begins.told);
+}
   where
     before : List ℕ
     before = rest_text true nodes
@@ -235,12 +217,6 @@ over_node fits starts text nodes new at_start rest place after node on other is 
     own : List ℕ
     own = printed node
 
-    whole : rest ≡ gap ++ (own ++ after)
-    whole = place_is at_start rest other on.ends ∙ ap (λ (x : List ℕ). gap ++ x) (sym is ∙ begins.splits)
-
-    some : 0 < length own
-    some = some_text starts node begins.told
-
     one : rest_text at_start (node ∷ []) ≡ gap ++ own
     one = ap (λ (t : Bool). cond t (codes ",") (gap ++ (own ++ []))) (no_end fits node begins.told)
         ∙ ap (λ (x : List ℕ). gap ++ x) (append-nil own)
@@ -250,52 +226,29 @@ over_node fits starts text nodes new at_start rest place after node on other is 
         ∙ ap (λ (t : Bool). before ++ rest_text t (node ∷ [])) (sym on.start)
         ∙ ap (λ (x : List ℕ). before ++ x) one
 
-    going : Going text (nodes ++ node ∷ []) false after
-    going = record {
-      told = All-push IsToldOrEnd nodes node on.told (inl begins.told);
-      splits = on.splits ∙ ap (λ (x : List ℕ). before ++ x) (whole ∙ sym (append_assoc gap own after))
-          ∙ sym (append_assoc before (gap ++ own) after) ∙ ap (λ (x : List ℕ). x ++ after) (sym all);
-      start = sym (starts_after-push true nodes node ∙ no_end fits node begins.told);
-      ends = λ e. begins.ends;
-    }
-
 -- at the end, and where no node begins
-pub done : (text : List ℕ) (nodes : List Node) (at_start : Bool) (rest : List ℕ)
-    → Going text nodes at_start rest → length rest ≡ 0 → nodes_text false false nodes ≡ text
-done text nodes at_start (c ∷ cs) on none = absurd (omega arith)
-done text nodes at_start [] on none =
-    path_text_is nodes ∙ sym (append-nil (rest_text true nodes)) ∙ sym on.splits
+pub done : (text : List ℕ) (nodes : List Node) (at_start : Bool) → Going text nodes at_start [] → nodes_text false false nodes ≡ text
+done text nodes at_start on = path_text_is nodes ∙ sym (append-nil (rest_text true nodes)) ∙ sym on.splits
 
-pub stopped : (text : List ℕ) (nodes : List Node) (at_start : Bool) (rest place : List ℕ)
-    → Going text nodes at_start rest → is_after_instance rest ≡ false
-    → place ≡ cond at_start rest (drop 1 rest) → NoneBegins place → StopsAt text (length text - length place)
-stopped text nodes at_start rest place on other is none = (
+pub stopped : (text : List ℕ) (nodes : List Node) (at_start : Bool) (rest : List ℕ) → AreTold nodes
+    → Going text nodes at_start (separator at_start ++ rest) → (at_start ≡ true → is_after_instance rest ≡ false) → NoneBegins rest
+    → StopsAt text (length text - length rest)
+stopped text nodes at_start rest told on other none = (
   nodes,
-  place,
+  rest,
   record {
-    told = on.told;
+    told = told;
     begins = begins;
     none = none;
-    not_empty = λ e. ap is_after_instance (is ∙ at (start ∙ e)) ∙ other;
-    offset = omega (arith, ap length begins, length-append (text_before nodes) place);
+    not_empty = λ e. other (on.start ∙ sym (starts_after_is None nodes) ∙ e);
+    offset = omega (arith, ap length begins, length-append (text_before nodes) rest);
   },
 )
   where
-    before : List ℕ
-    before = rest_text true nodes
-
-    start : at_start ≡ starts_instance (last_or None nodes)
-    start = on.start ∙ sym (starts_after_is None nodes)
-
-    at : at_start ≡ true → cond at_start rest (drop 1 rest) ≡ rest
-    at e = ap (λ (t : Bool). cond t rest (drop 1 rest)) e
-
-    begins : text ≡ text_before nodes ++ place
-    begins = on.splits ∙ ap (λ (x : List ℕ). before ++ x) (place_is at_start rest other on.ends)
-        ∙ ap (λ (x : List ℕ). before ++ (separator at_start ++ x)) (sym is)
-        ∙ sym (append_assoc before (separator at_start) place)
-        ∙ ap (λ (t : Bool). before ++ separator t ++ place) on.start
-        ∙ ap (λ (x : List ℕ). x ++ place) (sym (text_before_is nodes))
+    begins : text ≡ text_before nodes ++ rest
+    begins = on.splits ∙ sym (append_assoc (rest_text true nodes) (separator at_start) rest)
+        ∙ ap (λ (t : Bool). rest_text true nodes ++ separator t ++ rest) on.start
+        ∙ ap (λ (x : List ℕ). x ++ rest) (sym (text_before_is nodes))
 
 -- a node that is read before what may stand after one
 pub node_begins : NodeTakes → (text : List ℕ) (node : Node) (after : List ℕ)

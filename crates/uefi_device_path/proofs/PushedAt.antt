@@ -8,6 +8,8 @@ use Rattle.std.specs.Prelude.{false, true, nat_eq, nat_lt, not, ◌&&◌}
 use Rattle.uefi_device_nodes.specs.Nodes.{Node, node_bytes, node_length, end_entire}
 use Rattle.uefi_device_path.specs.Building.{build_refusal, ends_at, grow_refusal, push_at_refusal, push_refusal, pushed_at, room_refusal}
 use Rattle.uefi_device_path.specs.Paths.{BeginWithPath, nodes_bytes, path_bytes}
+use Rattle.uefi_device_path.proofs.Building.{one_node}
+use Rattle.uefi_device_path.proofs.ShortForms.{bytes_of_both}
 use Rattle.uefi_device_path.proofs.TextLengths.{bytes_more}
 
 -- a node in place of the end node of the path that bytes begin with
@@ -17,9 +19,8 @@ pushed_at_path bytes ns node begins =
     let long = length-append (nodes_bytes ns) (node_bytes end_entire) in
     let front : take (length (path_bytes ns) - 4) bytes ≡ nodes_bytes ns =
     ap (take (length (path_bytes ns) - 4)) begins.1.join ∙ take_at (nodes_bytes ns) (node_bytes end_entire ++ begins.0) _ (omega (arith, long)) in
-    let split : nodes_bytes (ns ++ node ∷ []) ≡ nodes_bytes ns ++ node_bytes node = grind (arith, common_steps) in
-    ap (λ us. us ++ (node_bytes node ++ node_bytes end_entire)) front
-    ∙ sym (append_assoc (nodes_bytes ns) (node_bytes node) (node_bytes end_entire)) ∙ ap (λ k. k ++ node_bytes end_entire) (sym split)
+    ap (λ us. us ++ (node_bytes node ++ node_bytes end_entire)) front ∙ ap (λ us. nodes_bytes ns ++ us) (sym (one_node node))
+    ∙ sym (bytes_of_both (ns ++ node ∷ []) ns (node ∷ []) refl)
 
 pub pushed_at_refused : (bytes : List ℕ) (ns : List Node) (node : Node) → BeginWithPath bytes ns
     → push_at_refusal bytes (length (path_bytes ns)) node ≡ grow_refusal (push_refusal ns node (length bytes))

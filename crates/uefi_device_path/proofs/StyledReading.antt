@@ -1,29 +1,32 @@
 -- A text is read in a style in one way: what the function says is what the relation says.
-use Rattle.std.proofs.Common.{◌≡◌, ◌↔◌, ℕ, zero, suc, ◌+◌, ◌-◌, ◌<◌, ◌≤◌, Bool, true, false, cond, List, [], ◌∷◌, ◌++◌, length, drop, get_or, slice_index, inl, inr, refl, ap, sym, subst, ◌∙◌, append_assoc, arith, true≢false}
-use Rattle.std.specs.Prelude.{All, None, Result, Ok, Err, ◌==◌, ◌&&◌, ◌||◌}
+use Rattle.std.proofs.Common.{◌≡◌, ◌↔◌, ℕ, zero, suc, ◌-◌, ◌<◌, ◌≤◌, Bool, true, false, cond, List, [], ◌∷◌, ◌++◌, length, drop, get_or, slice_index, inl, inr, refl, ap, sym, subst, ◌∙◌, append_assoc, add-zero, arith, true≢false}
+use Rattle.std.specs.Option.{ok_or}
+use Rattle.std.specs.Prelude.{All, Option, Some, None, Result, Ok, Err, ◌==◌, ◌&&◌, ◌||◌}
 use Rattle.std.proofs.lemmas.Bool.{lt-ltb}
 use Rattle.std.proofs.lemmas.List.{append-nil, drop_at, get_or-drop, length-append, length-drop}
 use Rattle.std.proofs.lemmas.List.Elements.{All-cons, All-head, All-nil, All-push, All-tail}
 use Rattle.std.proofs.lemmas.Result.{IfErr-at_err}
 use borrow.Author.Tests.{eqb-true}
-use Rattle.uefi_device_nodes.specs.Nodes.{Node}
-use Rattle.uefi_device_path.specs.Laws.{PrintedIsRead}
-use Rattle.uefi_device_path.specs.StyledReading.{follows_comma, place_read, IsReadAs, Reads, ReadingStopsAt, ReadsTo, StopsBeingRead, fault_from, more_nodes, node_then, nodes_of_rest, path_read}
+use Rattle.uefi_device_nodes.specs.Nodes.{Node, is_end_instance}
+use Rattle.uefi_device_path.specs.Laws.{PrintedIsRead, StopIsRead}
+use Rattle.uefi_device_path.specs.StyledReading.{follows_comma, place_read, Reads, ReadsTo, StopsBeingRead, fault_from, more_nodes, node_then, nodes_of_rest, path_read}
 use Rattle.uefi_device_path.specs.StyledReading.ReadsTo.{Begins, Comma, OneMore}
-use Rattle.uefi_device_path.specs.PathReading.{AreTold, end_instance, is_after_instance}
-use Rattle.uefi_device_path.specs.declared.lenient_errors.TextFault.{TextFault}
+use Rattle.uefi_device_path.specs.PathReading.{AreTold, NoneBegins, end_instance, is_after_instance, text_before}
+use Rattle.uefi_device_path.specs.declared.text_errors.TextFault.{TextFault}
 use Rattle.uefi_device_path.specs.AroundNodes.{before_closing, first_place}
 use Rattle.uefi_device_path.proofs.AroundNodes.{Ends, all_is_read, closing_within, ends_more, ends_within, is_clear, place_ends}
 use Rattle.uefi_device_path.proofs.FirstBytes.{node_clear}
-use Rattle.uefi_device_path.proofs.PathReading.{IsToldOrEnd, path_text_is, place_is, printed, rest_text, separator}
-use Rattle.uefi_device_path.proofs.TextStops.{end_first, told_first, whole_after}
-use Rattle.uefi_node_reader.specs.Laws.{NodeAgain, NodeFits, NodeStarts}
+use Rattle.uefi_device_path.proofs.PathReading.{IsToldOrEnd, end_first, no_end, node_begins, onto_after, onto_is, path_text_is, place_is, printed, rest_text, separator, starts_after, starts_after_is, text_before_is, text_onto, told_first}
+use Rattle.uefi_node_reader.specs.Laws.{NodeAgain, NodeFits, NodeStarts, NodeTakes}
+use Rattle.uefi_node_reader.specs.FieldReading.{read_if}
+use Rattle.uefi_node_reader.specs.LenientNodes.{ended, fault_at_byte}
 use Rattle.uefi_node_reader.proofs.StyledLaws.{takes_more}
-use Rattle.uefi_node_reader.specs.Styles.{StyledAgain, takes_printed, StyledEnds, StyledFaultWithin, StyledStarts, StyledTakes}
+use Rattle.uefi_node_reader.specs.Styles.{StyledAgain, styled_read, takes_printed, StyledEnds, StyledFaultWithin, StyledStarts, StyledTakes}
 use Rattle.uefi_node_reader.specs.declared.faults.NodeFault.{NodeFault}
 use Rattle.uefi_node_reader.specs.declared.styles.TextStyle.{TextStyle}
 use Rattle.uefi_node_reader.specs.declared.styles.TextStyle.TheVariants.{Printed}
-use Rattle.uefi_node_reader.specs.NamedFiles.{is_after_node}
+use Rattle.uefi_node_reader.specs.NamedFiles.{is_after_node, node_read}
+use Rattle.uefi_node_reader.specs.declared.faults.Expected.TheVariants.{AsPrinted}
 
 -- what is read of a text, or of what is left of it
 abbrev pub Nodes : Type 0
@@ -37,13 +40,13 @@ onto nodes (Err fault) = Err fault
 abbrev reading : List Node → Nodes
 reading nodes = Ok nodes
 
-ok_same : (nodes others : List Node) → reading nodes ≡ reading others → nodes ≡ others
+pub ok_same : (nodes others : List Node) → reading nodes ≡ reading others → nodes ≡ others
 ok_same nodes others e = cc
 
 abbrev pub failing : TextFault → Nodes
 failing fault = Err fault
 
-err_same : (fault other : TextFault) → failing fault ≡ failing other → fault ≡ other
+pub err_same : (fault other : TextFault) → failing fault ≡ failing other → fault ≡ other
 err_same fault other e = cc
 
 onto_none : (r : Nodes) → onto [] r ≡ r
@@ -66,6 +69,24 @@ no_instance (c ∷ cs) e = or (c == 47) (c == 44) e
 at_place : (s : Bool) (place : List ℕ) → place ≡ cond s (separator s ++ place) (drop 1 (separator s ++ place))
 at_place true place = refl
 at_place false place = refl
+
+not_ended : (s : Bool) (rest : List ℕ) → (s ≡ true → is_after_instance rest ≡ false) → is_after_instance (separator s ++ rest) ≡ false
+not_ended true rest h = h refl
+not_ended false rest h = refl
+
+-- no node is read where none begins
+none_read : NodeTakes → (text rest : List ℕ) → NoneBegins rest → place_read Printed text rest ≡ Err (fault_at_byte 0 AsPrinted)
+unfolding styled_read
+none_read takes text rest none = by (node_read rest) refl
+  where
+    by : (r : Option (Node × List ℕ)) → node_read rest ≡ r → ok_or (ended r) (fault_at_byte 0 AsPrinted) ≡ Err (fault_at_byte 0 AsPrinted)
+    by None e = refl
+    by (Some (node, after)) e = ending (is_after_node after) refl
+      where
+        ending : (t : Bool) → is_after_node after ≡ t
+            → ok_or (read_if t node after) (fault_at_byte 0 AsPrinted) ≡ Err (fault_at_byte 0 AsPrinted)
+        ending true p = absurd (none node after (node_begins takes rest node after e p))
+        ending false p = refl
 
 module _ (style : TextStyle) (text : List ℕ) where
   -- the nodes of what is left of a text
@@ -170,31 +191,21 @@ module _ (style : TextStyle) (text : List ℕ) where
   start starts ends (Comma nodes s rest on) = sym (onto_more nodes end_instance (left style whole true rest)) ∙ start starts ends on
   start starts ends (OneMore nodes s node place rest on read) =
       sym (onto_more nodes node (left style whole false rest))
-      ∙ ap (onto nodes) (sym (left_node style whole s (separator s ++ place) place (other s) (at_place s place) ends node rest read))
+      ∙ ap (onto nodes) (sym (left_node style whole s (separator s ++ place) place
+      (not_ended s place (λ e. no_instance place (starts style (follows_comma whole place) place node rest read))) (at_place s place) ends node rest read))
       ∙ start starts ends on
-    where
-      other : (t : Bool) → is_after_instance (separator t ++ place) ≡ false
-      other true = no_instance place (starts style (follows_comma whole place) place node rest read)
-      other false = refl
 
-  read_is : StyledStarts → StyledEnds → (nodes : List Node) → Reads style text nodes → IsReadAs style text nodes
+  read_is : StyledStarts → StyledEnds → (nodes : List Node) → Reads style text nodes → path_read style text ≡ Ok nodes
   read_is starts ends nodes (s, on) = sym (start starts ends on) ∙ ap (λ (l : List Node). Ok l) (append-nil nodes)
 
-  stop_is : StyledStarts → StyledEnds → (fault : TextFault) → StopsBeingRead style text fault → ReadingStopsAt style text fault
+  stop_is : StyledStarts → StyledEnds → (fault : TextFault) → StopsBeingRead style text fault → path_read style text ≡ Err fault
   stop_is starts ends fault (nodes, s, rest, stop) =
       sym (start starts ends stop.reads)
-      ∙ ap (onto nodes) (left_fault style whole s (separator s ++ rest) rest (other s stop.not_empty) (at_place s rest) stop.found stop.refused
-      ∙ ap failing (sym same))
-    where
-      other : (t : Bool) → (t ≡ true → is_after_instance rest ≡ false) → is_after_instance (separator t ++ rest) ≡ false
-      other true h = h refl
-      other false h = refl
-
-      same : fault ≡ fault_from whole rest stop.found
-      same = λ i. record { node = stop.offset i; byte = (stop.byte ∙ ap (λ (n : ℕ). n + stop.found.byte) stop.offset) i; expected = stop.expected i }
+      ∙ ap (onto nodes) (left_fault style whole s (separator s ++ rest) rest (not_ended s rest stop.not_empty) (at_place s rest) stop.found stop.refused
+      ∙ ap failing (sym stop.is))
 
   -- and back
-  told_on : StyledTakes → {nodes : List Node} {s : Bool} {rest : List ℕ} → ReadsTo style text nodes s rest → AreTold nodes
+  pub told_on : StyledTakes → {nodes : List Node} {s : Bool} {rest : List ℕ} → ReadsTo style text nodes s rest → AreTold nodes
   told_on takes Begins = All-nil IsToldOrEnd
   told_on takes (Comma nodes s rest on) = All-push IsToldOrEnd nodes end_instance (told_on takes on) (inr refl)
   told_on takes (OneMore nodes s node place rest on read) =
@@ -252,9 +263,7 @@ module _ (style : TextStyle) (text : List ℕ) where
           not_empty = λ e. ap (λ (t : Bool). is_after_instance (cond t (c ∷ cs) cs)) e ∙ p;
           found = found;
           refused = is;
-          offset = refl;
-          byte = refl;
-          expected = refl;
+          is = refl;
         },
       )
 
@@ -269,34 +278,27 @@ module _ (style : TextStyle) (text : List ℕ) where
   unfolding path_read
   all_means ends = means ends (suc (length first)) [] true first (omega arith) Begins
 
-  pub reads_mean : StyledStarts → StyledEnds → (nodes : List Node) → IsReadAs style text nodes ↔ Reads style text nodes
+  pub reads_mean : StyledStarts → StyledEnds → (nodes : List Node) → (path_read style text ≡ Ok nodes) ↔ Reads style text nodes
   reads_mean starts ends nodes = (λ is. subst (λ (r : Nodes). Means [] r) is (all_means ends), read_is starts ends nodes)
 
-  pub stops_mean : StyledStarts → StyledEnds → (fault : TextFault) → ReadingStopsAt style text fault ↔ StopsBeingRead style text fault
+  pub stops_mean : StyledStarts → StyledEnds → (fault : TextFault) → (path_read style text ≡ Err fault) ↔ StopsBeingRead style text fault
   stops_mean starts ends fault = (λ is. subst (λ (r : Nodes). Means [] r) is (all_means ends), stop_is starts ends fault)
 
   -- the laws
-  pub read_once : (nodes others : List Node) → IsReadAs style text nodes → IsReadAs style text others → nodes ≡ others
-  read_once nodes others one two = ok_same nodes others (sym one ∙ two)
-
-  pub reading_stops_once : (fault other : TextFault) → ReadingStopsAt style text fault → ReadingStopsAt style text other → fault ≡ other
-  reading_stops_once fault other one two = err_same fault other (sym one ∙ two)
-
-  pub read_never_stops : (nodes : List Node) (fault : TextFault) → IsReadAs style text nodes → ReadingStopsAt style text fault → ⊥
-  read_never_stops nodes fault one two = cc (sym one ∙ two)
-
-  pub read_told : StyledTakes → StyledStarts → StyledEnds → (nodes : List Node) → IsReadAs style text nodes → AreTold nodes
+  pub read_told : StyledTakes → StyledStarts → StyledEnds → (nodes : List Node) → path_read style text ≡ Ok nodes → AreTold nodes
   read_told takes starts ends nodes is = told_on takes ((reads_mean starts ends nodes).0 is).1
 
   -- a wrong byte lies in the text
-  pub faults_within : StyledStarts → StyledEnds → StyledFaultWithin → (fault : TextFault) → ReadingStopsAt style text fault
+  pub faults_within : StyledStarts → StyledEnds → StyledFaultWithin → (fault : TextFault) → path_read style text ≡ Err fault
       → (fault.node ≤ fault.byte) × (fault.byte ≤ length text)
   faults_within starts ends within fault is =
       let (nodes, s, rest, stop) = (stops_mean starts ends fault).0 is in
       let long : length (separator s ++ rest) ≤ length whole = reads_within ends stop.reads in
       let size : length rest ≤ length whole = omega (arith, long, length-append (separator s) rest) in
       let here = IfErr-at_err (λ (f : NodeFault). f.byte ≤ length rest) stop.refused (within style (follows_comma whole rest) rest) in
-      (omega (arith, stop.byte), omega (arith, size, here, stop.offset, stop.byte, closing_within style text))
+      let node = ap (λ (f : TextFault). f.node) stop.is in
+      let byte = ap (λ (f : TextFault). f.byte) stop.is in
+      (omega (arith, node, byte), omega (arith, size, here, node, byte, closing_within style text))
 
   -- how far a text was read: the nodes so far, and what is left
   pub record Going (nodes : List Node) (s : Bool) (rest : List ℕ) : Type 0 where
@@ -351,11 +353,11 @@ module _ (style : TextStyle) (text : List ℕ) where
         )
 
     pub going_stops : (found : NodeFault) → place_read style whole place ≡ Err found → (fault : TextFault) → fault ≡ fault_from whole place found
-        → ReadingStopsAt style text fault
+        → path_read style text ≡ Err fault
     going_stops found refused fault same =
         sym on.all ∙ ap (onto nodes) (left_fault style whole s rest place other is found refused) ∙ ap (λ (f : TextFault). Err f) (sym same)
 
-  pub all_read : (nodes : List Node) (s : Bool) (rest : List ℕ) → Going nodes s rest → length rest ≡ 0 → IsReadAs style text nodes
+  pub all_read : (nodes : List Node) (s : Bool) (rest : List ℕ) → Going nodes s rest → length rest ≡ 0 → path_read style text ≡ Ok nodes
   all_read nodes s [] on none = sym on.all ∙ ap (λ (l : List Node). Ok l) (append-nil nodes)
   all_read nodes s (c ∷ cs) on none = absurd (omega (arith, none))
 
@@ -368,42 +370,50 @@ pub all_taken : (nodes : List Node) → All (IsTaken Printed) nodes
 all_taken [] = All-nil (IsTaken Printed)
 all_taken (n ∷ ns) = All-cons (IsTaken Printed) n ns refl (all_taken ns)
 
+-- one more node before those that were read
+more_onto : (node : Node) (nodes : List Node) (r : Nodes) → more_nodes node (onto nodes r) ≡ onto (node ∷ nodes) r
+more_onto node nodes (Ok more) = refl
+more_onto node nodes (Err fault) = refl
+
 -- what is printed is read
 module _ (fits : NodeFits) (starts : NodeStarts) (again : NodeAgain) (styled : StyledAgain) (ends : StyledEnds) where
-  printed_left : (style : TextStyle) (text : List ℕ) (s : Bool) (nodes : List Node) → All (IsTaken style) nodes → AreTold nodes
-      → left style text s (rest_text s nodes) ≡ Ok nodes
-  printed_left style text s [] taken told = refl
-  printed_left style text s (n ∷ ns) taken told =
-      one (All-head IsToldOrEnd n ns told) (printed_left style text true ns (All-tail (IsTaken style) n ns taken) (All-tail IsToldOrEnd n ns told))
-      (printed_left style text false ns (All-tail (IsTaken style) n ns taken) (All-tail IsToldOrEnd n ns told))
+  pub printed_onto : (style : TextStyle) (text : List ℕ) (s : Bool) (nodes : List Node) (tail : Bool → List ℕ) → is_after_node (tail false) ≡ true
+      → All (IsTaken style) nodes → AreTold nodes
+      → left style text s (text_onto s nodes tail) ≡ onto nodes (left style text (starts_after s nodes) (tail (starts_after s nodes)))
+  printed_onto style text s [] tail after taken told = sym (onto_none (left style text s (tail s)))
+  printed_onto style text s (n ∷ ns) tail after taken told =
+      one (All-head IsToldOrEnd n ns told) (printed_onto style text true ns tail after (All-tail (IsTaken style) n ns taken) (All-tail IsToldOrEnd n ns told))
+      (printed_onto style text false ns tail after (All-tail (IsTaken style) n ns taken) (All-tail IsToldOrEnd n ns told))
     where
-      one : IsToldOrEnd n → left style text true (rest_text true ns) ≡ Ok ns → left style text false (rest_text false ns) ≡ Ok ns
-          → left style text s (rest_text s (n ∷ ns)) ≡ Ok (n ∷ ns)
-      one (inr same) r q = left_comma style text s (rest_text s (n ∷ ns)) (rest_text true ns) (end_first s n ns None same)
-          ∙ ap (more_nodes end_instance) r ∙ (λ i. Ok (sym same i ∷ ns))
+      then_left : Bool → Nodes
+      then_left t = left style text (starts_after t ns) (tail (starts_after t ns))
+
+      one : IsToldOrEnd n → left style text true (text_onto true ns tail) ≡ onto ns (then_left true)
+          → left style text false (text_onto false ns tail) ≡ onto ns (then_left false)
+          → left style text s (text_onto s (n ∷ ns) tail) ≡ onto (n ∷ ns) (then_left (is_end_instance n))
+      one (inr same) r q = left_comma style text s (text_onto s (n ∷ ns) tail) (text_onto true ns tail) (end_first s n ns tail same)
+          ∙ ap (more_nodes end_instance) r ∙ more_onto end_instance ns (then_left true)
+          ∙ (λ i. onto (sym same i ∷ ns) (then_left (is_end_instance (sym same i))))
       one (inl told) r q =
-          let after = rest_text false ns in
-          let place = printed n ++ after in
-          let takes = takes_more style (printed n) after (All-head (IsTaken style) n ns taken) (whole_after ns None) in
-          let read = styled style (follows_comma text place) place takes n after (again n told after (whole_after ns None)) (whole_after ns None) in
-          ap (left style text s) (told_first fits s n ns None told)
-          ∙ left_node style text s (separator s ++ place) place (other s) (at_place s place) ends n after read
-          ∙ ap (more_nodes n) q
-        where
-          other : (t : Bool) → is_after_instance (separator t ++ (printed n ++ rest_text false ns)) ≡ false
-          other true = no_instance (printed n ++ rest_text false ns) (starts n told (rest_text false ns))
-          other false = refl
+          let rest = text_onto false ns tail in
+          let place = printed n ++ rest in
+          let takes = takes_more style (printed n) rest (All-head (IsTaken style) n ns taken) (onto_after ns tail after) in
+          let read = styled style (follows_comma text place) place takes n rest (again n told rest (onto_after ns tail after)) (onto_after ns tail after) in
+          ap (left style text s) (told_first fits s n ns tail told)
+          ∙ left_node style text s (separator s ++ place) place (not_ended s place (λ e. no_instance place (starts n told rest))) (at_place s place) ends n rest read
+          ∙ ap (more_nodes n) q ∙ more_onto n ns (then_left false)
+          ∙ ap (λ (t : Bool). onto (n ∷ ns) (then_left t)) (sym (no_end fits n told))
 
   printed_clear : (nodes : List Node) → AreTold nodes → is_clear (rest_text true nodes) ≡ true
   printed_clear [] told = refl
   printed_clear (n ∷ ns) told = one (All-head IsToldOrEnd n ns told)
     where
       one : IsToldOrEnd n → is_clear (rest_text true (n ∷ ns)) ≡ true
-      one (inr same) = ap is_clear (end_first true n ns None same)
+      one (inr same) = ap is_clear (end_first true n ns (λ _. []) same)
       one (inl told) =
           let after = rest_text false ns in
-          ap is_clear (told_first fits true n ns None told)
-          ∙ node_clear (printed n ++ after) (n, after) (again n told after (whole_after ns None))
+          ap is_clear (told_first fits true n ns (λ _. []) told)
+          ∙ node_clear (printed n ++ after) (n, after) (again n told after (onto_after ns (λ _. []) refl))
 
   pub printed_is_read : PrintedIsRead
   unfolding path_read
@@ -411,4 +421,20 @@ module _ (fits : NodeFits) (starts : NodeStarts) (again : NodeAgain) (styled : S
       let same : rest_text true nodes ≡ text = sym (path_text_is nodes) ∙ is in
       let all = all_is_read style text (subst (λ (x : List ℕ). is_clear x ≡ true) same (printed_clear nodes told)) in
       (λ i. left style (all.0 i) true (all.1 i))
-      ∙ subst (λ (x : List ℕ). left style text true x ≡ Ok nodes) same (printed_left style text true nodes taken told)
+      ∙ subst (λ (x : List ℕ). left style text true x ≡ Ok nodes) same
+      (printed_onto style text true nodes (λ _. []) refl taken told ∙ ap (λ (l : List Node). Ok l) (append-nil nodes))
+
+  -- what stops being printed is not read there
+  pub stop_is_read : NodeTakes → StopIsRead
+  unfolding path_read
+  stop_is_read takes text place (nodes, rest, stop) =
+      let s = starts_after true nodes in
+      let tail : Bool → List ℕ = λ t. separator t ++ rest in
+      let whole : text ≡ text_onto true nodes tail = stop.begins ∙ ap (λ (x : List ℕ). x ++ rest) (text_before_is nodes)
+      ∙ append_assoc (rest_text true nodes) (separator s) rest ∙ onto_is true nodes tail in
+      let at : length text - length rest ≡ place = omega (arith, ap length stop.begins, length-append (text_before nodes) rest, stop.offset) in
+      ap (left Printed text true) whole
+      ∙ printed_onto Printed text true nodes tail refl (all_taken nodes) stop.told
+      ∙ ap (onto nodes) (left_fault Printed text s (separator s ++ rest) rest
+      (not_ended s rest (λ e. stop.not_empty (starts_after_is None nodes ∙ e))) (at_place s rest) (fault_at_byte 0 AsPrinted) (none_read takes text rest stop.none))
+      ∙ (λ i. failing (record { node = at i; byte = (add-zero (length text - length rest) ∙ at) i; expected = AsPrinted }))

@@ -1,7 +1,7 @@
 -- A namespace's node whose identifier has the opposite order.
-use Rattle.std.proofs.Common.{◌≡◌, ◌%◌, ◌/◌, ◌<◌, ◌≤◌, ℕ, true, List, ◌∷◌, ◌++◌, drop, length, length-append, refl, take, arith}
+use Rattle.std.proofs.Common.{◌≡◌, ◌%◌, ◌/◌, ◌≤◌, ℕ, true, List, ◌∷◌, drop, length, length-append, refl, take, arith}
 use Rattle.std.proofs.lemmas.Bool.{and_parts, leb-true}
-use Rattle.std.proofs.lemmas.List.{length-drop, length-reverse, length-take}
+use Rattle.std.proofs.lemmas.List.{length-reverse, length-take}
 use Rattle.std.proofs.lemmas.List.Elements.{All-append, All-cons, All-drop, All-take}
 use Rattle.std.specs.Prelude.{All, reverse}
 use Rattle.uefi_text.specs.Packed.{IsByte}

@@ -1,10 +1,11 @@
 -- Which nodes are refused by a device path that grows.
-use Rattle.std.specs.Prelude.{ℕ, ◌+◌, ◌-◌, ◌^◌, min, List, ◌++◌, nat_eq, nat_lt, ◌==◌, ◌&&◌, not, if◌then◌else◌, Bool, length, take, Option, Some, None, Result, Ok, Err}
+use Rattle.std.specs.Prelude.{ℕ, ◌+◌, ◌-◌, ◌^◌, min, List, ◌++◌, nat_eq, nat_lt, ◌==◌, ◌&&◌, not, if◌then◌else◌, Bool, length, take, Option, Some, None}
 use Rattle.std.specs.List.{ends_with}
+use Rattle.std.specs.Option.{option_map}
+use Rattle.uefi_node_table.specs.declared.layouts.TheConstants.{FILE_PATH, MEDIA_TYPE}
 use Rattle.uefi_device_nodes.specs.Nodes.{is_end_instance}
 use Rattle.uefi_device_nodes.specs.Nodes.{Node, end_entire, node_bytes, node_length, node_with}
 use Rattle.uefi_device_nodes.specs.declared.errors.NodeError.TheVariants.{Missing}
-use Rattle.uefi_text.specs.UnalignedCStr16.{with_prefix}
 use Rattle.uefi_text.specs.UnitBytes.{unit_bytes}
 use Rattle.uefi_text.specs.Units.{nul_terminated}
 use Rattle.uefi_device_path.specs.Paths.{path_bytes}
@@ -12,12 +13,12 @@ use Rattle.uefi_device_path.specs.declared.errors.BuildError.{BuildError}
 use Rattle.uefi_device_path.specs.declared.errors.GrowError.{GrowError}
 use Rattle.uefi_device_path.specs.declared.errors.GrowError.TheVariants.{Build, Path}
 use Rattle.uefi_device_path.specs.declared.errors.BuildError.TheVariants.{BufferTooSmall, EndNode, NodeTooLong}
-use Rattle.uefi_device_path.specs.declared.errors.PushTextError.{PushTextError}
-use Rattle.uefi_device_path.specs.declared.errors.PushTextError.TheVariants as text
+use Rattle.uefi_device_path.specs.declared.text_errors.PushTextError.{PushTextError}
+use Rattle.uefi_device_path.specs.declared.text_errors.PushTextError.TheVariants as text
 
 -- the node that names a file: its name and a NUL
 abbrev pub node_of_name : List ℕ → Node
-node_of_name name = node_with 4 4 (unit_bytes (nul_terminated name))
+node_of_name name = node_with MEDIA_TYPE FILE_PATH (unit_bytes (nul_terminated name))
 
 -- why a node may not stand before the end of a path, or none
 abbrev pub build_refusal : Node → Option BuildError
@@ -45,8 +46,7 @@ append_refusal nodes others room = room_refusal (length (path_bytes (nodes ++ ot
 
 -- why nothing is added to the path that a buffer begins with
 abbrev pub grow_refusal : Option BuildError → Option GrowError
-grow_refusal None = None
-grow_refusal (Some error) = Some (Build error)
+grow_refusal error = option_map Build error
 
 -- whether the first `len` bytes end with the node that ends a path
 abbrev pub ends_at : List ℕ → ℕ → Bool
@@ -65,16 +65,6 @@ push_at_refusal bytes len node =
     then grow_refusal (room_refusal (length (pushed_at bytes len node)) (length bytes) (build_refusal node))
     else Some (Path (record { cause = Missing; offset = len }))
 
--- the length of what is written, or why nothing is
-abbrev pub len_unless : {E : Type 0} → Option E → ℕ → Result ℕ E
-len_unless None len = Ok len
-len_unless (Some error) len = Err error
-
--- a buffer that begins with what is written, or is unchanged
-abbrev pub prefix_unless : {E : Type 0} → Option E → List ℕ → List ℕ → List ℕ
-prefix_unless None bytes buffer = with_prefix bytes buffer
-prefix_unless (Some error) bytes buffer = buffer
-
 -- how many bytes the path of these nodes has, as far as a `usize` counts
 abbrev pub path_length : List Node → ℕ
 path_length nodes = min (length (path_bytes nodes)) (2 ^ 64 - 1)
@@ -82,7 +72,7 @@ path_length nodes = min (length (path_bytes nodes)) (2 ^ 64 - 1)
 -- why the nodes of a text cannot be added to a path of these nodes in a buffer of `room` bytes, or
 -- none
 abbrev pub text_refusal : List Node → List Node → ℕ → Option PushTextError
-text_refusal nodes told room =
-    if nat_lt room (path_length (nodes ++ told))
-    then Some (text.BufferTooSmall (path_length (nodes ++ told)))
+text_refusal nodes read room =
+    if nat_lt room (path_length (nodes ++ read))
+    then Some (text.BufferTooSmall (path_length (nodes ++ read)))
     else None

@@ -15,13 +15,9 @@ use Rattle.uefi_device_path.specs.declared.errors.LoadOptionError.{LoadOptionErr
 use Rattle.uefi_device_path.specs.declared.errors.BuildError.{BuildError}
 use Rattle.uefi_device_path.specs.declared.errors.GrowError.{GrowError}
 use Rattle.uefi_device_path.specs.declared.errors.GrowError.TheVariants as grow
-use Rattle.uefi_device_path.specs.declared.errors.PushTextError.{PushTextError}
-use Rattle.uefi_device_path.specs.declared.errors.PushTextError.TheVariants as push_text
 use Rattle.uefi_device_path.specs.declared.errors.BuildError.TheVariants as build
 use Rattle.uefi_device_path.specs.declared.errors.OptionBuildError.{OptionBuildError}
 use Rattle.uefi_device_path.specs.declared.errors.OptionBuildError.TheVariants as written
-use Rattle.uefi_device_path.specs.declared.path_reader.PathTextError.{PathTextError}
-use Rattle.uefi_device_path.specs.declared.path_reader.PathTextError.TheVariants as read
 
 -- the text of an error for a refused device path
 abbrev pub device_path_error_text : DevicePathError → List ℕ
@@ -81,14 +77,3 @@ abbrev pub file_path_write_error_text : FilePathWriteError → List ℕ
 file_path_write_error_text (in_buffer.Name error) = file_path_error_text error
 file_path_write_error_text (in_buffer.BufferTooSmall needed) =
     codes "buffer too small: the file path needs " ++ decimal needed ++ codes " units"
-
--- the text of an error for a text that is not a path
-abbrev pub path_text_error_text : PathTextError → List ℕ
-path_text_error_text (read.NoNode place) = codes "no node at offset " ++ decimal place
-path_text_error_text read.OutOfMemory = codes "out of memory"
-
--- the text of an error if the nodes of a text are not added to the path that a buffer begins with
-abbrev pub push_text_error_text : PushTextError → List ℕ
-push_text_error_text (push_text.Path error) = device_path_error_text error
-push_text_error_text (push_text.NoNode place) = path_text_error_text (read.NoNode place)
-push_text_error_text (push_text.BufferTooSmall needed) = build_error_text (build.BufferTooSmall needed)

@@ -14,7 +14,7 @@ use Rattle.uefi_device_nodes.specs.declared.errors.NodeError.TheVariants.{Missin
 use Rattle.uefi_device_path.specs.Building.{grow_refusal, push_at_refusal, push_refusal, pushed_at}
 use Rattle.uefi_device_path.specs.CheckedNodes.{path_of_bytes}
 use Rattle.uefi_device_path.specs.AroundNodes.{is_mark, is_quoted, is_spaces, may_begin}
-use Rattle.uefi_device_path.specs.StyledReading.{IsReadAs, Reads, ReadingStopsAt, StopsBeingRead, path_read}
+use Rattle.uefi_device_path.specs.StyledReading.{Reads, StopsBeingRead, path_read}
 use Rattle.uefi_device_path.specs.PathReading.{AreTold, StopsAt}
 use Rattle.uefi_text.specs.Packed.{IsByte}
 use Rattle.uefi_text.specs.UnitTexts.{utf16_units}
@@ -27,10 +27,11 @@ use Rattle.uefi_device_path.specs.FilePaths.{file_names, file_path, name_in}
 use Rattle.uefi_device_path.specs.LoadOptions.{Entry, EntryRefusedFor, IsEntry, entry_bytes}
 use Rattle.uefi_device_path.specs.declared.errors.DevicePathError.{DevicePathError}
 use Rattle.uefi_device_path.specs.declared.errors.LoadOptionError.{LoadOptionError}
-use Rattle.uefi_device_path.specs.declared.lenient_errors.TextFault.{TextFault}
+use Rattle.uefi_device_path.specs.declared.text_errors.TextFault.{TextFault}
+use Rattle.uefi_node_reader.specs.declared.faults.Expected.TheVariants.{AsPrinted}
 use Rattle.uefi_node_reader.specs.declared.styles.TextStyle.{TextStyle}
 use Rattle.uefi_node_reader.specs.declared.styles.TextStyle.TheVariants.{Printed, Lenient}
-use Rattle.uefi_node_reader.specs.NamedFiles.{is_after_node, past_spaces}
+use Rattle.uefi_node_reader.specs.NamedFiles.{past_spaces}
 use Rattle.uefi_node_reader.specs.TableReading.{is_empty}
 use Rattle.uefi_node_reader.specs.Styles.{takes_printed}
 
@@ -69,6 +70,15 @@ PathsAreRead = (bytes : List ℕ) (nodes : List Node) → All IsByte bytes
 abbrev pub RefusalsAreRead : Type 0
 RefusalsAreRead = (bytes : List ℕ) (error : DevicePathError) → All IsByte bytes
     → (path_of_bytes bytes ≡ Err error) ↔ RefusedFor bytes error
+
+-- the same from the path and from the refusal alone: their bytes need no range
+abbrev pub BegunIsRead : Type 0
+BegunIsRead = (bytes : List ℕ) (nodes : List Node) → BeginWithPath bytes nodes
+    → path_of_bytes bytes ≡ Ok nodes
+
+abbrev pub RefusedIsRead : Type 0
+RefusedIsRead = (bytes : List ℕ) (error : DevicePathError) → RefusedFor bytes error
+    → path_of_bytes bytes ≡ Err error
 
 -- bytes that begin with a path do so whatever follows
 abbrev pub AcceptedWithMore : Type 0
@@ -110,46 +120,31 @@ abbrev pub OptionsNeverBoth : Type 0
 OptionsNeverBoth = (entry : Entry) (error : LoadOptionError) → IsEntry entry
     → EntryRefusedFor (entry_bytes entry) error → ⊥
 
--- a text is read in a style as at most one list of nodes
-abbrev pub ReadOnce : Type 0
-ReadOnce = (style : TextStyle) (text : List ℕ) (nodes others : List Node) → IsReadAs style text nodes
-    → IsReadAs style text others → nodes ≡ others
-
--- it has at most one fault
-abbrev pub ReadingStopsOnce : Type 0
-ReadingStopsOnce = (style : TextStyle) (text : List ℕ) (fault other : TextFault)
-    → ReadingStopsAt style text fault
-    → ReadingStopsAt style text other → fault ≡ other
-
--- a text that is read has no fault
-abbrev pub ReadNeverStops : Type 0
-ReadNeverStops = (style : TextStyle) (text : List ℕ) (nodes : List Node) (fault : TextFault)
-    → IsReadAs style text nodes → ReadingStopsAt style text fault → ⊥
-
--- it is read as these nodes if and only if it is their text in the style
+-- a text is read in a style as these nodes if and only if it is their text in the style
 abbrev pub ReadMeans : Type 0
 ReadMeans = (style : TextStyle) (text : List ℕ) (nodes : List Node)
-    → IsReadAs style text nodes ↔ Reads style text nodes
+    → (path_read style text ≡ Ok nodes) ↔ Reads style text nodes
 
 -- and it has this fault if and only if it stops being the text of nodes there
 abbrev pub StopMeans : Type 0
 StopMeans = (style : TextStyle) (text : List ℕ) (fault : TextFault)
-    → ReadingStopsAt style text fault ↔ StopsBeingRead style text fault
+    → (path_read style text ≡ Err fault) ↔ StopsBeingRead style text fault
 
 -- the wrong byte does not stand before the node that it belongs to, nor after the end of the text
 abbrev pub FaultsWithin : Type 0
-FaultsWithin = (style : TextStyle) (text : List ℕ) (fault : TextFault) → ReadingStopsAt style text fault
+FaultsWithin = (style : TextStyle) (text : List ℕ) (fault : TextFault) → path_read style text ≡ Err fault
     → (fault.node ≤ fault.byte) × (fault.byte ≤ length text)
 
 -- the printed text of the nodes that were read tells all of them
 abbrev pub ReadTold : Type 0
-ReadTold = (style : TextStyle) (text : List ℕ) (nodes : List Node) → IsReadAs style text nodes → AreTold nodes
+ReadTold = (style : TextStyle) (text : List ℕ) (nodes : List Node) → path_read style text ≡ Ok nodes
+    → AreTold nodes
 
 -- a printed text that tells all of its nodes is read in such a style as these nodes
 abbrev pub PrintedIsRead : Type 0
 PrintedIsRead = (style : TextStyle) (text : List ℕ) (nodes : List Node)
     → All (λ node. takes_printed style (node_text false false node) ≡ true) nodes
-    → AreTold nodes → nodes_text false false nodes ≡ text → IsReadAs style text nodes
+    → AreTold nodes → nodes_text false false nodes ≡ text → path_read style text ≡ Ok nodes
 
 -- a fault where this many bytes stand before the text
 abbrev pub fault_after : ℕ → TextFault → TextFault
@@ -179,13 +174,22 @@ SlashedIsRead = (before text : List ℕ) → is_spaces before ≡ true → may_b
 
 -- in the style of printed texts, a text is that of the nodes that are read
 abbrev pub ReadIsPrinted : Type 0
-ReadIsPrinted = (text : List ℕ) (nodes : List Node) → IsReadAs Printed text nodes
+ReadIsPrinted = (text : List ℕ) (nodes : List Node) → path_read Printed text ≡ Ok nodes
     → nodes_text false false nodes ≡ text
 
 -- and where it is not read, it stops being that of such nodes
 abbrev pub PrintedStops : Type 0
-PrintedStops = (text : List ℕ) (fault : TextFault) → ReadingStopsAt Printed text fault
+PrintedStops = (text : List ℕ) (fault : TextFault) → path_read Printed text ≡ Err fault
     → StopsAt text fault.node
+
+-- the fault of a text that stops at this place: the exact printed form of a node must be there
+abbrev pub printed_fault : ℕ → TextFault
+printed_fault place = record { node = place; byte = place; expected = AsPrinted }
+
+-- and where it stops being that of such nodes, it is not read
+abbrev pub StopIsRead : Type 0
+StopIsRead = (text : List ℕ) (place : ℕ) → StopsAt text place
+    → path_read Printed text ≡ Err (printed_fault place)
 
 -- no two lists of nodes of which the text tells all have the same text
 abbrev pub TextsOnce : Type 0

@@ -39,6 +39,7 @@ pub mod PathReading
 pub mod AroundNodes
 pub mod StyledReading
 pub mod NodeSinks
-pub mod LenientErrorTexts
+pub mod PushedPaths
+pub mod TextErrorTexts
 pub mod Matching
 pub mod Laws

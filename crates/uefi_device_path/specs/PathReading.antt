@@ -3,12 +3,7 @@ use Rattle.std.specs.Prelude.{◌≡◌, ℕ, Bool, true, false, ◌==◌, ◌�
 use Rattle.std.specs.List.{last_or}
 use Rattle.uefi_device_nodes.specs.Nodes.{Node, is_end_instance, node_with}
 use Rattle.uefi_device_nodes.specs.NodeTexts.{node_text}
-use Rattle.uefi_device_path.specs.Faults.{RefusedFor}
 use Rattle.uefi_device_path.specs.PathTexts.{nodes_text}
-use Rattle.uefi_device_path.specs.declared.errors.PushTextError.{PushTextError}
-use Rattle.uefi_device_path.specs.declared.errors.PushTextError.TheVariants as push_text
-use Rattle.uefi_device_path.specs.declared.path_reader.PathTextError.{PathTextError}
-use Rattle.uefi_device_path.specs.declared.path_reader.PathTextError.TheVariants.{NoNode, OutOfMemory}
 use Rattle.uefi_node_reader.specs.NamedFiles.{IsTold, is_after_node}
 
 -- the node that ends an instance
@@ -56,20 +51,3 @@ pub record Stops (text : List ℕ) (place : ℕ) (nodes : List Node) (rest : Lis
 -- the place where a text stops being the text of nodes whose bytes it determines
 abbrev pub StopsAt : List ℕ → ℕ → Type 0
 StopsAt text place = (nodes : List Node) × (rest : List ℕ) × Stops text place nodes rest
-
--- a text determines all bytes of a path, and is the path's text
-abbrev pub HasPath : List ℕ → Type 0
-HasPath text = (nodes : List Node) × AreTold nodes × (nodes_text false false nodes ≡ text)
-
--- why no path was read: memory ran out for the path of this text, or the text stops being the text
--- of a path
-abbrev pub IsReadError : List ℕ → PathTextError → Type 0
-IsReadError text OutOfMemory = HasPath text
-IsReadError text (NoNode place) = StopsAt text place
-
--- why the nodes of a text are not added to the path that a buffer begins with: there is no path,
--- the text stops being the text of a path, or there is no room for it
-abbrev pub IsPushTextError : List ℕ → List ℕ → PushTextError → Type 0
-IsPushTextError buffer text (push_text.Path error) = RefusedFor buffer error
-IsPushTextError buffer text (push_text.NoNode place) = StopsAt text place
-IsPushTextError buffer text (push_text.BufferTooSmall needed) = HasPath text

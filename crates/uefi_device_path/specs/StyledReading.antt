@@ -2,16 +2,10 @@
 use Rattle.std.specs.Prelude.{◌≡◌, ℕ, zero, suc, take, ◌+◌, ◌-◌, Bool, true, false, nat_lt, ◌==◌, ◌&&◌, if◌then◌else◌, List, [], ◌∷◌, ◌++◌, length, slice_index, codes, Option, Some, None, Result, Ok, Err, is_ok}
 use Rattle.uefi_device_nodes.specs.Nodes.{Node}
 use Rattle.uefi_device_path.specs.AroundNodes.{before_closing, first_place}
-use Rattle.uefi_device_path.specs.Building.{path_length}
 use Rattle.uefi_device_path.specs.PathReading.{end_instance, is_after_instance}
-use Rattle.uefi_device_path.specs.Faults.{RefusedFor}
-use Rattle.uefi_device_path.specs.declared.lenient_errors.LenientTextError.{LenientTextError}
-use Rattle.uefi_device_path.specs.declared.lenient_errors.LenientTextError.TheVariants.{NoNode, OutOfMemory}
-use Rattle.uefi_device_path.specs.declared.lenient_errors.PushLenientTextError.{PushLenientTextError}
-use Rattle.uefi_device_path.specs.declared.lenient_errors.PushLenientTextError.TheVariants as push
-use Rattle.uefi_device_path.specs.declared.errors.PushTextError.{PushTextError}
-use Rattle.uefi_device_path.specs.declared.errors.PushTextError.TheVariants as push_text
-use Rattle.uefi_device_path.specs.declared.lenient_errors.TextFault.{TextFault}
+use Rattle.uefi_device_path.specs.declared.text_errors.PathTextError.{PathTextError}
+use Rattle.uefi_device_path.specs.declared.text_errors.PathTextError.TheVariants.{NoNode, OutOfMemory}
+use Rattle.uefi_device_path.specs.declared.text_errors.TextFault.{TextFault}
 use Rattle.uefi_node_reader.specs.declared.faults.Expected.{Expected}
 use Rattle.uefi_node_reader.specs.declared.faults.Expected.TheVariants as expected
 use Rattle.uefi_node_reader.specs.declared.faults.NodeFault.{NodeFault}
@@ -64,18 +58,6 @@ path_read style text =
     nodes_of_rest style (before_closing style text) (suc (length (first_place style text))) true
     (first_place style text)
 
--- a text is read as nodes to its end
-abbrev pub IsReadAs : TextStyle → List ℕ → List Node → Type 0
-IsReadAs style text nodes = path_read style text ≡ Ok nodes
-
--- a text is read as some path
-abbrev pub IsStyledText : TextStyle → List ℕ → Type 0
-IsStyledText style text = (nodes : List Node) × IsReadAs style text nodes
-
--- the fault of a text that is not read
-abbrev pub ReadingStopsAt : TextStyle → List ℕ → TextFault → Type 0
-ReadingStopsAt style text fault = path_read style text ≡ Err fault
-
 -- the nodes of a text up to what is left of it, and whether an instance begins there
 pub data ReadsTo (style : TextStyle) (text : List ℕ) : List Node → Bool → List ℕ → Type 0 where
   -- at the place of the first node
@@ -103,9 +85,7 @@ pub record ReadingStops (style : TextStyle) (text : List ℕ) (fault : TextFault
   pub not_empty : at_start ≡ true → is_after_instance rest ≡ false
   pub found : NodeFault
   pub refused : place_read style (before_closing style text) rest ≡ Err found
-  pub offset : fault.node ≡ length (before_closing style text) - length rest
-  pub byte : fault.byte ≡ fault.node + found.byte
-  pub expected : fault.expected ≡ found.expected
+  pub is : fault ≡ fault_from (before_closing style text) rest found
 
 -- a text stops being that of nodes where this fault says
 abbrev pub StopsBeingRead : TextStyle → List ℕ → TextFault → Type 0
@@ -121,7 +101,7 @@ PutsText takes (Err fault) read = read ≡ Err fault
 
 -- the result is the path that a text is read as, or the text's fault; memory runs out only for a text
 -- that is read
-abbrev pub GivesText : Result (List Node) LenientTextError → Result (List Node) TextFault → Type 0
+abbrev pub GivesText : Result (List Node) PathTextError → Result (List Node) TextFault → Type 0
 GivesText (Ok path) read = read ≡ Ok path
 GivesText (Err (NoNode fault)) read = read ≡ Err fault
 GivesText (Err OutOfMemory) read = (nodes : List Node) × (read ≡ Ok nodes)
@@ -149,24 +129,3 @@ extent_before style text (Some rest) = if is_ok (path_read style (take (length t
 -- the number of bytes of the path at the start of a text, or why the text begins with none
 unfoldable pub text_extent : TextStyle → List ℕ → Result ℕ TextFault
 text_extent style text = extent_before style text (past_file_call text)
-
--- why the nodes of a text are not added to the path that a buffer begins with: there is no path,
--- the text has this fault, or there is no room for the nodes
-abbrev pub IsPushLenientError : TextStyle → List ℕ → List ℕ → PushLenientTextError → Type 0
-IsPushLenientError style buffer text (push.Path error) = RefusedFor buffer error
-IsPushLenientError style buffer text (push.NoNode fault) = ReadingStopsAt style text fault
-IsPushLenientError style buffer text (push.BufferTooSmall needed) = IsStyledText style text
-
--- the same of a text in the style `Printed`
-abbrev pub text_error : PushLenientTextError → PushTextError
-text_error (push.Path error) = push_text.Path error
-text_error (push.NoNode fault) = push_text.NoNode fault.node
-text_error (push.BufferTooSmall needed) = push_text.BufferTooSmall needed
-
--- why the nodes of a text cannot be added to a path of these nodes in a buffer of `room` bytes, or
--- none
-abbrev pub lenient_refusal : List Node → List Node → ℕ → Option PushLenientTextError
-lenient_refusal nodes read room =
-    if nat_lt room (path_length (nodes ++ read))
-    then Some (push.BufferTooSmall (path_length (nodes ++ read)))
-    else None

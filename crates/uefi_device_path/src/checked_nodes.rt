@@ -43,8 +43,7 @@ pub struct CheckedNodes<'a> {
 impl<'a> CheckedNodes<'a> {
     ghost use Rattle.uefi_device_path.specs.Views.{checked_bytes, checked_left, checked_node, rest_of};
 
-    /// Creates an iterator over the nodes of the device path at the start of bytes. Reads no node
-    /// yet.
+    /// Creates an iterator over the nodes of the device path at the start of bytes.
     ///
     /// ```rust
     /// let mut nodes = CheckedNodes::new(&[1, 1, 6, 0, 2, 0x1f]);
@@ -123,8 +122,7 @@ impl<'a> CheckedNodes<'a> {
 
 /// Gives each node before the end node, in order. At the first malformed node it gives the error
 /// with which [`DevicePath::from_bytes`](crate::DevicePath::from_bytes) refuses the bytes. After
-/// the last node, and after an error, it always gives `None`. Reads each header once, and does not
-/// allocate.
+/// the last node, and after an error, it always gives `None`. Does not allocate.
 impl<'a> Iterator for CheckedNodes<'a> {
     type Item = Result<DevicePathNode<'a>, DevicePathError>;
 

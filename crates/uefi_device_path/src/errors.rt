@@ -1,7 +1,7 @@
 //! The errors of reading device paths and load options, and of adding nodes.
 #![tactic(auto, using(uefi_text::proofs::Puts::puts))]
 
-ghost use Rattle.uefi_device_path.specs.ErrorTexts.{device_path_error_text, file_path_cause_text, file_path_error_text, file_path_write_error_text, load_option_cause_text, load_option_error_text, build_error_text, grow_error_text, push_text_error_text, option_build_error_text};
+ghost use Rattle.uefi_device_path.specs.ErrorTexts.{device_path_error_text, file_path_cause_text, file_path_error_text, file_path_write_error_text, load_option_cause_text, load_option_error_text, build_error_text, grow_error_text, option_build_error_text};
 ghost use Rattle.std.specs.Prelude.{Some};
 
 use std::error::Error;
@@ -306,50 +306,6 @@ impl fmt::Display for GrowError {
 }
 
 impl Error for GrowError {}
-
-/// The reason why the nodes of a text are not added to the device path at the start of a buffer.
-#[derive(Clone, Copy, Debug, PartialEq, Eq)]
-pub enum PushTextError {
-    /// The buffer does not begin with a device path.
-    Path(DevicePathError),
-    /// A node must begin at this byte of the text, and none does, as in
-    /// [`PathTextError::NoNode`](crate::PathTextError).
-    NoNode(usize),
-    /// The buffer has fewer bytes than the path with the nodes needs. The number is how many it
-    /// needs, or `usize::MAX` if it needs more.
-    BufferTooSmall(usize),
-}
-
-/// Puts what is wrong, in words.
-impl Printed for PushTextError {
-    ghost printed = { push_text_error_text };
-
-    fn put<S: TextSink>(&self, sink: &mut S) {
-        match self {
-            Self::Path(error) => error.put(sink),
-            Self::NoNode(offset) => put_decimal(sink, "no node at offset ", *offset as u64),
-            Self::BufferTooSmall(needed) => {
-                put_decimal(
-                    sink,
-                    "buffer too small: the device path needs ",
-                    *needed as u64,
-                );
-                sink.put_str(" bytes");
-            }
-        }
-    }
-}
-
-/// Prints the same text.
-impl fmt::Display for PushTextError {
-    ghost output = { λ error. Some (push_text_error_text error) };
-
-    fn fmt<W: fmt::Write>(&self, f: &mut fmt::Formatter<W>) -> fmt::Result {
-        print(f, self)
-    }
-}
-
-impl Error for PushTextError {}
 
 /// The reason why a load option is not written.
 #[derive(Clone, Copy, Debug, PartialEq, Eq)]

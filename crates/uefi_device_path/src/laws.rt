@@ -1,13 +1,13 @@
 //! The laws of device paths and load options, for proofs of callers. They are about the definitions
 //! that other contracts cite. Each law is a function that does nothing: its contract is the law.
-ghost use Rattle.uefi_device_path.specs.Laws.{AcceptedWithMore, BuiltIsRead, BytesOnce, FaultsWithin, InstancesShown, LibefivarNodeTextsFit, LibefivarShown, LibefivarTextsFit, NamesInARow, NeverBoth, NodeTextsFit, OneName, OnlyFilesCount, OptionsNeverBoth, OptionsOnce, PathTextsFit, PathsAreRead, PathsOnce, PathsShown, PrintedIsRead, PrintedStops, PushedAtRefused, PushedAtWritten, QuotedIsRead, ReadIsPrinted, ReadMeans, ReadNeverStops, ReadOnce, ReadTold, ReadingStopsOnce, RefusalsAreRead, RefusedByHeader, RelativeNamesArePushed, SlashedIsRead, StopMeans, StopsOnce, TextsNeverBoth, TextsOnce};
+ghost use Rattle.uefi_device_path.specs.Laws.{AcceptedWithMore, BegunIsRead, BuiltIsRead, BytesOnce, FaultsWithin, InstancesShown, LibefivarNodeTextsFit, LibefivarShown, LibefivarTextsFit, NamesInARow, NeverBoth, NodeTextsFit, OneName, OnlyFilesCount, OptionsNeverBoth, OptionsOnce, PathTextsFit, PathsAreRead, PathsOnce, PathsShown, PrintedIsRead, PrintedStops, PushedAtRefused, PushedAtWritten, QuotedIsRead, ReadIsPrinted, ReadMeans, ReadTold, RefusalsAreRead, RefusedByHeader, RefusedIsRead, RelativeNamesArePushed, SlashedIsRead, StopIsRead, StopMeans, StopsOnce, TextsNeverBoth, TextsOnce};
 
 use uefi_device_nodes::laws::nodes_are_shown;
 pub use uefi_device_nodes::laws::{units_in_bytes, view_of_built};
 use uefi_field_texts::laws::fields_are_shown;
 pub use uefi_field_texts::laws::guid_texts;
+use uefi_node_reader::nodes::nodes_are_read;
 pub use uefi_node_reader::nodes::texts_alike;
-use uefi_node_reader::nodes::{node_text_once, nodes_are_read};
 use uefi_node_reader::styles::{faults_lie_within, styled_nodes_are_read};
 use uefi_path::laws::join_components;
 
@@ -30,6 +30,8 @@ pub fn accepted_paths()
 pub fn paths_are_read()
     ensures path { PathsAreRead }
     ensures refusal { RefusalsAreRead }
+    ensures begun { BegunIsRead }
+    ensures refused { RefusedIsRead }
 {}
 
 /// At the end of the path that a buffer begins with, [`push_at_in_buf`](crate::push_at_in_buf) does
@@ -59,8 +61,7 @@ pub fn options_once()
 pub fn texts_once()
     ensures { TextsOnce }
 {
-    nodes_are_read();
-    node_text_once();
+    styled_texts();
 }
 
 /// A text that determines all of its nodes is never refused as `NoNode`, and any other text is
@@ -69,18 +70,15 @@ pub fn stopped_texts()
     ensures once { StopsOnce }
     ensures never_both { TextsNeverBoth }
 {
-    nodes_are_read();
-    node_text_once();
+    styled_texts();
 }
 
-/// A text is read in a style as exactly one list of nodes, or it has exactly one fault, whose byte
-/// is neither before its node nor after the end of the text. The printed text of the nodes that
-/// were read determines all of them. A printed text that determines all of its nodes is read as
-/// these nodes, exactly and leniently. In the style of printed texts no other text is read.
+/// `path_read` is the result of reading a text in a style: the nodes whose text it is, or the fault
+/// where it stops being the text of nodes, whose byte is neither before its node nor after the end
+/// of the text. The printed text of the nodes that were read determines all of them. A printed text
+/// that determines all of its nodes is read as these nodes, exactly and leniently. In the style of
+/// printed texts no other text is read, and the fault is where the text stops being printed.
 pub fn styled_texts()
-    ensures once { ReadOnce }
-    ensures stops { ReadingStopsOnce }
-    ensures never_both { ReadNeverStops }
     ensures reads { ReadMeans }
     ensures stops_where { StopMeans }
     ensures within { FaultsWithin }
@@ -88,6 +86,7 @@ pub fn styled_texts()
     ensures printed { PrintedIsRead }
     ensures is_printed { ReadIsPrinted }
     ensures printed_stops { PrintedStops }
+    ensures stop_is_read { StopIsRead }
 {
     nodes_are_read();
     styled_nodes_are_read();

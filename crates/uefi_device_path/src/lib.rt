@@ -38,9 +38,6 @@ mod file_path;
 mod instance;
 mod instance_text;
 pub mod laws;
-mod lenient_errors;
-mod lenient_reader;
-mod lenient_text_in_buf;
 mod libefivar_nodes;
 mod load_option;
 mod load_option_builder;
@@ -54,7 +51,7 @@ mod path_list;
 mod path_reader;
 mod path_text;
 mod styled_reader;
-mod styled_text_in_buf;
+mod text_errors;
 mod text_extent;
 mod text_in_buf;
 
@@ -66,12 +63,9 @@ pub use device_path_builder::DevicePathBuilder;
 pub use errors::{
     BuildError, DevicePathError, FilePathCause, FilePathError, FilePathWriteError, GrowError,
     LoadOptionCause, LoadOptionError, NodeConversionError, NodeError, OptionBuildError,
-    PushTextError,
 };
 pub use extent::{PathCut, PathExtent};
 pub use instance::{DevicePathInstance, DevicePathInstanceIterator};
-pub use lenient_errors::{Choice, Expected, LenientTextError, PushLenientTextError, TextFault};
-pub use lenient_text_in_buf::{push_lenient_text_in_buf, push_libefivar_text_in_buf};
 pub use load_option::LoadOption;
 pub use load_option_builder::LoadOptionBuilder;
 pub use load_option_edits::set_attributes;
@@ -80,12 +74,12 @@ pub use matching::ShortForm;
 pub use node_iterator::DevicePathNodeIterator;
 pub use path_in_buf::{append_in_buf, push_at_in_buf, push_in_buf};
 pub use path_list::{DevicePaths, check_paths};
-pub use path_reader::PathTextError;
 pub use path_text::{LibefivarText, PathText, TEXT_UNITS_PER_BYTE};
-pub use text_in_buf::push_text_in_buf;
+pub use text_errors::{Choice, Expected, PathTextError, PushTextError, TextFault};
+pub use text_in_buf::{push_lenient_text_in_buf, push_libefivar_text_in_buf, push_text_in_buf};
 // The C library uses this; callers in Rattle have a call for each style.
 #[doc(hidden)]
-pub use styled_text_in_buf::{push_any_text_in_buf, push_styled_text_in_buf};
+pub use text_in_buf::{push_any_text_in_buf, push_styled_text_in_buf};
 // The C library uses this too.
 #[doc(hidden)]
 pub use text_extent::styled_text_extent;

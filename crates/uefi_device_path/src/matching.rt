@@ -11,6 +11,7 @@ ghost use Rattle.uefi_device_path.specs.Matching.{IsExpansion, Names, NameOnePar
 use crate::device_path::DevicePath;
 use uefi_device_nodes::DevicePathNode;
 use uefi_device_nodes::media::HardDrive;
+use uefi_node_table::layouts;
 
 /// The first node of a short-form device path. Such a path leaves out where the device is, and
 /// firmware looks for the device (UEFI Specification 2.10, section 3.1.2).
@@ -33,11 +34,11 @@ fn form_of(node: DevicePathNode<'_>) -> Option<ShortForm>
     ensures { result ≡ short_form_of (node_of node.entry) }
 {
     match (node.device_type().0, node.sub_type().0) {
-        (4, 1) => Some(ShortForm::HardDrive),
-        (4, 4) => Some(ShortForm::File),
-        (3, 15) => Some(ShortForm::UsbClass),
-        (3, 16) => Some(ShortForm::UsbWwid),
-        (3, 24) => Some(ShortForm::Uri),
+        (layouts::MEDIA_TYPE, layouts::HARD_DRIVE) => Some(ShortForm::HardDrive),
+        (layouts::MEDIA_TYPE, layouts::FILE_PATH) => Some(ShortForm::File),
+        (layouts::MESSAGING_TYPE, layouts::USB_CLASS) => Some(ShortForm::UsbClass),
+        (layouts::MESSAGING_TYPE, layouts::USB_WWID) => Some(ShortForm::UsbWwid),
+        (layouts::MESSAGING_TYPE, layouts::URI) => Some(ShortForm::Uri),
         _ => None,
     }
 }

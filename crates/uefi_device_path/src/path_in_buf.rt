@@ -1,26 +1,28 @@
 //! Device paths that grow in their buffer.
 #![tactic(auto)]
 
-ghost use Rattle.std.specs.Prelude.{◌≡◌, ◌+◌, ◌-◌, ◌^◌, ◌≤◌, min, ◌∷◌, ◌++◌, [], List, drop, length, take, Err, IfErr, IfOk, IsOk, IsTrue, None, OnErr, OnOk};
-ghost use Rattle.std.specs.Result.{result_err};
-ghost use Rattle.uefi_text.specs.UnalignedCStr16.{with_prefix};
-ghost use Rattle.uefi_device_nodes.specs.Nodes.{Node, end_entire, node_bytes, node_length};
-ghost use Rattle.uefi_device_path.specs.Building.{append_refusal, build_refusal, ends_at, grow_refusal, len_unless, prefix_unless, push_at_refusal, push_refusal, pushed_at, room_refusal};
-ghost use Rattle.uefi_device_path.specs.Faults.{RefusedFor};
-ghost use Rattle.uefi_device_path.specs.Paths.{BeginWithPath, IsPath, nodes_in, path_bytes, without_end};
+ghost use Rattle.std.specs.Prelude.{◌≡◌, ◌+◌, ◌-◌, ◌^◌, ◌≤◌, min, ◌∷◌, ◌++◌, [], length, take, IfOk, IsTrue, None, OnErr, OnOk};
+ghost use Rattle.std.specs.Result.{result_err, result_map_both};
+ghost use Rattle.uefi_device_nodes.specs.Nodes.{end_entire, node_bytes, node_length};
+ghost use Rattle.uefi_device_path.specs.Building.{append_refusal, build_refusal, ends_at, push_refusal, room_refusal};
+ghost use Rattle.uefi_device_path.specs.CheckedNodes.{path_of_bytes};
+ghost use Rattle.uefi_device_path.specs.NodeSinks.{Holds, nodes_up_to};
+ghost use Rattle.uefi_device_path.specs.Paths.{IsPath, path_bytes};
+ghost use Rattle.uefi_device_path.specs.PushedPaths.{Leaves, node_pushed, node_pushed_at, nodes_appended};
 ghost use Rattle.uefi_device_path.specs.Views.{nodes_of};
-ghost use Rattle.uefi_device_path.specs.declared.errors.DevicePathError.{DevicePathError};
 
 use crate::device_path::DevicePath;
 use crate::device_path_buf::{check_node, node_header};
 use crate::errors::{BuildError, DevicePathError, GrowError, NodeError};
 use uefi_device_nodes::build_node::{BuildNode, copy_bytes};
 
-/// Writes a node, and the node that ends a path after it.
-fn put_node<N: BuildNode>(places: &mut [u8], header: [u8; 4], node: &N)
-    requires { length places.now ≡ length (N.node node.now).content + 8 }
-    ensures { places.new ≡ header ++ ((N.node node.now).content ++ node_bytes end_entire) }
+/// Writes a node that may be before the end of a path, and the node that ends a path after it.
+fn put_node<N: BuildNode>(places: &mut [u8], node: &N)
+    requires unrefused { build_refusal (N.node node.now) ≡ None }
+    requires room { length places.now ≡ length (N.node node.now).content + 8 }
+    ensures { places.new ≡ node_bytes (N.node node.now) ++ node_bytes end_entire }
 {
+    let header = node_header(node);
     let (start, rest) = places.split_at_mut(4);
     start.copy_from_slice(&header);
     let (middle, end) = rest.split_at_mut(node.data_len());
@@ -36,14 +38,10 @@ pub(crate) fn put_at<N: BuildNode>(buffer: &mut [u8], len: usize, node: &N) -> u
     requires unrefused { build_refusal (N.node node.now) ≡ None }
     requires room { len + node_length (N.node node.now) ≤ length buffer.now }
     ensures end { result ≡ len + node_length (N.node node.now) }
-    ensures grown { IsPath (take result buffer.new) }
-    ensures nodes { nodes_in (without_end (take result buffer.new))
-        ≡ nodes_in (without_end (take len buffer.old)) ++ N.node node.now ∷ [] }
-    ensures rest { drop result buffer.new ≡ drop result buffer.old }
+    ensures holds { Holds buffer.old (nodes_up_to len buffer.old ++ N.node node.now ∷ []) buffer.new result }
 {
-    let header = node_header(node);
     let end = len + node.data_len() + 4;
-    put_node(&mut buffer[len - 4..end], header, node);
+    put_node(&mut buffer[len - 4..end], node);
     end
 }
 
@@ -54,10 +52,8 @@ pub(crate) fn put_if_room<N: BuildNode>(buffer: &mut [u8], len: usize, node: &N)
     requires unrefused { build_refusal (N.node node.now) ≡ None }
     ensures end { result ≡ min (len + node_length (N.node node.now)) (2 ^ 64 - 1) }
     ensures exact { result ≤ length buffer.old → result ≡ len + node_length (N.node node.now) }
-    ensures grown { result ≤ length buffer.old → IsPath (take result buffer.new) }
-    ensures nodes { result ≤ length buffer.old → nodes_in (without_end (take result buffer.new))
-        ≡ nodes_in (without_end (take len buffer.old)) ++ N.node node.now ∷ [] }
-    ensures rest { result ≤ length buffer.old → drop result buffer.new ≡ drop result buffer.old }
+    ensures holds { result ≤ length buffer.old
+        → Holds buffer.old (nodes_up_to len buffer.old ++ N.node node.now ∷ []) buffer.new result }
 {
     let end = len.saturating_add(node.data_len()).saturating_add(4);
     if buffer.len() < end {
@@ -95,19 +91,32 @@ pub(crate) fn push_at<N: BuildNode>(
 ) -> Result<usize, BuildError>
     requires within { len ≤ length buffer.now }
     requires is_path { IsPath (take len buffer.now) }
-    ensures within { IfOk result (λ end. end ≤ length buffer.old) }
-    ensures grown { IfOk result (λ end. IsPath (take end buffer.new)) }
-    ensures nodes { IfOk result (λ end. nodes_in (without_end (take end buffer.new))
-        ≡ nodes_in (without_end (take len buffer.old)) ++ N.node node.now ∷ []) }
-    ensures rest { IfOk result (λ end. drop end buffer.new ≡ drop end buffer.old) }
+    ensures holds { IfOk result (λ end.
+        Holds buffer.old (nodes_up_to len buffer.old ++ N.node node.now ∷ []) buffer.new end) }
     ensures err { OnErr result (buffer.new ≡ buffer.old) }
     ensures refusal { result_err result
-        ≡ push_refusal (nodes_in (without_end (take len buffer.old))) (N.node node.now) (length buffer.old) }
+        ≡ push_refusal (nodes_up_to len buffer.old) (N.node node.now) (length buffer.old) }
 {
     match grown_len(buffer, len, node) {
         Ok(_) => Ok(put_at(buffer, len, node)),
         Err(error) => Err(error),
     }
+}
+
+/// Adds the nodes of another path, for which there is room, before the end of the path in the first `len`
+/// bytes of a buffer. Returns the number of bytes that the path then has. Not inlined, because the compiler
+/// calls `memcpy`, which firmware lacks, if it sees that the bytes do not overlap.
+#[inline(never)]
+pub(crate) fn put_nodes_at(buffer: &mut [u8], len: usize, path: DevicePath<'_>) -> usize
+    requires within { len ≤ length buffer.now }
+    requires is_path { IsPath (take len buffer.now) }
+    requires room { len + length (path_bytes (nodes_of path)) ≤ length buffer.now + 4 }
+    ensures holds { Holds buffer.old (nodes_up_to len buffer.old ++ nodes_of path.entry) buffer.new result }
+{
+    let added = path.as_bytes();
+    let end = len + (added.len() - 4);
+    copy_bytes(&mut buffer[len - 4..end], added);
+    end
 }
 
 /// Adds the nodes of another path before the end of the path in the first `len` bytes of a buffer, and
@@ -119,35 +128,25 @@ pub(crate) fn append_at(
 ) -> Result<usize, BuildError>
     requires within { len ≤ length buffer.now }
     requires is_path { IsPath (take len buffer.now) }
-    ensures within { IfOk result (λ end. end ≤ length buffer.old) }
-    ensures grown { IfOk result (λ end. IsPath (take end buffer.new)) }
-    ensures nodes { IfOk result (λ end. nodes_in (without_end (take end buffer.new))
-        ≡ nodes_in (without_end (take len buffer.old)) ++ nodes_of path.entry) }
-    ensures rest { IfOk result (λ end. drop end buffer.new ≡ drop end buffer.old) }
+    ensures holds { IfOk result (λ end.
+        Holds buffer.old (nodes_up_to len buffer.old ++ nodes_of path.entry) buffer.new end) }
     ensures err { OnErr result (buffer.new ≡ buffer.old) }
     ensures refusal { result_err result
-        ≡ append_refusal (nodes_in (without_end (take len buffer.old))) (nodes_of path.entry)
-        (length buffer.old) }
+        ≡ append_refusal (nodes_up_to len buffer.old) (nodes_of path.entry) (length buffer.old) }
 {
-    let added = path.as_bytes();
-    let end = len.saturating_add(added.len() - 4);
+    let end = len.saturating_add(path.as_bytes().len() - 4);
     if buffer.len() < end {
         return Err(BuildError::BufferTooSmall(end));
     }
-    copy_bytes(&mut buffer[len - 4..end], added);
-    Ok(end)
+    Ok(put_nodes_at(buffer, len, path))
 }
 
 /// Returns the number of bytes of the path at the start of a buffer.
 pub(crate) fn path_len(buffer: &[u8]) -> Result<usize, DevicePathError>
     ensures within { IfOk result (λ len. len ≤ length buffer.now) }
     ensures is_path { IfOk result (λ len. IsPath (take len buffer.now)) }
-    ensures begins { IfOk result (λ len.
-        BeginWithPath buffer.now (nodes_in (without_end (take len buffer.now)))) }
-    ensures accepts { (nodes : List Node) → BeginWithPath buffer.now nodes
-        → IfOk result (λ len. nodes ≡ nodes_in (without_end (take len buffer.now))) × IsOk result }
-    ensures err { IfErr result (λ error. RefusedFor buffer.now error) }
-    ensures refusal { (error : DevicePathError) → RefusedFor buffer.now error → result ≡ Err error }
+    ensures read { path_of_bytes buffer.now
+        ≡ result_map_both (λ len. nodes_up_to len buffer.now) (λ error. error) result }
 {
     match DevicePath::from_bytes(buffer) {
         Ok(path) => Ok(path.as_bytes().len()),
@@ -171,15 +170,7 @@ pub(crate) fn path_len(buffer: &[u8]) -> Result<usize, DevicePathError>
 /// assert_eq!(rt; refused, Err(GrowError::Build(BuildError::BufferTooSmall(16))));
 /// ```
 pub fn push_in_buf<N: BuildNode>(buffer: &mut [u8], node: &N) -> Result<usize, GrowError>
-    ensures no_path { (error : DevicePathError) → RefusedFor buffer.old error
-        → result ≡ Err (GrowError.Path error) }
-    ensures refusal { (nodes : List Node) → BeginWithPath buffer.old nodes
-        → result_err result ≡ grow_refusal (push_refusal nodes (N.node node.now) (length buffer.old)) }
-    ensures len { (nodes : List Node) → BeginWithPath buffer.old nodes
-        → IfOk result (λ len. len ≡ length (path_bytes (nodes ++ N.node node.now ∷ []))) }
-    ensures buffer { (nodes : List Node) → BeginWithPath buffer.old nodes
-        → OnOk result (buffer.new ≡ with_prefix (path_bytes (nodes ++ N.node node.now ∷ [])) buffer.old) }
-    ensures err { OnErr result (buffer.new ≡ buffer.old) }
+    ensures { Leaves (node_pushed (N.node node.now) buffer.old) buffer.old result buffer.new }
 {
     let len = match path_len(buffer) {
         Ok(len) => len,
@@ -202,7 +193,7 @@ fn ends_at(bytes: &[u8], len: usize) -> bool
 
 /// Adds a node before the end of the device path in the first `len` bytes of a buffer, and returns
 /// the number of bytes that the path then has: the `len` of the next call. Unlike [`push_in_buf`],
-/// the call reads none of the path but its end node, so that its time does not depend on the path.
+/// the call need not search for the end node.
 ///
 /// Fails with `Path`, the cause `Missing` and the offset `len` if the buffer has fewer than `len`
 /// bytes or the first `len` bytes do not end with an end node, and otherwise as [`push_in_buf`]
@@ -225,10 +216,7 @@ pub fn push_at_in_buf<N: BuildNode>(
     len: usize,
     node: &N,
 ) -> Result<usize, GrowError>
-    ensures result { let added = N.node node.now in result
-        ≡ len_unless (push_at_refusal buffer.old len added) (length (pushed_at buffer.old len added)) }
-    ensures buffer { let added = N.node node.now in buffer.new
-        ≡ prefix_unless (push_at_refusal buffer.old len added) (pushed_at buffer.old len added) buffer.old }
+    ensures { Leaves (node_pushed_at len (N.node node.now) buffer.old) buffer.old result buffer.new }
 {
     if !ends_at(buffer, len) {
         return Err(GrowError::Path(DevicePathError {
@@ -240,7 +228,7 @@ pub fn push_at_in_buf<N: BuildNode>(
         Ok(end) => end,
         Err(error) => return Err(GrowError::Build(error)),
     };
-    put_node(&mut buffer[len - 4..end], node_header(node), node);
+    put_node(&mut buffer[len - 4..end], node);
     Ok(end)
 }
 
@@ -254,15 +242,7 @@ pub fn push_at_in_buf<N: BuildNode>(
 /// assert_eq!(rt; buffer, [3, 0x1a, 5, 0, 1, 0x7f, 0xff, 4, 0]);
 /// ```
 pub fn append_in_buf(buffer: &mut [u8], path: DevicePath<'_>) -> Result<usize, GrowError>
-    ensures no_path { (error : DevicePathError) → RefusedFor buffer.old error
-        → result ≡ Err (GrowError.Path error) }
-    ensures refusal { (nodes : List Node) → BeginWithPath buffer.old nodes
-        → result_err result ≡ grow_refusal (append_refusal nodes (nodes_of path.entry) (length buffer.old)) }
-    ensures len { (nodes : List Node) → BeginWithPath buffer.old nodes
-        → IfOk result (λ len. len ≡ length (path_bytes (nodes ++ nodes_of path.entry))) }
-    ensures buffer { (nodes : List Node) → BeginWithPath buffer.old nodes
-        → OnOk result (buffer.new ≡ with_prefix (path_bytes (nodes ++ nodes_of path.entry)) buffer.old) }
-    ensures err { OnErr result (buffer.new ≡ buffer.old) }
+    ensures { Leaves (nodes_appended (nodes_of path.entry) buffer.old) buffer.old result buffer.new }
 {
     let len = match path_len(buffer) {
         Ok(len) => len,

@@ -10,8 +10,8 @@ ghost use Rattle.uefi_device_nodes.specs.RawNodes.{raw_node};
 
 use crate::around_nodes::around_nodes;
 use crate::device_path_buf::DevicePathBuf;
-use crate::lenient_errors::{LenientTextError, TextFault};
 use crate::node_sinks::{BufferedPath, NodeSink};
+use crate::text_errors::{PathTextError, TextFault};
 use std::alloc::Allocator;
 use uefi_device_nodes::build_node::RawNode;
 use uefi_device_nodes::{DeviceSubType, DeviceType};
@@ -159,12 +159,12 @@ pub(crate) fn read_styled_path<A: Allocator + Copy, T: NameText>(
     style: TextStyle,
     alloc: A,
     text: T,
-) -> Result<DevicePathBuf<A>, LenientTextError>
+) -> Result<DevicePathBuf<A>, PathTextError>
     ensures { GivesText result (path_read style (T.bytes text)) }
 {
     let mut path = DevicePathBuf::with_room(alloc, room_for(text)).ok();
     match put_text(style, &mut path, text) {
-        Ok(()) => path.ok_or(LenientTextError::OutOfMemory),
-        Err(fault) => Err(LenientTextError::NoNode(fault)),
+        Ok(()) => path.ok_or(PathTextError::OutOfMemory),
+        Err(fault) => Err(PathTextError::NoNode(fault)),
     }
 }

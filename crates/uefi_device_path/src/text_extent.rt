@@ -6,8 +6,8 @@ ghost use Rattle.uefi_device_path.specs.StyledReading.{extent_by, is_end, path_r
 ghost use Rattle.uefi_node_reader.specs.declared.styles.TextStyle.TheVariants.{Lenient, Libefivar};
 
 use crate::laws::styled_texts;
-use crate::lenient_errors::{Expected, TextFault};
 use crate::styled_reader::put_text_in_buf;
+use crate::text_errors::{Expected, TextFault};
 use uefi_node_reader::lenient_names::past_file_call;
 use uefi_node_reader::named_files::NameText;
 use uefi_node_reader::styles::TextStyle;

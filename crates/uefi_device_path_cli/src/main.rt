@@ -19,8 +19,7 @@ use std::fmt::{self, Write};
 use std::io::{self, BufRead, BufReader, Write as _};
 use std::process::ExitCode;
 use uefi_device_path::{
-    DevicePathBuf, LenientTextError, TextFault, is_escaped, lenient_text_extent,
-    libefivar_text_extent,
+    DevicePathBuf, PathTextError, TextFault, is_escaped, lenient_text_extent, libefivar_text_extent,
 };
 
 const USAGE: &str = "usage: uefi_device_path_cli [--libefivar] [--prefix] < LINES\n";
@@ -57,7 +56,7 @@ fn read<A: Allocator + Copy>(
     writer: Writer,
     alloc: A,
     line: &str,
-) -> Result<DevicePathBuf<A>, LenientTextError> {
+) -> Result<DevicePathBuf<A>, PathTextError> {
     match writer {
         Writer::People => DevicePathBuf::from_lenient_text(alloc, line),
         Writer::Libefivar => DevicePathBuf::from_libefivar_text(alloc, line),
@@ -69,10 +68,10 @@ fn read_line<A: Allocator + Copy>(
     options: Options,
     alloc: A,
     line: &str,
-) -> Result<(DevicePathBuf<A>, &str), LenientTextError> {
+) -> Result<(DevicePathBuf<A>, &str), PathTextError> {
     let end = match extent(options, line) {
         Ok(end) => end,
-        Err(fault) => return Err(LenientTextError::NoNode(fault)),
+        Err(fault) => return Err(PathTextError::NoNode(fault)),
     };
     // A path ends between two characters.
     let (text, rest) = line.split_at_checked(end).unwrap_or((line, ""));
@@ -112,11 +111,11 @@ fn write_path<W: Write, A: Allocator + Copy>(
             write_rest(out, rest)?;
             Ok(true)
         }
-        Err(LenientTextError::NoNode(fault)) => {
+        Err(PathTextError::NoNode(fault)) => {
             writeln!(out, "refused: {fault}")?;
             Ok(false)
         }
-        Err(LenientTextError::OutOfMemory) => Err(fmt::Error),
+        Err(PathTextError::OutOfMemory) => Err(fmt::Error),
     }
 }
 

@@ -5,9 +5,8 @@ use std::alloc::Global;
 use std::fmt::Display;
 use uefi_device_path::{
     BuildError, Choice, DevicePathError, Expected, FilePathCause, FilePathError,
-    FilePathWriteError, GrowError, LenientTextError, LoadOptionCause, LoadOptionError,
-    NodeConversionError, NodeError, OptionBuildError, PathTextError, PushLenientTextError,
-    PushTextError, TextFault,
+    FilePathWriteError, GrowError, LoadOptionCause, LoadOptionError, NodeConversionError,
+    NodeError, OptionBuildError, PathTextError, PushTextError, TextFault,
 };
 use uefi_text::{FromSliceWithNulError, Printed};
 
@@ -170,7 +169,7 @@ const PUSHED_TEXTS: &[(PushTextError, &str)] = &[
         PushTextError::Path(BEYOND),
         "a node is longer than the bytes that are left at offset 12",
     ),
-    (PushTextError::NoNode(7), "no node at offset 7"),
+    (PushTextError::NoNode(FAULT), FAULT_TEXT),
     (
         PushTextError::BufferTooSmall(20),
         "buffer too small: the device path needs 20 bytes",
@@ -198,11 +197,6 @@ const OPTION_BUILDS: &[(OptionBuildError, &str)] = &[
     (OptionBuildError::OutOfMemory, "out of memory"),
 ];
 
-const TEXTS: &[(PathTextError, &str)] = &[
-    (PathTextError::NoNode(0), "no node at offset 0"),
-    (PathTextError::OutOfMemory, "out of memory"),
-];
-
 const FAULT: TextFault = TextFault {
     node: 11,
     byte: 15,
@@ -211,21 +205,9 @@ const FAULT: TextFault = TextFault {
 
 const FAULT_TEXT: &str = "no node at offset 11: expected a number up to 0xFF at offset 15";
 
-const LENIENT_TEXTS: &[(LenientTextError, &str)] = &[
-    (LenientTextError::NoNode(FAULT), FAULT_TEXT),
-    (LenientTextError::OutOfMemory, "out of memory"),
-];
-
-const PUSHED_LENIENT_TEXTS: &[(PushLenientTextError, &str)] = &[
-    (
-        PushLenientTextError::Path(BEYOND),
-        "a node is longer than the bytes that are left at offset 12",
-    ),
-    (PushLenientTextError::NoNode(FAULT), FAULT_TEXT),
-    (
-        PushLenientTextError::BufferTooSmall(20),
-        "buffer too small: the device path needs 20 bytes",
-    ),
+const TEXTS: &[(PathTextError, &str)] = &[
+    (PathTextError::NoNode(FAULT), FAULT_TEXT),
+    (PathTextError::OutOfMemory, "out of memory"),
 ];
 
 const EXPECTED: &[(Expected, &str)] = &[
@@ -336,7 +318,5 @@ fn printed_of_writers_and_readers(rt: HostRuntime) {
     assert_eq!(rt; find_unsaid(alloc, PUSHED_TEXTS), None);
     assert_eq!(rt; find_unsaid(alloc, OPTION_BUILDS), None);
     assert_eq!(rt; find_unsaid(alloc, TEXTS), None);
-    assert_eq!(rt; find_unsaid(alloc, LENIENT_TEXTS), None);
-    assert_eq!(rt; find_unsaid(alloc, PUSHED_LENIENT_TEXTS), None);
     assert_eq!(rt; find_unsaid(alloc, EXPECTED), None);
 }

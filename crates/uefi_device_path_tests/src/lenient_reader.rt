@@ -5,7 +5,7 @@ use crate::pasted_texts::{OMITTED, READ_BY_EDK2, READ_BY_PEOPLE, fault_words};
 use for_tests::{bytes, split_row};
 use std::alloc::Global;
 use std::test::Fail;
-use uefi_device_path::{DevicePathBuf, LenientTextError};
+use uefi_device_path::{DevicePathBuf, PathTextError};
 
 /// Paths made by libefivar, without the end node, and the texts that it prints for them.
 pub(crate) const BY_LIBEFIVAR: &str = "\
@@ -145,7 +145,7 @@ const BY_LIBEFIVAR_ALONE: &str = "\
 /// path.
 fn is_read(
     alloc: Global,
-    read: Result<DevicePathBuf<Global>, LenientTextError>,
+    read: Result<DevicePathBuf<Global>, PathTextError>,
     nodes: &[u8],
 ) -> Result<bool, Fail> {
     let path = read?;

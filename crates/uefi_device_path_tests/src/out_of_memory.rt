@@ -9,7 +9,7 @@ use std::alloc::{AllocError, Global};
 use std::test::Fail;
 use uefi_device_path::{
     BuildError, DevicePath, DevicePathBuf, DeviceSubType, DeviceType, FilePathCause, FilePathError,
-    LenientTextError, LoadOption, LoadOptionBuilder, OptionBuildError, PathTextError,
+    LoadOption, LoadOptionBuilder, OptionBuildError, PathTextError,
 };
 use uefi_path::Path;
 use uefi_text::{CStr16, FromSliceWithNulError};
@@ -125,6 +125,14 @@ fn describes(heap: &Refusing<Global>, bytes: &[u8], lossy: bool) -> Result<bool,
     }
 }
 
+/// Returns whether a text is refused at a node that begins at this byte, even if memory runs out.
+fn is_refused_at<T: Drop>(read: Result<T, PathTextError>, place: usize) -> bool {
+    match read.err() {
+        Some(PathTextError::NoNode(fault)) => fault.node == place,
+        Some(PathTextError::OutOfMemory) | None => false,
+    }
+}
+
 /// Returns whether a call gives the result of ample memory, or memory ran out.
 fn answers(call: Call<'_>, heap: &Refusing<Global>) -> Result<bool, AllocError> {
     match call {
@@ -140,20 +148,18 @@ fn answers(call: Call<'_>, heap: &Refusing<Global>) -> Result<bool, AllocError> 
         ),
         Call::FromLenientText(text) => is_answered(
             DevicePathBuf::from_lenient_text(heap, text),
-            LenientTextError::OutOfMemory,
+            PathTextError::OutOfMemory,
         ),
         Call::FromLibefivarText(text) => is_answered(
             DevicePathBuf::from_libefivar_text(heap, text),
-            LenientTextError::OutOfMemory,
+            PathTextError::OutOfMemory,
         ),
-        Call::NoText(text, place) => Ok(
-            DevicePathBuf::from_text(heap, text).err() == Some(PathTextError::NoNode(place)),
-        ),
-        Call::NoLenientText(text, place) => match DevicePathBuf::from_lenient_text(heap, text) {
-            Err(LenientTextError::OutOfMemory) => Err(AllocError),
-            Err(LenientTextError::NoNode(fault)) => Ok(fault.node == place),
-            Ok(_) => Ok(false),
-        },
+        Call::NoText(text, place) => {
+            Ok(is_refused_at(DevicePathBuf::from_text(heap, text), place))
+        }
+        Call::NoLenientText(text, place) => {
+            Ok(is_refused_at(DevicePathBuf::from_lenient_text(heap, text), place))
+        }
         Call::Description(bytes) => describes(heap, bytes, false),
         Call::DescriptionLossy(bytes) => describes(heap, bytes, true),
     }

@@ -2,7 +2,7 @@
 
 use std::alloc::Global;
 use std::test::Fail;
-use uefi_device_path::{DevicePathBuf, LenientTextError};
+use uefi_device_path::{DevicePathBuf, PathTextError};
 
 /// Texts, and the bytes that EDK II's own reader makes of them.
 pub(crate) const READ_BY_EDK2: &str = "\
@@ -491,7 +491,7 @@ Pci() => no node at offset 0: expected a number after `0x` at offset 4
 Flie(\\EFI\\a.efi) => no node at offset 0: expected the name of a node, such as `File(` at offset 0
 FvVl(7CB8BDC9-F8EB-4F34-AAEA-3EE4AF6516A1) => no node at offset 0: expected the name of a node, such as \
     `FvVol(` at offset 0
-VenUtf88() => no node at offset 0: expected the name of a node, such as `VenUtf8(` at offset 0
+VenUtf88() => no node at offset 0: expected the name of a node, such as `VenUtf8()` at offset 0
 Pth(1,9,0102) => no node at offset 0: expected the name of a node, such as `Path(` at offset 0
 PciRoot(0)/ PicRoot(0) => no node at offset 11: expected the name of a node, such as `PciRoot(0x` at off\
     set 12
@@ -503,7 +503,7 @@ File(\\\\EFI\\\\redhat\\\\shimx64.efi) => no node at offset 0: expected the name
 /// Returns the message of the error for a text, or nothing if the text is read.
 pub(crate) fn fault_words(
     alloc: Global,
-    read: Result<DevicePathBuf<Global>, LenientTextError>,
+    read: Result<DevicePathBuf<Global>, PathTextError>,
 ) -> Result<String, Fail> {
     Ok(match read {
         Ok(_) => String::new(alloc),

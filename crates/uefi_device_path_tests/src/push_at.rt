@@ -118,7 +118,7 @@ fn refused(rt: HostRuntime) -> Result<(), Fail> {
     Ok(())
 }
 
-/// Bytes before the end node are not read, and bytes after the path are not written.
+/// Bytes before the end node may be anything, and bytes after the path are not written.
 #[test]
 fn after_any_bytes(rt: HostRuntime) {
     let mut buffer = [0, 1, 2, 0x7f, 0xff, 4, 0, 9, 9, 9, 9, 9, 9, 9];

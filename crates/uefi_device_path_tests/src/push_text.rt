@@ -4,12 +4,12 @@
 use crate::node_text::REGULAR;
 use crate::option_builder::END;
 use crate::{lenient_reader, path_reader};
-use for_tests::{bytes, holds, split_row};
+use for_tests::{bytes, holds, repeated, split_row};
 use std::alloc::Global;
 use std::fmt::Display;
 use std::test::Fail;
 use uefi_device_path::{
-    DevicePathBuf, PushLenientTextError, TextStyle, Utf16Text, push_any_text_in_buf,
+    DevicePathBuf, PushTextError, TextStyle, Utf16Text, push_any_text_in_buf,
     push_lenient_text_in_buf, push_styled_text_in_buf, push_text_in_buf, units_within,
 };
 
@@ -86,6 +86,35 @@ fn at_each_room(rt: HostRuntime) -> Result<(), Fail> {
     Ok(())
 }
 
+/// File names on both sides of the length up to which a text is read only once.
+#[test]
+fn long_names(rt: HostRuntime) -> Result<(), Fail> {
+    let alloc = rt.alloc();
+    for count in 119..129u16 {
+        let name = repeated(alloc, "a", u64::from(count))?;
+        let text = format!(in alloc; "\\{name}")?;
+        let len = count.saturating_mul(2).saturating_add(8).to_le_bytes();
+        let mut nodes = Vec::from_slice(alloc, &[4, 4, len[0], len[1], 0x5c, 0])?;
+        for _ in 0..count {
+            nodes.extend_from_slice(&[0x61, 0])?;
+        }
+        nodes.extend_from_slice(&[0, 0])?;
+        let path = path_of(alloc, &nodes)?;
+        for room in [
+            10,
+            path.len().saturating_sub(1),
+            path.len(),
+            path.len().saturating_add(1),
+        ] {
+            assert!(rt;
+                is_added(alloc, true, room, &text, &path)?,
+                "{count} in {room}"
+            );
+        }
+    }
+    Ok(())
+}
+
 /// Returns why a text is refused, or `None` if the reader in memory and a full buffer disagree, or a buffer
 /// without a path does not get its own error.
 fn refusal(alloc: Global, exact: bool, text: &str) -> Result<Option<String>, Fail> {
@@ -107,7 +136,9 @@ fn refused(rt: HostRuntime) -> Result<(), Fail> {
     for line in path_reader::REFUSED.split('\n') {
         let (place, texts) = split_row(line);
         for text in texts.split(" | ") {
-            let want = format!(in rt.alloc(); "no node at offset {place}")?;
+            let want = format!(in rt.alloc();
+                "no node at offset {place}: expected the exact printed form at offset {place}"
+            )?;
             assert_eq!(rt; refusal(rt.alloc(), true, text)?, Some(want), "{text}");
         }
     }
@@ -140,8 +171,8 @@ fn push_both(
     units: &[u16],
 ) -> Option<
     (
-        Result<usize, PushLenientTextError>,
-        Result<usize, PushLenientTextError>,
+        Result<usize, PushTextError>,
+        Result<usize, PushTextError>,
         bool,
     ),
 > {
@@ -225,10 +256,8 @@ fn long_texts(rt: HostRuntime) -> Result<(), Fail> {
     let want =
         "no node at offset 0: expected a form that describes the whole node, of at most 65,535 bytes at \
 offset 131076";
-    assert_eq!(rt;
-        refusal(alloc, true, &longer)?.as_deref(),
-        Some("no node at offset 0")
-    );
+    let exact = "no node at offset 0: expected the exact printed form at offset 0";
+    assert_eq!(rt; refusal(alloc, true, &longer)?.as_deref(), Some(exact));
     assert_eq!(rt; refusal(alloc, false, &longer)?.as_deref(), Some(want));
 
     let ends = "7f010400".repeat(alloc, 50_000)?;

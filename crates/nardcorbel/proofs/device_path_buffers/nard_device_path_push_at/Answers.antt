@@ -10,4 +10,4 @@ returns c =
     let buffer = c.args.buffer.now in
     grown_at (ends_at buffer c.args.path_length) _ (build_refusal node) buffer c.push_at_in_buf.new.buffer (pushed_at buffer c.args.path_length node)
     c.push_at_in_buf.result c.args.place.now c.report.result c.report.new.place
-    c.report.ensures.fits c.push_at_in_buf.ensures.result c.push_at_in_buf.ensures.buffer c.report.ensures.shows
+    c.report.ensures.fits c.push_at_in_buf.ensures c.report.ensures.shows

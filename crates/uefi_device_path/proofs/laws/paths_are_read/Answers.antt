@@ -6,3 +6,9 @@ returns-clause-path c = λ bytes nodes byte. (reads_path bytes nodes byte, path_
 
 pub returns-clause-refusal : goal.returns-clause-refusal
 returns-clause-refusal c = λ bytes error byte. (reads_refusal bytes error byte, refusal_is_read bytes error)
+
+pub returns-clause-begun : goal.returns-clause-begun
+returns-clause-begun c = path_is_read
+
+pub returns-clause-refused : goal.returns-clause-refused
+returns-clause-refused c = refusal_is_read

@@ -12,7 +12,7 @@ use Rattle.uefi_device_path.specs.AroundNodes.{before_closing}
 use Rattle.uefi_device_path.specs.PathReading.{end_instance, is_after_instance}
 use Rattle.uefi_node_reader.specs.Styles.{styled_read}
 use Rattle.uefi_device_path.specs.StyledReading.{fault_from, follows_comma, place_read}
-use Rattle.uefi_device_path.specs.declared.lenient_errors.TextFault.{TextFault}
+use Rattle.uefi_device_path.specs.declared.text_errors.TextFault.{TextFault}
 use Rattle.uefi_device_path.proofs.AroundNodes.{ends_within, place_ends}
 use Rattle.uefi_device_path.proofs.PathReading.{accepted}
 use Rattle.uefi_device_path.proofs.StyledReading.{follows_first, place_follows, Going, all_read, going_comma, going_first, going_node, going_stops, place_inside}

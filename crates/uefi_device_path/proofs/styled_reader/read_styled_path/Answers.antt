@@ -7,9 +7,9 @@ use Rattle.std.specs.Result.{result_ok}
 use Rattle.uefi_device_nodes.specs.Nodes.{Node}
 use Rattle.uefi_device_path.specs.NodeSinks.{IsLonger}
 use Rattle.uefi_device_path.specs.StyledReading.{GivesText, path_read}
-use Rattle.uefi_device_path.specs.declared.lenient_errors.LenientTextError.{LenientTextError}
-use Rattle.uefi_device_path.specs.declared.lenient_errors.LenientTextError.TheVariants.{OutOfMemory}
-use Rattle.uefi_device_path.specs.declared.lenient_errors.TextFault.{TextFault}
+use Rattle.uefi_device_path.specs.declared.text_errors.PathTextError.{PathTextError}
+use Rattle.uefi_device_path.specs.declared.text_errors.PathTextError.TheVariants.{OutOfMemory}
+use Rattle.uefi_device_path.specs.declared.text_errors.TextFault.{TextFault}
 use Rattle.uefi_device_path.proofs.styled_reader.read_styled_path.Goals as goal
 
 -- a path takes no node
@@ -32,6 +32,6 @@ put_text-requires g c = longer_none _
 pub returns-in-Ok : goal.returns-in-Ok
 returns-in-Ok g c =
     let (nodes, is, longer) = c.in-Ok.ensures in
-    subst (λ (r : Result (List Node) LenientTextError). GivesText r (path_read c.args.style (g.T.Text.bytes c.args.text))) (sym c.ok_or.ensures.value)
+    subst (λ (r : Result (List Node) PathTextError). GivesText r (path_read c.args.style (g.T.Text.bytes c.args.text))) (sym c.ok_or.ensures.value)
     (gives c.with_room.result c.put_text.new.sink nodes _ c.with_room.ensures
     (subst (λ (first : Option (List Node)). IsLonger first nodes c.put_text.new.sink) c.ok-path.ensures.value longer) is)

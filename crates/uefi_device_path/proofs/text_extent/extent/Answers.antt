@@ -2,7 +2,7 @@
 use Rattle.std.proofs.Common.{◌≡◌, ◌∙◌, ℕ, Bool, true, false, cond, ◌&&◌, List, take, ap, sym, refl}
 use Rattle.std.specs.Prelude.{Result, Ok, Err, is_ok}
 use Rattle.uefi_device_path.specs.StyledReading.{extent_by, is_end, path_read}
-use Rattle.uefi_device_path.specs.declared.lenient_errors.TextFault.{TextFault}
+use Rattle.uefi_device_path.specs.declared.text_errors.TextFault.{TextFault}
 use Rattle.uefi_node_reader.specs.declared.styles.TextStyle.{TextStyle}
 use Rattle.uefi_device_path.proofs.text_extent.extent.Goals as goal
 

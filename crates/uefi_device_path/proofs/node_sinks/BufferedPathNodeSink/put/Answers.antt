@@ -4,4 +4,4 @@ use Rattle.uefi_device_path.proofs.node_sinks.BufferedPathNodeSink.put.Goals as 
 pub returns : goal.returns
 returns g c = λ start nodes (same, more).
     let put = c.put_if_room-self.ensures in
-    (same, one_held start.buffer.now _ _ start.len _ _ nodes _ more put.end c.put_if_room-self.auto.buffer put.exact put.grown put.nodes put.rest)
+    (same, one_held start.buffer.now _ _ start.len _ _ nodes _ more put.end c.put_if_room-self.auto.buffer put.exact put.holds)

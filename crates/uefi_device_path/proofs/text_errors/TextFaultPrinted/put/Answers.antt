@@ -1,6 +1,6 @@
 use Rattle.std.proofs.Common.{append_assoc}
 use Rattle.uefi_text.proofs.Puts.{puts_four}
-use Rattle.uefi_device_path.proofs.lenient_errors.TextFaultPrinted.put.Goals as goal
+use Rattle.uefi_device_path.proofs.text_errors.TextFaultPrinted.put.Goals as goal
 
 pub returns : goal.returns
 returns g c =

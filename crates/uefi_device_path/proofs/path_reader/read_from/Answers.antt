@@ -1,6 +1,6 @@
 use Rattle.std.proofs.Common.{List, ℕ, subst}
 use Rattle.uefi_device_path.specs.StyledReading.{GivesText, path_read}
-use Rattle.uefi_device_path.proofs.lenient_reader.read_from.Goals as goal
+use Rattle.uefi_device_path.proofs.path_reader.read_from.Goals as goal
 
 pub returns : goal.returns
 returns g c =

@@ -1,7 +1,7 @@
-//! The errors of reading a text as people write it as a device path.
+//! The errors of reading a text as a device path.
 #![tactic(auto, using(uefi_text::proofs::Puts::puts))]
 
-ghost use Rattle.uefi_device_path.specs.LenientErrorTexts.{text_fault_text, lenient_text_error_text, push_lenient_text_error_text};
+ghost use Rattle.uefi_device_path.specs.TextErrorTexts.{text_fault_text, path_text_error_text, push_text_error_text};
 ghost use Rattle.std.specs.Prelude.{Some};
 
 use crate::errors::DevicePathError;
@@ -48,9 +48,9 @@ impl fmt::Display for TextFault {
 
 impl Error for TextFault {}
 
-/// The reason why a text, as people write it, is not read as a device path.
+/// The reason why a text is not read as a device path, in any style.
 #[derive(Clone, Copy, Debug, PartialEq, Eq)]
-pub enum LenientTextError {
+pub enum PathTextError {
     /// A node must begin at a byte of the text, and none can be read there.
     NoNode(TextFault),
     /// Memory ran out.
@@ -58,8 +58,8 @@ pub enum LenientTextError {
 }
 
 /// Puts what is wrong, in words.
-impl Printed for LenientTextError {
-    ghost printed = { lenient_text_error_text };
+impl Printed for PathTextError {
+    ghost printed = { path_text_error_text };
 
     fn put<S: TextSink>(&self, sink: &mut S) {
         match self {
@@ -70,20 +70,20 @@ impl Printed for LenientTextError {
 }
 
 /// Prints the same text.
-impl fmt::Display for LenientTextError {
-    ghost output = { λ error. Some (lenient_text_error_text error) };
+impl fmt::Display for PathTextError {
+    ghost output = { λ error. Some (path_text_error_text error) };
 
     fn fmt<W: fmt::Write>(&self, f: &mut fmt::Formatter<W>) -> fmt::Result {
         print(f, self)
     }
 }
 
-impl Error for LenientTextError {}
+impl Error for PathTextError {}
 
-/// The reason why the nodes of a text, as people write it, are not added to the device path at the
-/// start of a buffer.
+/// The reason why the nodes of a text, in any style, are not added to the device path at the start of
+/// a buffer.
 #[derive(Clone, Copy, Debug, PartialEq, Eq)]
-pub enum PushLenientTextError {
+pub enum PushTextError {
     /// The buffer does not begin with a device path.
     Path(DevicePathError),
     /// A node must begin at a byte of the text, and none can be read there.
@@ -94,8 +94,8 @@ pub enum PushLenientTextError {
 }
 
 /// Puts what is wrong, in words.
-impl Printed for PushLenientTextError {
-    ghost printed = { push_lenient_text_error_text };
+impl Printed for PushTextError {
+    ghost printed = { push_text_error_text };
 
     fn put<S: TextSink>(&self, sink: &mut S) {
         match self {
@@ -114,12 +114,12 @@ impl Printed for PushLenientTextError {
 }
 
 /// Prints the same text.
-impl fmt::Display for PushLenientTextError {
-    ghost output = { λ error. Some (push_lenient_text_error_text error) };
+impl fmt::Display for PushTextError {
+    ghost output = { λ error. Some (push_text_error_text error) };
 
     fn fmt<W: fmt::Write>(&self, f: &mut fmt::Formatter<W>) -> fmt::Result {
         print(f, self)
     }
 }
 
-impl Error for PushLenientTextError {}
+impl Error for PushTextError {}
