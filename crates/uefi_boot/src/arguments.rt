@@ -1,9 +1,10 @@
 //! The words after the program's name: its verbs, their options, and the nearest match of a wrong
 //! one.
 use crate::ends::{End, WRONG_ARGUMENTS, refuse};
-use crate::help;
+use crate::{help, hints};
 use std::alloc::{AllocError, Global};
 use strsim::levenshtein;
+use uefi_boot_variables::LoadOptionKind;
 
 /// The actions of the program on variables, besides printing them.
 #[derive(Clone, Copy, PartialEq, Eq)]
@@ -75,6 +76,8 @@ impl Verb {
                 "--description",
                 "--path",
                 "--disk",
+                "--partuuid",
+                "--interface",
                 "--partition",
                 "--start",
                 "--size",
@@ -82,7 +85,9 @@ impl Verb {
                 "--data",
                 "--data-ascii",
                 "--data-hex",
+                "--data-file",
                 "--number",
+                "--index",
             ],
             Verb::Check => &["--variables", "--esp", "--disks"],
             _ => &["--variables"],
@@ -92,10 +97,30 @@ impl Verb {
     /// Returns the options that take no value.
     fn flags(self) -> &'static [&'static str] {
         match self {
-            Verb::Check => &["--help"],
-            Verb::Create => &["--help", "--dry-run", "--inactive", "--force"],
-            Verb::Order | Verb::Next | Verb::Timeout => &["--help", "--dry-run", "--force"],
-            _ => &["--help", "--dry-run"],
+            Verb::Check => &["--help", "--json"],
+            Verb::Create => &[
+                "--help",
+                "--dry-run",
+                "--driver",
+                "--sysprep",
+                "--inactive",
+                "--force",
+                "--last",
+                "--no-order",
+                "--full-path",
+            ],
+            Verb::Order => {
+                &[
+                    "--help",
+                    "--dry-run",
+                    "--driver",
+                    "--sysprep",
+                    "--force",
+                    "--unique",
+                ]
+            }
+            Verb::Next | Verb::Timeout => &["--help", "--dry-run", "--force"],
+            _ => &["--help", "--dry-run", "--driver", "--sysprep"],
         }
     }
 
@@ -103,11 +128,47 @@ impl Verb {
     fn counts(self) -> (usize, usize) {
         match self {
             Verb::Check | Verb::Create => (0, 0),
-            Verb::Order => (1, usize::MAX),
+            Verb::Order => (0, usize::MAX),
             Verb::Rename => (2, 2),
             _ => (1, 1),
         }
     }
+}
+
+/// Returns whether an option of some verb takes a value in the next word.
+fn takes_value(option: &str) -> bool {
+    Verb::Create.values().contains(&option) || Verb::Check.values().contains(&option)
+}
+
+/// Returns whether some verb has an option.
+fn is_of_a_verb(option: &str) -> bool {
+    takes_value(option)
+        || Verb::Create.flags().contains(&option)
+        || Verb::Order.flags().contains(&option)
+}
+
+/// Returns whether a word is an option. A lone `-` stands for standard input or output.
+pub(crate) fn is_option(word: &str) -> bool {
+    word.starts_with("-") && word != "-"
+}
+
+/// Returns the index of the first word that is neither an option nor the value of one, if no `--` precedes
+/// it.
+pub(crate) fn first_plain(words: &[String]) -> Option<usize> {
+    let mut is_value = false;
+    for (place, word) in words.iter().enumerate() {
+        let word = word.as_str();
+        if is_value {
+            is_value = false;
+        } else if word == "--" {
+            return None;
+        } else if is_option(word) {
+            is_value = takes_value(word);
+        } else {
+            return Some(place);
+        }
+    }
+    None
 }
 
 /// Returns the candidate that begins with a word, or otherwise the one with the fewest edits from
@@ -132,13 +193,27 @@ fn nearest(
     Ok((best, fewest))
 }
 
-/// Reports that an option does not exist, and names the nearest one.
+/// Reports that an option does not exist, and what to type instead.
 pub(crate) fn refuse_option(rt: &HostRuntime, option: &str, options: &[&'static str]) -> End {
+    if let Some(hint) = hints::of_option(option) {
+        let message = format_args!("unknown option '{option}' (type {hint})");
+        return refuse(rt, WRONG_ARGUMENTS, message);
+    }
+    if option == "--json" {
+        let message = format_args!("only uefi_boot and uefi_boot check have the option '--json'");
+        return refuse(rt, WRONG_ARGUMENTS, message);
+    }
+    if is_of_a_verb(option) {
+        let message = format_args!(
+            "option '{option}' does not belong here (uefi_boot --help lists the commands)"
+        );
+        return refuse(rt, WRONG_ARGUMENTS, message);
+    }
     match nearest(rt.alloc(), option, options) {
         Ok((best, _)) => refuse(
             rt,
             WRONG_ARGUMENTS,
-            format_args!("there is no option {option}: did you mean {best}?"),
+            format_args!("unknown option '{option}' (did you mean '{best}'?)"),
         ),
         Err(error) => End::from(error),
     }
@@ -175,16 +250,18 @@ impl<'a> Words<'a> {
         words: &'a [String],
     ) -> Result<Words<'a>, AllocError> {
         let (mut options, mut plain) = (Vec::new(alloc), Vec::new(alloc));
-        let mut is_value = false;
+        let (mut is_value, mut are_plain) = (false, false);
         for (place, word) in words.iter().enumerate() {
             let word = word.as_str();
             if is_value {
                 is_value = false;
-            } else if word.starts_with("-") && word != "-" {
+            } else if are_plain || !is_option(word) {
+                plain.push(place)?;
+            } else if word == "--" {
+                are_plain = true;
+            } else {
                 options.push(place)?;
                 is_value = verb.values().contains(&word);
-            } else {
-                plain.push(place)?;
             }
         }
         Ok(Words {
@@ -222,6 +299,37 @@ impl<'a> Words<'a> {
         self.options.iter().any(|place| self.word(*place) == option)
     }
 
+    /// Returns the kind of the entries that the command is about.
+    pub(crate) fn kind(&self) -> LoadOptionKind {
+        if self.has("--driver") {
+            LoadOptionKind::Driver
+        } else if self.has("--sysprep") {
+            LoadOptionKind::SysPrep
+        } else {
+            LoadOptionKind::Boot
+        }
+    }
+
+    /// Rejects more than one of some options, with or without values.
+    pub(crate) fn check_alternatives(
+        &self,
+        rt: &HostRuntime,
+        options: &[&'static str],
+        names: &str,
+    ) -> Result<(), End> {
+        let given = options
+            .iter()
+            .filter(|it| self.has(it) || self.value(it).is_some());
+        if 1 < given.count() {
+            return Err(refuse(
+                rt,
+                WRONG_ARGUMENTS,
+                format_args!("pass only one of {names}"),
+            ));
+        }
+        Ok(())
+    }
+
     /// Returns whether help is requested.
     pub(crate) fn asks_help(&self) -> bool {
         self.has("-h") || self.has("--help")
@@ -247,10 +355,16 @@ impl<'a> Words<'a> {
                 .any(|option| attached(word, option).is_some())
     }
 
-    /// Refuses options that the verb does not have, options without a value, and too few or too many
-    /// words.
+    /// Returns the error that the words do not fit, with the line of the help that lists them.
+    pub(crate) fn refuse_usage(&self, rt: &HostRuntime) -> End {
+        let usage = self.verb.help().split_once('\n').map_or("", |it| it.0);
+        refuse(rt, WRONG_ARGUMENTS, format_args!("{usage}"))
+    }
+
+    /// Rejects options that the verb does not have, options without a value or given twice, and too few
+    /// or too many words.
     pub(crate) fn check(&self, rt: &HostRuntime) -> Result<(), End> {
-        for place in &self.options {
+        for (count, place) in self.options.iter().enumerate() {
             let word = self.word(*place);
             if !self.is_known(word) {
                 return Err(self.refuse_word(rt, word)?);
@@ -258,12 +372,33 @@ impl<'a> Words<'a> {
             if self.verb.values().contains(&word) {
                 self.check_value(rt, word, self.words.get(place.saturating_add(1)))?;
             }
+            self.check_repeated(rt, word, count)?;
         }
+        self.check_alternatives(rt, &["--driver", "--sysprep"], "--driver and --sysprep")?;
         let (least, most) = self.verb.counts();
-        if self.plain.len() < least || most < self.plain.len() {
-            // The first line of the help lists the words of the verb.
-            let usage = self.verb.help().split_once('\n').map_or("", |it| it.0);
-            return Err(refuse(rt, WRONG_ARGUMENTS, format_args!("{usage}")));
+        if self.plain.len() < least {
+            return Err(self.refuse_usage(rt));
+        }
+        match self.plain(most) {
+            None => Ok(()),
+            Some(word) => {
+                let message = format_args!(
+                    "unexpected word '{word}' (a text with blanks needs quotation marks)"
+                );
+                Err(refuse(rt, WRONG_ARGUMENTS, message))
+            }
+        }
+    }
+
+    /// Rejects an option with a value if one of the options before it is the same.
+    fn check_repeated(&self, rt: &HostRuntime, word: &str, count: usize) -> Result<(), End> {
+        let name = word.split_once('=').map_or(word, |it| it.0);
+        for place in self.options.iter().take(count) {
+            let other = self.word(*place);
+            if other == name || attached(other, name).is_some() {
+                let message = format_args!("option '{name}' is given twice");
+                return Err(refuse(rt, WRONG_ARGUMENTS, message));
+            }
         }
         Ok(())
     }
@@ -277,12 +412,12 @@ impl<'a> Words<'a> {
     ) -> Result<(), End> {
         match value {
             None => {
-                let message = format_args!("the option {option} needs a value");
+                let message = format_args!("option '{option}' needs a value");
                 Err(refuse(rt, WRONG_ARGUMENTS, message))
             }
             Some(value) if value.starts_with("-") && value.as_str() != "-" => {
                 let message = format_args!(
-                    "the option {option} needs a value (to pass {value}, type {option}={value})"
+                    "option '{option}' needs a value (to pass '{value}', type {option}={value})"
                 );
                 Err(refuse(rt, WRONG_ARGUMENTS, message))
             }

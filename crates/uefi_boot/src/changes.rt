@@ -19,7 +19,10 @@ use uefi_boot_variables::{LoadOptionKind, LoadOrder, read_number};
 pub(crate) struct Machine<'a> {
     pub(crate) rt: &'a HostRuntime,
     pub(crate) folder: &'a str,
+    /// The kind of the entries that the command is about.
+    pub(crate) kind: LoadOptionKind,
     pub(crate) variables: Variables<'a>,
+    pub(crate) is_quiet: bool,
     pub(crate) is_dry_run: bool,
     pub(crate) is_forced: bool,
 }
@@ -32,6 +35,14 @@ struct Target {
     kept: Vec<u8>,
     is_new: bool,
 }
+
+/// Numbers of errors of Linux: an immutable file, a missing right, and a file system that is mounted
+/// read-only.
+const EPERM: i32 = 1;
+
+const EACCES: i32 = 13;
+
+const EROFS: i32 = 30;
 
 const FREED_AT_BOOT: &str =
     "firmware may free the space of deleted variables only at the next boot (restart and try again)";
@@ -51,11 +62,11 @@ impl Failure {
     }
 }
 
-/// Returns the variable that a step changes.
-fn changed(variable: Changed) -> Variable {
+/// Returns the variable that a step changes, if the entries are of a kind.
+fn changed(kind: LoadOptionKind, variable: Changed) -> Variable {
     match variable {
-        Changed::Entry(number) => Variable::Boot(number),
-        Changed::Order => Variable::BootOrder,
+        Changed::Entry(number) => Variable::of_kind(kind, number),
+        Changed::Order => Variable::order_of(kind),
         Changed::Next => Variable::BootNext,
         Changed::Timeout => Variable::Timeout,
     }
@@ -65,21 +76,22 @@ fn changed(variable: Changed) -> Variable {
 fn write_value(
     out: &mut String,
     alloc: Global,
+    kind: LoadOptionKind,
     variable: Variable,
     value: &[u8],
 ) -> Result<(), End> {
-    if let Variable::Boot(_) = variable {
+    if variable.option().is_some() {
         writeln!(out, "{variable}")?;
         Shown::of_entry(alloc, value)?.write(out)?;
         return Ok(());
     }
-    if let Variable::BootOrder = variable {
+    if variable == Variable::order_of(kind) {
         if let Ok(order) = LoadOrder::from_bytes(value) {
             let mut numbers = Vec::with_capacity(alloc, order.len())?;
             for number in order.iter() {
                 numbers.push(number)?;
             }
-            write_order(out, variable, LoadOptionKind::Boot, &numbers)?;
+            write_order(out, variable, kind, &numbers)?;
             return Ok(());
         }
     }
@@ -89,26 +101,6 @@ fn write_value(
         Err(_) => writeln!(out, "{variable}")?,
     }
     Ok(())
-}
-
-/// Adds the line of a step, and the value of the variable after the step.
-fn describe(out: &mut String, alloc: Global, step: &Step, is_dry_run: bool) -> Result<(), End> {
-    let variable = changed(step.variable);
-    match &step.value {
-        Some(value) => {
-            out.push_str(if is_dry_run { "would write " } else { "wrote " })?;
-            write_value(out, alloc, variable, value)
-        }
-        None => {
-            let verb = if is_dry_run {
-                "would delete"
-            } else {
-                "deleted"
-            };
-            writeln!(out, "{verb} {variable}")?;
-            Ok(())
-        }
-    }
 }
 
 /// Replaces a file by writing a new file next to it and renaming that file, so that any failure
@@ -182,6 +174,31 @@ fn write_at_once(rt: &HostRuntime, path: &str, bytes: &[u8], is_new: bool) -> io
 }
 
 impl<'a> Machine<'a> {
+    /// Adds the line of a step, and the value of the variable after the step.
+    fn describe(&self, out: &mut String, step: &Step) -> Result<(), End> {
+        let (alloc, variable) = (self.rt.alloc(), changed(self.kind, step.variable));
+        match &step.value {
+            Some(value) => {
+                let verb = if self.is_dry_run {
+                    "would write "
+                } else {
+                    "wrote "
+                };
+                out.push_str(verb)?;
+                write_value(out, alloc, self.kind, variable, value)
+            }
+            None => {
+                let verb = if self.is_dry_run {
+                    "would delete"
+                } else {
+                    "deleted"
+                };
+                writeln!(out, "{verb} {variable}")?;
+                Ok(())
+            }
+        }
+    }
+
     /// Returns the file to write a variable to.
     fn target(&self, variable: Variable) -> Result<Target, End> {
         let alloc = self.rt.alloc();
@@ -206,7 +223,7 @@ impl<'a> Machine<'a> {
                 return Err(refuse(self.rt, UNREADABLE, message));
             }
             Content::Bytes(bytes) => bytes,
-            Content::TooShort => &[],
+            Content::TooShort(_) => &[],
         };
         let (attributes, kept): (&'static [u8], &[u8]) = match attributes_len(
             variable,
@@ -272,6 +289,29 @@ impl<'a> Machine<'a> {
         }
     }
 
+    /// Returns the failure to open one of the files for writing, so that no variable is changed if one is
+    /// protected.
+    fn test_all(&self, targets: &[Target], is_efivarfs: bool) -> Result<Option<Failure>, End> {
+        if !is_efivarfs {
+            return Ok(None);
+        }
+        for target in targets {
+            if target.is_new {
+                continue;
+            }
+            let path = target.path.as_str();
+            if let Err(error) = OpenOptions::new().write(true).open(self.rt, path) {
+                let path = target.path.clone()?;
+                return Ok(Some(Failure {
+                    place: 0,
+                    path,
+                    error,
+                }));
+            }
+        }
+        Ok(None)
+    }
+
     /// Takes the steps of a plan, or none in a dry run, and describes each. Returns the failure of the
     /// first step that failed, if one did.
     fn take_all(
@@ -283,7 +323,10 @@ impl<'a> Machine<'a> {
         let alloc = self.rt.alloc();
         let mut targets = Vec::with_capacity(alloc, plan.len())?;
         for step in plan {
-            targets.push(self.target(changed(step.variable))?)?;
+            targets.push(self.target(changed(self.kind, step.variable))?)?;
+        }
+        if let Some(failure) = self.test_all(&targets, is_efivarfs)? {
+            return Ok(Some(failure));
         }
         for (place, step) in plan.iter().enumerate() {
             if let Some(target) = targets.get(place) {
@@ -291,7 +334,9 @@ impl<'a> Machine<'a> {
                     return Ok(Some(failure));
                 }
             }
-            describe(&mut out.text, alloc, step, self.is_dry_run)?;
+            if !self.is_quiet {
+                self.describe(&mut out.text, step)?;
+            }
         }
         Ok(None)
     }
@@ -323,14 +368,22 @@ impl<'a> Machine<'a> {
         let Failure { path, error, .. } = failure;
         let mut message = String::new(self.rt.alloc());
         write!(message, "cannot change {path}: {error}")?;
-        if error.raw_os_error() == Some(1) && is_efivarfs {
-            write!(message, "\nLinux protects the file: type chattr -i {path}")?;
+        match error.raw_os_error() {
+            Some(EPERM) if is_efivarfs => {
+                write!(message, "\nLinux protects the file: type chattr -i {path}")?;
+            }
+            Some(EACCES) => message.push_str(" (run as root?)")?,
+            Some(EROFS) => {
+                let folder = self.folder;
+                write!(message, " (type mount -o remount,rw {folder})")?;
+            }
+            _ => {}
         }
         if failure.is_for_room() && is_efivarfs {
             write!(message, "\n{FREED_AT_BOOT}")?;
         }
         for (place, step) in plan.iter().enumerate() {
-            let variable = changed(step.variable);
+            let variable = changed(self.kind, step.variable);
             let what = if place < failure.place {
                 "changed"
             } else {

@@ -2,8 +2,13 @@
 use crate::arguments::Words;
 use crate::ends::{End, MALFORMED, Output, UNREADABLE};
 use crate::entry::{File, Shown};
-use crate::head::{Head, TOO_SHORT};
-use crate::variables::{Content, MOST_READ, OWN, Source, Variable, Variables, unreadable};
+use crate::head::Head;
+use crate::partitions::DISKS;
+use crate::variables::{
+    Content, MOST_READ, OWN, PassedOver, Source, Variable, Variables, unreadable,
+};
+use crate::{Form, to_json};
+use serde::Serialize;
 use std::collections::BTreeMap;
 use std::fmt::Write;
 use std::{fs, io};
@@ -21,14 +26,23 @@ fn common_limit(name: &str) -> usize {
     COMMON_LIMIT.saturating_sub(name.len().saturating_add(1).saturating_mul(2))
 }
 
-/// The folder in which Linux keeps a link for each partition, named by the partition's GUID.
-const DISKS: &str = "/dev/disk/by-partuuid";
+/// A fault, in JSON.
+#[derive(Drop, Serialize)]
+struct Fault<'a> {
+    /// The variable, or the file that is not read.
+    name: String,
+    offset: Option<usize>,
+    unreadable: bool,
+    reason: &'a str,
+}
 
 /// The report so far.
 #[derive(Drop)]
 struct Check<'a> {
     rt: &'a HostRuntime,
     out: Output<'a>,
+    form: Form,
+    is_first: bool,
     variables: &'a Variables<'a>,
     /// The mount point of the EFI system partition, if it is known.
     esp: Option<&'a str>,
@@ -46,9 +60,30 @@ fn is_control(unit: u16) -> bool {
 }
 
 impl<'a> Check<'a> {
+    /// Adds a fault to the list in JSON, one on a line.
+    fn list(&mut self, fault: &Fault<'_>) -> Result<(), End> {
+        let text = to_json(self.rt.alloc(), fault)?;
+        self.out
+            .text
+            .push_str(if self.is_first { "\n" } else { ",\n" })?;
+        self.is_first = false;
+        self.out.text.push_str(text.as_str())?;
+        self.out.flush()
+    }
+
     /// Reports a fault of a variable at an offset.
     fn report(&mut self, variable: Variable, offset: usize, sentence: &str) -> Result<(), End> {
         self.is_well = false;
+        if self.form == Form::Json {
+            let name = format!(in self.rt.alloc(); "{variable}")?;
+            let fault = Fault {
+                name,
+                offset: Some(offset),
+                unreadable: false,
+                reason: sentence,
+            };
+            return self.list(&fault);
+        }
         writeln!(self.out.text, "{variable}: offset {offset}: {sentence}")?;
         self.out.flush()
     }
@@ -56,7 +91,38 @@ impl<'a> Check<'a> {
     /// Reports a variable that can't be read.
     fn report_unreadable(&mut self, variable: Variable, cause: &String) -> Result<(), End> {
         self.is_read = false;
+        if self.form == Form::Json {
+            let name = format!(in self.rt.alloc(); "{variable}")?;
+            let fault = Fault {
+                name,
+                offset: None,
+                unreadable: true,
+                reason: cause.as_str(),
+            };
+            return self.list(&fault);
+        }
         writeln!(self.out.text, "{variable}: cannot be read: {cause}")?;
+        self.out.flush()
+    }
+
+    /// Reports a file that is not read.
+    fn report_skipped(&mut self, skipped: &PassedOver) -> Result<(), End> {
+        self.is_well = false;
+        if self.form == Form::Json {
+            let name = skipped.file.clone()?;
+            let fault = Fault {
+                name,
+                offset: None,
+                unreadable: false,
+                reason: skipped.reason,
+            };
+            return self.list(&fault);
+        }
+        writeln!(
+            self.out.text,
+            "{}: passed over: {}",
+            skipped.file, skipped.reason
+        )?;
         self.out.flush()
     }
 
@@ -253,7 +319,7 @@ impl<'a> Check<'a> {
         }
         match self.variables.read(source, buffer)? {
             Content::Bytes(bytes) => self.check_entry(variable, bytes),
-            Content::TooShort => self.report(variable, 0, TOO_SHORT),
+            Content::TooShort(reason) => self.report(variable, 0, reason),
             Content::Unreadable(cause) => self.report_unreadable(variable, &cause),
         }
     }
@@ -291,12 +357,21 @@ pub(crate) fn run<'a>(
         rt,
         out: Output::new(rt),
         variables,
+        form: if words.has("--json") {
+            Form::Json
+        } else {
+            Form::Lines
+        },
+        is_first: true,
         esp,
         disks,
         seen: BTreeMap::new(rt.alloc()),
         is_well: true,
         is_read: true,
     };
+    if check.form == Form::Json {
+        check.out.text.push_str("{\"faults\":[")?;
+    }
     let mut buffer = [0; MOST_READ];
     let head = Head::of(rt.alloc(), variables, &mut buffer)?;
     check.check_head(&head)?;
@@ -304,8 +379,10 @@ pub(crate) fn run<'a>(
         check.check_source(source, &mut buffer)?;
     }
     for it in &variables.passed_over {
-        check.is_well = false;
-        writeln!(check.out.text, "{}: passed over: {}", it.file, it.reason)?;
+        check.report_skipped(it)?;
+    }
+    if check.form == Form::Json {
+        check.out.text.push_str("\n]}\n")?;
     }
     check.out.flush()?;
     Ok(if !check.is_read {

@@ -2,21 +2,20 @@
 use crate::arguments::Words;
 use crate::ends::{End, WRONG_ARGUMENTS, refuse};
 use crate::entry::Shown;
-use crate::mounts::mount_point_above;
+use crate::mounts::{find_mounted, mount_point_above};
+use crate::partitions::{GPT, Located, by_guid, by_number, on_disk};
+use crate::variables::{MOST_BYTES, MOST_READ, unreadable};
+use crate::{buses, fill};
 use std::alloc::Global;
+use std::fs;
 use uefi_device_path::build::media::HardDrive;
-use uefi_device_path::{
-    DevicePathBuf, Guid, LenientTextError, LoadOptionBuilder, OptionBuildError,
-};
+use uefi_device_path::{DevicePathBuf, Guid, LoadOptionBuilder, OptionBuildError, PathTextError};
 use uefi_path::Path;
 use uefi_text::{CString16, FromStrError};
 
-/// The number of the partition table format GPT, and of the signature type GUID.
-const GPT: u8 = 2;
-
 /// Refuses the value of an option.
 fn refuse_value(rt: &HostRuntime, option: &str, value: &str, wanted: &str) -> End {
-    let message = format_args!("{option} {value}: this is not {wanted}");
+    let message = format_args!("{option} {value}: not {wanted}");
     refuse(rt, WRONG_ARGUMENTS, message)
 }
 
@@ -66,47 +65,37 @@ fn check_mount_point(rt: &HostRuntime, loader: &str) -> Result<(), End> {
     Err(refuse(rt, WRONG_ARGUMENTS, message))
 }
 
-/// Returns the path of a file on a partition.
-fn path_on_disk(rt: &HostRuntime, words: &Words<'_>, guid: &str) -> Result<DevicePathBuf, End> {
-    let Some(signature) = Guid::try_parse(guid) else {
-        return Err(refuse_value(rt, "--disk", guid, "a GUID"));
-    };
-    let Some(loader) = words.value("--loader") else {
-        let message = format_args!("create needs --loader, the path of a file on the partition");
-        return Err(refuse(rt, WRONG_ARGUMENTS, message));
-    };
-    let partition = number(rt, words, "--partition")?;
-    let Ok(partition_number) = u32::try_from(partition) else {
-        return Err(refuse(
-            rt,
-            WRONG_ARGUMENTS,
-            format_args!("there is no partition {partition}"),
-        ));
-    };
-    if partition_number == 0 {
-        let message = format_args!(
-            "create needs --partition, the number of the partition, from 1 on"
-        );
-        return Err(refuse(rt, WRONG_ARGUMENTS, message));
+/// Rejects the path of a loader from which a shell has removed the backslashes.
+fn check_separators(rt: &HostRuntime, loader: &str) -> Result<(), End> {
+    let is_joined = loader.starts_with("EFI") && !loader.contains('/') && !loader.contains('\\');
+    if !is_joined || loader == "EFI" {
+        return Ok(());
     }
-    let drive = HardDrive {
-        partition_number,
-        partition_start: number(rt, words, "--start")?,
-        partition_size: number(rt, words, "--size")?,
-        partition_signature: signature.to_bytes(),
-        partition_format: GPT,
-        signature_type: GPT,
-    };
-    if !words.has("--force") {
-        check_mount_point(rt, loader)?;
-    }
+    let message = format_args!(
+        "--loader {loader}: the path has no separator \
+         (the shell removes backslashes: type slashes, such as /EFI/debian/shimx64.efi)"
+    );
+    Err(refuse(rt, WRONG_ARGUMENTS, message))
+}
+
+/// Returns the path of a file on a partition, after the path of the disk if that is requested.
+fn path_to(
+    rt: &HostRuntime,
+    words: &Words<'_>,
+    partition: &Located,
+    loader: &str,
+) -> Result<DevicePathBuf, End> {
     let name = string(
         rt,
         "--loader",
         loader.replace(rt.alloc(), "/", "\\")?.as_str(),
     )?;
-    let mut path = DevicePathBuf::new(rt.alloc())?;
-    if path.push_node(&drive).is_err() {
+    let mut path = if words.has("--full-path") {
+        buses::of_disk(rt, "--full-path", partition.disk.as_str())?
+    } else {
+        DevicePathBuf::new(rt.alloc())?
+    };
+    if path.push_node(&partition.drive).is_err() {
         return Err(End::OutOfMemory);
     }
     match path.push_file(Path::new(name.as_cstr16())) {
@@ -119,19 +108,126 @@ fn path_on_disk(rt: &HostRuntime, words: &Words<'_>, guid: &str) -> Result<Devic
     }
 }
 
-/// Returns the device path of the new entry.
-fn path_of(rt: &HostRuntime, words: &Words<'_>) -> Result<DevicePathBuf, End> {
-    match (words.value("--path"), words.value("--disk")) {
-        (Some(text), None) => match DevicePathBuf::from_lenient_text(rt.alloc(), text) {
-            Ok(path) => Ok(path),
-            Err(LenientTextError::OutOfMemory) => Err(End::OutOfMemory),
-            Err(error) => Err(refuse(rt, WRONG_ARGUMENTS, format_args!("--path {text}: {error}"))),
-        },
-        (None, Some(guid)) => path_on_disk(rt, words, guid),
-        _ => {
-            let message = format_args!("create needs one of --path and --disk");
+/// Returns the number of a partition.
+fn partition_number(rt: &HostRuntime, words: &Words<'_>) -> Result<u32, End> {
+    match u32::try_from(number(rt, words, "--partition")?) {
+        Ok(0) => {
+            let message = format_args!(
+                "create needs --partition, the number of the partition, from 1 on"
+            );
             Err(refuse(rt, WRONG_ARGUMENTS, message))
         }
+        Ok(number) => Ok(number),
+        Err(_) => {
+            let text = words.value("--partition").unwrap_or("");
+            Err(refuse_value(rt, "--partition", text, "the number of a partition"))
+        }
+    }
+}
+
+/// Returns the partition with a GUID that this machine need not have, from the words of the user.
+fn given_partition(rt: &HostRuntime, words: &Words<'_>, guid: &str) -> Result<Located, End> {
+    let Some(signature) = Guid::try_parse(guid) else {
+        return Err(refuse_value(
+            rt,
+            "--disk",
+            guid,
+            "a disk, such as /dev/nvme0n1, or the GUID of a partition",
+        ));
+    };
+    let drive = HardDrive {
+        partition_number: partition_number(rt, words)?,
+        partition_start: number(rt, words, "--start")?,
+        partition_size: number(rt, words, "--size")?,
+        partition_signature: signature.to_bytes(),
+        partition_format: GPT,
+        signature_type: GPT,
+    };
+    Ok(Located {
+        drive,
+        disk: String::new(rt.alloc()),
+    })
+}
+
+/// Returns the path of a file on the partition on which it is mounted.
+fn path_of_file(rt: &HostRuntime, words: &Words<'_>, loader: &str) -> Result<DevicePathBuf, End> {
+    let file = find_mounted(rt, loader)?;
+    if file.kind.as_str() != "vfat" && !words.has("--force") {
+        let kind = match file.kind.as_str() {
+            "" => "its file system",
+            kind => kind,
+        };
+        let message = format_args!(
+            "--loader {loader}: firmware cannot read {kind} \
+             (copy the loader to the EFI system partition, or add --force)"
+        );
+        return Err(refuse(rt, WRONG_ARGUMENTS, message));
+    }
+    let given = format!(in rt.alloc(); "--loader {loader}")?;
+    let partition = by_number(rt, given.as_str(), file.device.as_str())?;
+    path_to(rt, words, &partition, file.path.as_str())
+}
+
+/// Returns the device path of the loader that the words name.
+fn path_of_loader(rt: &HostRuntime, words: &Words<'_>) -> Result<DevicePathBuf, End> {
+    let Some(loader) = words.value("--loader") else {
+        let message = format_args!("create needs --loader FILE or --path PATH");
+        return Err(refuse(rt, WRONG_ARGUMENTS, message));
+    };
+    let partition = match (words.value("--partuuid"), words.value("--disk")) {
+        (None, None) => return path_of_file(rt, words, loader),
+        (Some(guid), _) => by_guid(rt, guid)?,
+        (None, Some(disk)) if disk.starts_with('/') => {
+            on_disk(rt, disk, partition_number(rt, words)?)?
+        }
+        (None, Some(guid)) => given_partition(rt, words, guid)?,
+    };
+    if !words.has("--force") {
+        check_mount_point(rt, loader)?;
+        check_separators(rt, loader)?;
+    }
+    path_to(rt, words, &partition, loader)
+}
+
+/// Rejects an option that would say nothing about the path of the new entry.
+fn check_options(rt: &HostRuntime, words: &Words<'_>) -> Result<(), End> {
+    let disk = words.value("--disk");
+    let is_guid = disk.is_some_and(|disk| !disk.starts_with('/'));
+    for (option, is_used, wanted) in [
+        ("--partition", disk.is_some(), "--disk"),
+        ("--start", is_guid, "--disk GUID"),
+        ("--size", is_guid, "--disk GUID"),
+        (
+            "--full-path",
+            !is_guid && words.value("--loader").is_some(),
+            "--loader on this machine",
+        ),
+    ] {
+        let is_given = words.has(option) || words.value(option).is_some();
+        if !is_used && is_given {
+            return Err(refuse(rt, WRONG_ARGUMENTS, format_args!("{option} needs {wanted}")));
+        }
+    }
+    Ok(())
+}
+
+/// Returns the device path of the new entry.
+fn path_of(rt: &HostRuntime, words: &Words<'_>) -> Result<DevicePathBuf, End> {
+    let ways = ["--path", "--disk", "--partuuid", "--interface"];
+    words.check_alternatives(rt, &ways, "--path, --disk, --partuuid and --interface")?;
+    let ways = ["--path", "--loader", "--interface"];
+    words.check_alternatives(rt, &ways, "--path, --loader and --interface")?;
+    check_options(rt, words)?;
+    if let Some(name) = words.value("--interface") {
+        return buses::of_interface(rt, name);
+    }
+    let Some(text) = words.value("--path") else {
+        return path_of_loader(rt, words);
+    };
+    match DevicePathBuf::from_lenient_text(rt.alloc(), text) {
+        Ok(path) => Ok(path),
+        Err(PathTextError::OutOfMemory) => Err(End::OutOfMemory),
+        Err(error) => Err(refuse(rt, WRONG_ARGUMENTS, format_args!("--path {text}: {error}"))),
     }
 }
 
@@ -158,6 +254,45 @@ fn read_bytes(alloc: Global, text: &str) -> Result<Option<Vec<u8>>, End> {
     Ok(Some(bytes))
 }
 
+/// Returns the bytes of a file, or of standard input for `-`.
+fn file_bytes(rt: &HostRuntime, file: &str) -> Result<Vec<u8>, End> {
+    // One byte more than a variable holds shows that there are too many.
+    let mut buffer = [0; MOST_READ];
+    let count = if file == "-" {
+        match fill(&mut rt.reader(), &mut buffer) {
+            Ok(count) => count,
+            Err(_) => return Err(End::NoStream),
+        }
+    } else {
+        let opened = fs::open(rt, file).and_then(|mut it| fill(&mut it, &mut buffer));
+        match opened {
+            Ok(count) => count,
+            Err(error) => return Err(unreadable(rt, file, &error)),
+        }
+    };
+    if MOST_BYTES < count {
+        let message = format_args!(
+            "--data-file {file}: more than {MOST_BYTES} bytes, which no variable holds"
+        );
+        return Err(refuse(rt, WRONG_ARGUMENTS, message));
+    }
+    Ok(Vec::from_slice(rt.alloc(), &buffer[..count])?)
+}
+
+/// Returns the index of the new entry in the order, or `None` if the order does not get it.
+pub(crate) fn index_of(rt: &HostRuntime, words: &Words<'_>) -> Result<Option<usize>, End> {
+    let ways = ["--last", "--index", "--no-order"];
+    words.check_alternatives(rt, &ways, "--last, --index and --no-order")?;
+    if words.has("--no-order") {
+        return Ok(None);
+    }
+    if words.has("--last") {
+        return Ok(Some(usize::MAX));
+    }
+    let index = number(rt, words, "--index")?;
+    Ok(Some(usize::try_from(index).unwrap_or(usize::MAX)))
+}
+
 /// Returns the optional data of the new entry.
 fn data_of(rt: &HostRuntime, words: &Words<'_>) -> Result<Vec<u8>, End> {
     let alloc = rt.alloc();
@@ -179,6 +314,9 @@ fn data_of(rt: &HostRuntime, words: &Words<'_>) -> Result<Vec<u8>, End> {
             Some(bytes) => data.extend_from_slice(&bytes)?,
             None => return Err(refuse_value(rt, "--data-hex", text, "bytes in hexadecimal")),
         }
+    }
+    if let Some(file) = words.value("--data-file") {
+        data.extend_from_slice(&file_bytes(rt, file)?)?;
     }
     Ok(data)
 }
@@ -205,7 +343,7 @@ fn check_paths(rt: &HostRuntime, words: &Words<'_>, option: &[u8]) -> Result<(),
 /// Returns the bytes of the new entry.
 pub(crate) fn option_of(rt: &HostRuntime, words: &Words<'_>) -> Result<Vec<u8>, End> {
     let Some(text) = words.value("--description") else {
-        let message = format_args!("create needs --description, the text that a menu shows");
+        let message = format_args!("create needs --description, the name to show in the boot menu");
         return Err(refuse(rt, WRONG_ARGUMENTS, message));
     };
     let description = string(rt, "--description", text)?;

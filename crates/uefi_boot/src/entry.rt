@@ -40,9 +40,9 @@ pub(crate) struct Fault {
 /// can't be read.
 #[derive(Drop, Serialize)]
 pub(crate) struct Shown {
-    active: Option<bool>,
+    pub(crate) active: Option<bool>,
     attributes: Option<u32>,
-    description: Option<String>,
+    pub(crate) description: Option<String>,
     device_paths: Vec<String>,
     pub(crate) files: Vec<File>,
     optional_data: Option<OptionalData>,

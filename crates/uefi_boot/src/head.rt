@@ -7,9 +7,6 @@ use std::alloc::{AllocError, Global};
 use std::fmt::{self, Write};
 use uefi_boot_variables::{LoadOptionKind, LoadOptionName, LoadOrder, read_number};
 
-/// The reason if a file ends before the variable's attributes do.
-pub(crate) const TOO_SHORT: &str = "the file ends within the variable's attributes";
-
 /// A variable without a usable value, and why.
 #[derive(Drop)]
 pub(crate) struct Silent {
@@ -108,7 +105,7 @@ impl Head {
                 let reason = String::from_str(alloc, "longer than a variable")?;
                 (MOST_BYTES, reason, true)
             }
-            Content::TooShort => (0, String::from_str(alloc, TOO_SHORT)?, true),
+            Content::TooShort(reason) => (0, String::from_str(alloc, reason)?, true),
             Content::Unreadable(cause) => (0, cause, false),
         };
         self.fail(variable, offset, reason, is_malformed)?;

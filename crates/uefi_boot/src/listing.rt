@@ -1,7 +1,7 @@
 //! Prints a machine's boot variables, each entry as soon as it is read.
 use crate::ends::{End, MALFORMED, Output, UNREADABLE};
 use crate::entry::{Exact, Shown, push, write_shown};
-use crate::head::{Head, HeadJson, TOO_SHORT, name_of};
+use crate::head::{Head, HeadJson, name_of};
 use crate::variables::{Content, MOST_READ, PassedOver, Source, Variable, Variables};
 use crate::{Form, to_json};
 use serde::Serialize;
@@ -53,17 +53,8 @@ struct Listing<'a> {
 pub(crate) fn shown_entry(alloc: Global, content: &Content<'_>) -> Result<Shown, fmt::Error> {
     match content {
         Content::Bytes(bytes) => Shown::of_entry(alloc, bytes),
-        Content::TooShort => Shown::malformed(alloc, 0, TOO_SHORT),
+        Content::TooShort(reason) => Shown::malformed(alloc, 0, reason),
         Content::Unreadable(cause) => Shown::unreadable(alloc, cause),
-    }
-}
-
-/// Returns the order of a kind.
-fn order_of(kind: LoadOptionKind) -> Variable {
-    match kind {
-        LoadOptionKind::Driver => Variable::DriverOrder,
-        LoadOptionKind::SysPrep => Variable::SysPrepOrder,
-        _ => Variable::BootOrder,
     }
 }
 
@@ -97,7 +88,7 @@ impl<'a> Listing<'a> {
         writeln!(self.out.text, "{variable}")?;
         if in_order == Some(false) {
             if let Some(option) = variable.option() {
-                let order = order_of(option.kind);
+                let order = Variable::order_of(option.kind);
                 writeln!(self.out.text, "  not in {order}")?;
             }
         }
@@ -172,7 +163,7 @@ impl<'a> Listing<'a> {
         }
         for variable in &self.not_set {
             if let Some(option) = variable.option() {
-                let order = order_of(option.kind);
+                let order = Variable::order_of(option.kind);
                 writeln!(self.out.text, "{option}: in {order}, but not set")?;
             }
         }

@@ -33,21 +33,25 @@
 ghost use Rattle.std.specs.Prelude.{◌≤◌, IfOk, length};
 
 mod arguments;
+mod buses;
 mod changes;
 mod check;
 mod create;
+mod efibootmgr;
 mod ends;
 mod entry;
 mod growing_texts;
 mod head;
 mod help;
+mod hints;
 mod listing;
 mod mounts;
 mod optional_data;
+mod partitions;
 mod variables;
 mod verbs;
 
-use arguments::{Verb, meant_verb, refuse_option};
+use arguments::{Verb, first_plain, is_option, meant_verb, refuse_option};
 use ends::{End, MALFORMED, Output, WRONG_ARGUMENTS, refuse, status_of};
 use entry::{Exact, Shown};
 use serde::Serialize;
@@ -55,7 +59,7 @@ use std::alloc::Global;
 use std::io::{self, IsTerminal, Read};
 use std::process::ExitCode;
 use std::{env, fmt, fs};
-use variables::{Content, MOST_READ, OWN, find_all};
+use variables::{Content, MOST_READ, OWN, file_name, find_all, find_own};
 
 const VERSION: &str = "uefi_boot 0.8.0-dev\n";
 
@@ -142,12 +146,24 @@ fn print_own(rt: &HostRuntime, form: Form) -> Result<u8, End> {
     if !rt.stdin().is_terminal() {
         return print_entry(rt, form);
     }
-    if !fs::metadata(rt, OWN).is_ok_and(|found| found.is_dir()) {
-        let help = help::PROGRAM;
-        return Err(refuse(rt, WRONG_ARGUMENTS, format_args!("{help}")));
-    }
     let own = [String::from_str(rt.alloc(), OWN)?];
-    listing::print(rt, &find_all(rt, &own)?, form)
+    listing::print(rt, &find_own(rt, &own)?, form)
+}
+
+/// Reports that a word is neither a command nor a file, and what to type instead, if that is known.
+fn refuse_command(rt: &HostRuntime, name: &str) -> Result<(), End> {
+    if let Some(hint) = hints::of_command(name) {
+        let message = format_args!("unknown command or file '{name}' (type {hint})");
+        return Err(refuse(rt, WRONG_ARGUMENTS, message));
+    }
+    if Verb::of_word(name).is_some() {
+        return Ok(());
+    }
+    if let Some(verb) = meant_verb(rt.alloc(), name)? {
+        let message = format_args!("unknown command or file '{name}' (did you mean '{verb}'?)");
+        return Err(refuse(rt, WRONG_ARGUMENTS, message));
+    }
+    Ok(())
 }
 
 /// Prints the variables of files and folders.
@@ -155,12 +171,7 @@ fn print_files(rt: &HostRuntime, names: &[String], form: Form) -> Result<u8, End
     if let [name, ..] = names {
         let name = name.as_str();
         if !name.contains("/") && fs::metadata(rt, name).is_err() {
-            if let Some(verb) = meant_verb(rt.alloc(), name)? {
-                let message = format_args!(
-                    "there is no verb and no file {name}: did you mean {verb}?"
-                );
-                return Err(refuse(rt, WRONG_ARGUMENTS, message));
-            }
+            refuse_command(rt, name)?;
         }
     }
     listing::print(rt, &find_all(rt, names)?, form)
@@ -170,15 +181,15 @@ fn print_files(rt: &HostRuntime, names: &[String], form: Form) -> Result<u8, End
 fn show(rt: &HostRuntime, words: Vec<String>) -> Result<u8, End> {
     let mut names = Vec::new(rt.alloc());
     let mut form = Form::Lines;
+    let mut are_names = false;
     for word in words {
         match word.as_str() {
+            option if are_names || !is_option(option) => names.push(word)?,
+            "--" => are_names = true,
             "-h" | "--help" => return print_text(rt, help::PROGRAM),
             "--version" => return print_text(rt, VERSION),
             "--json" => form = Form::Json,
-            option if option.starts_with("-") && option != "-" => {
-                return Err(refuse_option(rt, option, &OPTIONS));
-            }
-            _ => names.push(word)?,
+            option => return Err(refuse_option(rt, option, &OPTIONS)),
         }
     }
     match names.as_slice() {
@@ -196,18 +207,37 @@ fn run(rt: &HostRuntime) -> Result<u8, End> {
         }
         Err(_) => return Err(End::OutOfMemory),
     };
-    let mut words = Vec::new(rt.alloc());
-    for word in arguments.skip(1) {
-        words.push(word)?;
+    let (mut words, mut is_efibootmgr) = (Vec::new(rt.alloc()), false);
+    for (place, word) in arguments.enumerate() {
+        if place == 0 {
+            is_efibootmgr = file_name(word.as_str()) == "efibootmgr";
+        } else {
+            words.push(word)?;
+        }
     }
-    let verb = match words.first() {
-        Some(word) => Verb::of_word(word.as_str()),
-        None => None,
+    if is_efibootmgr {
+        return efibootmgr::run(rt, &words);
+    }
+    let Some(place) = first_plain(&words) else {
+        return show(rt, words);
     };
-    match (verb, words.get(1..)) {
-        (Some(verb), Some(rest)) => verbs::run(rt, verb, rest),
-        _ => show(rt, words),
+    let word = words.get(place).map_or("", |it| it.as_str());
+    if word == "help" {
+        let verb = words
+            .get(place.saturating_add(1))
+            .and_then(|it| Verb::of_word(it.as_str()));
+        return print_text(rt, verb.map_or(help::PROGRAM, Verb::help));
     }
+    let Some(verb) = Verb::of_word(word) else {
+        return show(rt, words);
+    };
+    let mut others = Vec::new(rt.alloc());
+    for (index, word) in words.into_iter().enumerate() {
+        if index != place {
+            others.push(word)?;
+        }
+    }
+    verbs::run(rt, verb, &others, false)
 }
 
 fn main(rt: HostRuntime) -> ExitCode {

@@ -1,8 +1,9 @@
 //! The mounted file systems of the machine, from proc_pid_mountinfo(5).
-use crate::ends::End;
+use crate::ends::{End, WRONG_ARGUMENTS, refuse};
 use crate::variables::unreadable;
-use std::fs;
+use std::alloc::{AllocError, Global};
 use std::os::unix::fs::MetadataExt;
+use std::{fs, io};
 
 const MOUNTS: &str = "/proc/self/mountinfo";
 
@@ -14,21 +15,27 @@ fn mounts(rt: &HostRuntime) -> Result<String, End> {
     }
 }
 
-/// Returns a field of a line before the optional ones: 2 is the device, 4 the mount point.
+/// Returns a field of a line before the optional ones: 2 is the device, 3 the directory of the file system
+/// that is mounted, 4 the mount point.
 fn field(line: &str, place: usize) -> &str {
     line.split(' ').nth(place).unwrap_or("")
+}
+
+/// Returns the number of the device that contains a file, as `major:minor`.
+fn device_of(rt: &HostRuntime, path: &str) -> Result<String, End> {
+    let device = match fs::metadata(rt, path) {
+        Ok(found) => found.dev(),
+        Err(error) => return Err(unreadable(rt, path, &error)),
+    };
+    let major = ((device >> 8) & 0xfff) | ((device >> 32) & 0xffff_f000);
+    let minor = (device & 0xff) | ((device >> 12) & 0xffff_ff00);
+    Ok(format!(in rt.alloc(); "{major}:{minor}")?)
 }
 
 /// Returns whether a directory is in Linux's `efivarfs`, which accepts only files of variables, each
 /// written by one call.
 pub(crate) fn is_efivarfs(rt: &HostRuntime, directory: &str) -> Result<bool, End> {
-    let device = match fs::metadata(rt, directory) {
-        Ok(found) => found.dev(),
-        Err(error) => return Err(unreadable(rt, directory, &error)),
-    };
-    let major = ((device >> 8) & 0xfff) | ((device >> 32) & 0xffff_f000);
-    let minor = (device & 0xff) | ((device >> 12) & 0xffff_ff00);
-    let device = format!(in rt.alloc(); "{major}:{minor}")?;
+    let device = device_of(rt, directory)?;
     let mounts = mounts(rt)?;
     for line in mounts.as_str().lines() {
         if line.contains(" - efivarfs ") && field(line, 2) == device.as_str() {
@@ -72,4 +79,71 @@ pub(crate) fn mount_point_above<'a>(
     } else {
         path.get(..longest)
     })
+}
+
+/// Returns a path of a line. Blanks, line ends and backslashes are octal numbers there.
+fn unescaped(alloc: Global, field: &str) -> Result<String, AllocError> {
+    field
+        .replace(alloc, "\\040", " ")?
+        .replace(alloc, "\\011", "\t")?
+        .replace(alloc, "\\012", "\n")?
+        .replace(alloc, "\\134", "\\")
+}
+
+/// Returns what follows a mount point in a path at or below it.
+fn below<'a>(path: &'a str, point: &str) -> Option<&'a str> {
+    let rest = path.strip_prefix(point)?;
+    if point == "/" {
+        return Some(path);
+    }
+    if rest.is_empty() || rest.starts_with('/') {
+        Some(rest)
+    } else {
+        None
+    }
+}
+
+/// A file on a mounted file system.
+#[derive(Drop)]
+pub(crate) struct Mounted {
+    /// The number of the device, as `major:minor`.
+    pub(crate) device: String,
+    /// The path of the file on the file system.
+    pub(crate) path: String,
+    /// The type of the file system, such as `vfat`.
+    pub(crate) kind: String,
+}
+
+/// Finds the file system of a file, and the path there.
+pub(crate) fn find_mounted(rt: &HostRuntime, file: &str) -> Result<Mounted, End> {
+    let alloc = rt.alloc();
+    let real = match fs::canonicalize(rt, file) {
+        Ok(real) => real,
+        Err(error) if matches!(error.kind(), io::ErrorKind::NotFound) => {
+            let message = format_args!(
+                "--loader {file}: no such file \
+                 (mount the EFI system partition, or name the partition with --partuuid)"
+            );
+            return Err(refuse(rt, WRONG_ARGUMENTS, message));
+        }
+        Err(error) => return Err(unreadable(rt, file, &error)),
+    };
+    let device = device_of(rt, file)?;
+    let (mut path, mut kind, mut longest) = (String::new(alloc), String::new(alloc), None);
+    let mounts = mounts(rt)?;
+    for line in mounts.as_str().lines() {
+        let point = unescaped(alloc, field(line, 4))?;
+        if field(line, 2) != device.as_str() || longest > Some(point.len()) {
+            continue;
+        }
+        let Some(rest) = below(real.as_str(), point.as_str()) else {
+            continue;
+        };
+        let root = unescaped(alloc, field(line, 3))?;
+        path = format!(in alloc; "{}{rest}", root.as_str().trim_end_matches('/'))?;
+        let kinds = line.split_once(" - ").map_or("", |it| it.1);
+        kind = String::from_str(alloc, field(kinds, 0))?;
+        longest = Some(point.len());
+    }
+    Ok(Mounted { device, path, kind })
 }

@@ -3,7 +3,7 @@ ghost use Rattle.std.specs.Prelude.{◌≤◌, IfOk, length};
 
 use crate::ends::{End, UNREADABLE, WRONG_ARGUMENTS, refuse};
 use crate::fill;
-use std::alloc::AllocError;
+use std::alloc::{AllocError, Global};
 use std::fmt::{self, Write};
 use std::{fs, io};
 use uefi_boot_variables::{LoadOptionKind, LoadOptionName};
@@ -77,6 +77,15 @@ impl Variable {
         }
     }
 
+    /// Returns the order of a kind of entries.
+    pub(crate) fn order_of(kind: LoadOptionKind) -> Variable {
+        match kind {
+            LoadOptionKind::Driver => Variable::DriverOrder,
+            LoadOptionKind::SysPrep => Variable::SysPrepOrder,
+            _ => Variable::BootOrder,
+        }
+    }
+
     /// Returns the name of the load option, if the variable is one.
     pub(crate) fn option(self) -> Option<LoadOptionName> {
         let (kind, number) = match self {
@@ -113,13 +122,18 @@ impl fmt::Display for Variable {
     }
 }
 
+/// What is wrong with a file that ends before the variable's attributes do.
+const TOO_SHORT: &str = "the file ends within the variable's attributes";
+
+const EMPTY: &str = "the file is empty: a write to it was interrupted";
+
 /// The value of a variable in a file, without its attributes, or the reason why the file can't be
 /// read.
 #[derive(Drop)]
 pub(crate) enum Content<'b> {
     Bytes(&'b [u8]),
-    /// The file ends within the four bytes of the variable's attributes.
-    TooShort,
+    /// The file ends within the four bytes of the variable's attributes; says so.
+    TooShort(&'static str),
     Unreadable(String),
 }
 
@@ -150,11 +164,14 @@ pub(crate) struct Variables<'a> {
     pub(crate) passed_over: Vec<PassedOver>,
 }
 
+/// Without this directory, firmware has no runtime services for Linux.
+const FIRMWARE: &str = "/sys/firmware/efi";
+
 const NO_VARIABLE: &str = "no file is named as a boot variable, such as Boot0000 or BootOrder
 for one entry, write: uefi_boot < FILE";
 
 /// Returns the part of a path after its last slash.
-fn file_name(path: &str) -> &str {
+pub(crate) fn file_name(path: &str) -> &str {
     match path.rsplit_once('/') {
         Some((_, name)) => name,
         None => path,
@@ -164,22 +181,79 @@ fn file_name(path: &str) -> &str {
 /// The names of entries, without their numbers.
 const ENTRIES: [&str; 4] = ["Boot", "Driver", "SysPrep", "PlatformRecovery"];
 
-/// Returns whether a name would be the name of an entry if its digits were upper-case.
-fn has_lowercase_digits(name: &str) -> bool {
+/// Returns the entry that a name would name if all its digits were upper-case, if some are not.
+fn of_lowercase_digits(alloc: Global, name: &str) -> Result<Option<Variable>, AllocError> {
+    if Variable::of_name(name).is_some() {
+        return Ok(None);
+    }
     for kind in ENTRIES {
         if let Some(digits) = name.strip_prefix(kind) {
-            return digits.len() == 4 && digits.bytes().all(|byte| byte.is_ascii_hexdigit());
+            let upper = digits.to_ascii_uppercase(alloc)?;
+            let upper = format!(in alloc; "{kind}{upper}")?;
+            return Ok(Variable::of_name(upper.as_str()));
         }
     }
-    false
+    Ok(None)
+}
+
+/// Returns the path of a variable in a directory that a word names, if some digits of the word are
+/// lower-case and the directory has a variable of exactly this name. Firmware ignores such a variable.
+pub(crate) fn lowercase_file(
+    rt: &HostRuntime,
+    folder: &str,
+    word: &str,
+) -> Result<Option<String>, AllocError> {
+    if of_lowercase_digits(rt.alloc(), word)?.is_none() {
+        return Ok(None);
+    }
+    for guid in [GLOBAL, ""] {
+        let path = format!(in rt.alloc(); "{folder}/{word}{guid}")?;
+        if fs::metadata(rt, path.as_str()).is_ok() {
+            return Ok(Some(path));
+        }
+    }
+    Ok(None)
 }
 
 /// Reports that a path can't be read, or that memory ran out.
 pub(crate) fn unreadable(rt: &HostRuntime, path: &str, error: &io::Error) -> End {
-    if matches!(error.kind(), io::ErrorKind::OutOfMemory) {
-        return End::OutOfMemory;
+    match error.kind() {
+        io::ErrorKind::OutOfMemory => End::OutOfMemory,
+        io::ErrorKind::PermissionDenied => {
+            let message = format_args!("cannot read {path}: {error} (run as root?)");
+            refuse(rt, UNREADABLE, message)
+        }
+        _ => refuse(rt, UNREADABLE, format_args!("cannot read {path}: {error}")),
     }
-    refuse(rt, UNREADABLE, format_args!("cannot read {path}: {error}"))
+}
+
+/// Returns whether a directory contains no file, or can't be read.
+fn is_empty(rt: &HostRuntime, path: &str) -> bool {
+    match fs::read_dir(rt, path) {
+        Ok(mut files) => files.next().is_none(),
+        Err(_) => true,
+    }
+}
+
+/// Finds the variables of the machine, in `arguments`, which is only [`OWN`].
+pub(crate) fn find_own<'a>(
+    rt: &'a HostRuntime,
+    arguments: &'a [String],
+) -> Result<Variables<'a>, End> {
+    if fs::metadata(rt, FIRMWARE).is_err() {
+        let message = format_args!(
+            "{FIRMWARE} does not exist: this machine was booted by BIOS, or in a container \
+             (to read a copy of the variables, type uefi_boot DIRECTORY)"
+        );
+        return Err(refuse(rt, UNREADABLE, message));
+    }
+    if is_empty(rt, OWN) {
+        let message = format_args!(
+            "{OWN} has no variables (type mount -t efivarfs efivarfs {OWN})"
+        );
+        return Err(refuse(rt, UNREADABLE, message));
+    }
+    find_all(rt, arguments)
 }
 
 /// Reads a file into a buffer, until its end or until the buffer is full. Returns the number of
@@ -225,12 +299,16 @@ impl<'a> Variables<'a> {
             Some(name) => (name, true),
             None => (file, false),
         };
-        let Some(variable) = Variable::of_name(name) else {
-            if has_lowercase_digits(name) {
-                self.pass_over(file, "the digits of a variable's name are upper-case")?;
-                return Ok(true);
-            }
-            return Ok(false);
+        let variable = match Variable::of_name(name) {
+            Some(variable) => variable,
+            None => match of_lowercase_digits(self.rt.alloc(), name)? {
+                None => return Ok(false),
+                Some(variable) if !is_in_folder => variable,
+                Some(_) => {
+                    self.pass_over(file, "the digits of a variable's name are upper-case")?;
+                    return Ok(true);
+                }
+            },
         };
         self.sources.push(Source {
             variable,
@@ -340,19 +418,20 @@ impl<'a> Variables<'a> {
             Content::Bytes(bytes) => bytes,
             other => return Ok(other),
         };
+        let reason = if bytes.is_empty() { EMPTY } else { TOO_SHORT };
         match attributes_len(source.variable, source.has_guid, bytes) {
             Some(len) => Ok(match bytes.get(len..) {
                 Some(value) => Content::Bytes(value),
-                None => Content::TooShort,
+                None => Content::TooShort(reason),
             }),
-            None => Ok(Content::TooShort),
+            None => Ok(Content::TooShort(reason)),
         }
     }
 }
 
 /// Returns the path of a variable's file in a folder.
 pub(crate) fn file_in(
-    alloc: std::alloc::Global,
+    alloc: Global,
     folder: &str,
     variable: Variable,
     has_guid: bool,

@@ -1,11 +1,11 @@
 -- What a plan keeps of the variables.
 use Rattle.std.proofs.Common.{◌≡◌, ◌≢◌, ℕ, ◌∙◌, ap, sym, refl, inl, inr, Bool, true, false, ◌||◌, cond, eqb, List, [], ◌∷◌, ◌++◌, Option, None, Some, append_assoc, subst}
 use Rattle.std.proofs.lemmas.Bool.{eq-eqb, false≢true, ne_eqb}
-use Rattle.uefi_boot_variables.specs.Orders.{stands_in, without}
+use Rattle.uefi_boot_variables.specs.Orders.{stands_in, with_at, without}
 use Rattle.uefi_boot_plans.specs.Plans.{Change, deleted, is_next, ordered, written}
 use Rattle.uefi_boot_plans.specs.PowerFailures.{CreationIsSafe, DeletionIsSafe, DeletionOnFullIsSafe, EditIsSafe, FirstIsSafe, KeepsOthers, OrderIsSafe, OthersAreSafe, Throughout, Values, values_after, order_in}
 use Rattle.uefi_boot_plans.specs.declared.plan.Variable.TheVariants.{Entry, Next, Order, Timeout}
-use Rattle.uefi_boot_variables.proofs.OrderLists.{gone, others_stay}
+use Rattle.uefi_boot_variables.proofs.OrderLists.{gone, others_keep_order, others_stay}
 use Rattle.uefi_text.proofs.UnitBytes.{units_of_bytes-unit_bytes}
 
 -- what an order that is written keeps
@@ -61,20 +61,23 @@ itself false v w e = cc
 at_itself : (n : ℕ) (v : Option (List ℕ)) (now : Values) → values_after (record { variable = Entry n; value = v }) now (Entry n) ≡ v
 at_itself n v now = itself (eqb n n) v (now (Entry n)) (eq-eqb n n refl)
 
-front : (n other : ℕ) (xs : List ℕ) → other ≢ n → stands_in other (n ∷ without n xs) ≡ stands_in other xs
-front n other xs ne = ap (λ (b : Bool). b || stands_in other (without n xs)) (ne_eqb n other (λ e. ne (sym e))) ∙ others_stay other n xs (λ e. ne (sym e))
+-- an order with a number at an index has each other number that it had
+placed : (index n other : ℕ) (xs : List ℕ) → other ≢ n → stands_in other (with_at index n xs) ≡ stands_in other xs
+placed index n other xs ne =
+    sym (others_stay other n (with_at index n xs) (λ e. ne (sym e))) ∙ ap (stands_in other) (others_keep_order index n xs)
+    ∙ others_stay other n xs (λ e. ne (sym e))
 
 pub create : CreationIsSafe
-create n entry before =
+create index n entry before =
     let middle : Values = values_after (written (Entry n) entry) before in
     let there : middle (Entry n) ≡ Some entry = at_itself n (Some entry) before in (
       (keeps n before, inl refl),
       (
         (keeps-entry n (Some entry) before before (keeps n before), inr there),
         (
-          keeps-order n (n ∷ without n (order_in before)) before middle (keeps-entry n (Some entry) before before (keeps n before))
-              (λ other ne. front n other (order_in before) ne),
-          inr there,
+          keeps-order n (with_at index n (order_in before)) before middle (keeps-entry n (Some entry) before before (keeps n before))
+              (λ other ne. placed index n other (order_in before) ne),
+          inr (entry_after (with_at index n (order_in before)) middle n ∙ there),
         ),
       ),
     )
@@ -122,7 +125,10 @@ order numbers before = (((λ n. refl), inl refl), ((λ n. entry_after numbers be
 pub first : FirstIsSafe
 first n before = (
   (keeps n before, refl),
-  (keeps-order n (n ∷ without n (order_in before)) before before (keeps n before) (λ other ne. front n other (order_in before) ne), refl),
+  (
+    keeps-order n (with_at 0 n (order_in before)) before before (keeps n before) (λ other ne. placed 0 n other (order_in before) ne),
+    entry_after (with_at 0 n (order_in before)) before n,
+  ),
 )
 
 pub edit : EditIsSafe

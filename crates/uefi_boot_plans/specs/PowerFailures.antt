@@ -4,7 +4,7 @@ use Rattle.uefi_boot_variables.specs.Orders.{stands_in, with_at, without}
 use Rattle.uefi_boot_plans.specs.Plans.{Change, deleted, is_next, ordered, written}
 use Rattle.uefi_boot_plans.specs.declared.plan.Variable.{Variable}
 use Rattle.uefi_boot_plans.specs.declared.plan.Variable.TheVariants.{Entry, Next, Order, Timeout}
-use Rattle.uefi_text.specs.UnitBytes.{unit_bytes, units_of_bytes}
+use Rattle.uefi_text.specs.UnitBytes.{units_of_bytes}
 
 -- the value of each variable, if it is set
 abbrev pub Values : Type 0
@@ -42,13 +42,12 @@ KeepsOthers number before now = (other : ℕ) → other ≢ number
     → (now (Entry other) ≡ before (Entry other))
     × (stands_in other (order_in now) ≡ stands_in other (order_in before))
 
--- an order names a new entry only once that is there
+-- an order names a new entry only once that is there, at whichever index
 abbrev pub CreationIsSafe : Type 0
-CreationIsSafe = (number : ℕ) (entry : List ℕ) (before : Values)
+CreationIsSafe = (index number : ℕ) (entry : List ℕ) (before : Values)
     → Throughout (λ now. KeepsOthers number before now
     × ((now Order ≡ before Order) ⊎ (now (Entry number) ≡ Some entry)))
-    (written (Entry number) entry ∷ written Order (unit_bytes (with_at 0 number (order_in before))) ∷ [])
-    before
+    (written (Entry number) entry ∷ ordered (with_at index number (order_in before)) ∷ []) before
 
 -- an entry is there as long as the order names it
 abbrev pub DeletionIsSafe : Type 0
@@ -77,7 +76,7 @@ OrderIsSafe = (numbers : List ℕ) (before : Values)
 abbrev pub FirstIsSafe : Type 0
 FirstIsSafe = (number : ℕ) (before : Values)
     → Throughout (λ now. KeepsOthers number before now × (now (Entry number) ≡ before (Entry number)))
-    (written Order (unit_bytes (with_at 0 number (order_in before))) ∷ []) before
+    (ordered (with_at 0 number (order_in before)) ∷ []) before
 
 -- the entry is the old one or the new one, and everything else stays
 abbrev pub EditIsSafe : Type 0

@@ -5,8 +5,8 @@ ghost use Rattle.uefi_boot_plans.specs.PowerFailures.{CreationIsSafe, DeletionIs
 /// What the variables hold if the power fails before, between or after the writes of a plan: each
 /// entry that the plan does not change is there, and is in the order unless the plan removes it.
 /// Only the plan of [`delete_on_full`](crate::delete_on_full) leaves an order that names the deleted
-/// entry, which firmware skips. `edit` speaks of [`set_active`](crate::set_active) and
-/// [`rename`](crate::rename).
+/// entry, which firmware skips. `edit` speaks of [`set_active`](crate::set_active),
+/// [`rename`](crate::rename) and [`create_unlisted`](crate::create_unlisted).
 pub fn power_failures()
     ensures create { CreationIsSafe }
     ensures delete { DeletionIsSafe }

@@ -18,6 +18,7 @@ pub mod plan;
 
 pub use entries::{rename, set_active};
 pub use orders::{
-    clear_next, create, delete, delete_on_full, first, free_number, next, order, timeout,
+    clear, create, create_unlisted, delete, delete_on_full, first, free_number, next, order,
+    timeout,
 };
 pub use plan::{PlanError, Step, Variable};

@@ -48,14 +48,15 @@ pub fn free_number(used: &[u16]) -> Option<u16>
     None
 }
 
-/// Returns the bytes of an order with a number at the front, and nowhere else.
-fn with_first<A: Allocator + Copy>(
+/// Returns the step that writes the order with a number at an index, and nowhere else.
+fn placed<A: Allocator + Copy>(
     alloc: A,
     order: &[u8],
+    index: usize,
     number: u16,
-) -> Result<Vec<u8, A>, PlanError>
-    ensures ok { IfOk result (λ bytes. bytes.items
-        ≡ unit_bytes (with_at 0 number (units_of_bytes order.now))) }
+) -> Result<Step<A>, PlanError>
+    ensures ok { IfOk result (λ step. change_of step
+        ≡ ordered (with_at index number (units_of_bytes order.now))) }
     ensures odd { (result ≡ Err PlanError.MalformedOrder) ↔ (length order.now % 2 ≡ 1) }
     ensures memory { IfErr result (λ error.
         error ≢ PlanError.MalformedOrder → error ≡ PlanError.OutOfMemory) }
@@ -63,18 +64,18 @@ fn with_first<A: Allocator + Copy>(
     let mut numbers = numbers_of(alloc, order)?;
     let len = numbers.len();
     numbers.push(number)?;
-    let len = put_first(numbers.as_mut_slice(), len, number);
-    Ok(bytes_of(alloc, &numbers.as_slice()[..len])?)
+    let len = put_at(numbers.as_mut_slice(), len, index, number);
+    Ok(order_step(alloc, &numbers.as_slice()[..len])?)
 }
 
-/// Puts a number at the front of an order that has room for it, and returns the new length of the
+/// Puts a number at an index of an order that has room for it, and returns the new length of the
 /// order.
-fn put_first(places: &mut [u16], len: usize, number: u16) -> usize
+fn put_at(places: &mut [u16], len: usize, index: usize, number: u16) -> usize
     requires { len < length places.old }
-    ensures len { result ≡ length (with_at 0 number (take len places.old)) }
-    ensures places { places.new ≡ over (with_at 0 number (take len places.old)) places.old }
+    ensures len { result ≡ length (with_at index number (take len places.old)) }
+    ensures places { places.new ≡ over (with_at index number (take len places.old)) places.old }
 {
-    order_edits::insert(places, len, 0, number).unwrap()
+    order_edits::insert(places, len, index, number).unwrap()
 }
 
 /// Returns the plan that removes a number from the order, which is empty if the order does not
@@ -110,31 +111,47 @@ fn order_step<A: Allocator + Copy>(alloc: A, numbers: &[u16]) -> Result<Step<A>,
     Ok(Step::write(Variable::Order, bytes_of(alloc, numbers)?))
 }
 
-/// Returns the plan that adds an entry at the front of the order: it writes the entry first, and
-/// then the order that names it.
+/// Returns the plan that adds an entry to the order: it writes the entry first, and then the order
+/// with the number at an index among the others. Index 0 is the front, and an index beyond the end
+/// is the end.
 ///
 /// If the number is in use, the plan replaces that entry: [`free_number`] returns one that is not. If
-/// the order names the number already, the number moves to the front.
+/// the order names the number already, the number moves to the index.
 ///
 /// Fails with `MalformedOrder` if the order has an odd number of bytes, and otherwise with
 /// `OutOfMemory` if memory runs out.
 pub fn create<A: Allocator + Copy>(
     alloc: A,
     order: &[u8],
+    index: usize,
     number: u16,
     entry: Vec<u8, A>,
 ) -> Result<Vec<Step<A>, A>, PlanError>
     ensures ok { IfOk result (λ plan. changes_of plan.items
         ≡ written (Variable.Entry number) entry.items
-        ∷ written Variable.Order (unit_bytes (with_at 0 number (units_of_bytes order.now))) ∷ []) }
+        ∷ ordered (with_at index number (units_of_bytes order.now)) ∷ []) }
     ensures malformed { (result ≡ Err PlanError.MalformedOrder) ↔ (length order.now % 2 ≡ 1) }
     ensures memory { IfErr result (λ error.
         error ≢ PlanError.MalformedOrder → error ≡ PlanError.OutOfMemory) }
 {
-    let order = with_first(alloc, order, number)?;
+    let order = placed(alloc, order, index, number)?;
     let mut plan = Step::write(Variable::Entry(number), entry).alone(alloc)?;
-    plan.push(Step::write(Variable::Order, order))?;
+    plan.push(order)?;
     Ok(plan)
+}
+
+/// Returns the plan that writes an entry and leaves the order as it is.
+///
+/// If the number is in use, the plan replaces that entry.
+pub fn create_unlisted<A: Allocator + Copy>(
+    alloc: A,
+    number: u16,
+    entry: Vec<u8, A>,
+) -> Result<Vec<Step<A>, A>, AllocError>
+    ensures { IfOk result (λ plan. changes_of plan.items
+        ≡ written (Variable.Entry number) entry.items ∷ []) }
+{
+    Step::write(Variable::Entry(number), entry).alone(alloc)
 }
 
 /// Returns the plan that moves an entry to the front of the order, or inserts it there.
@@ -146,13 +163,12 @@ pub fn first<A: Allocator + Copy>(
     number: u16,
 ) -> Result<Vec<Step<A>, A>, PlanError>
     ensures ok { IfOk result (λ plan. changes_of plan.items
-        ≡ written Variable.Order (unit_bytes (with_at 0 number (units_of_bytes order.now))) ∷ []) }
+        ≡ ordered (with_at 0 number (units_of_bytes order.now)) ∷ []) }
     ensures malformed { (result ≡ Err PlanError.MalformedOrder) ↔ (length order.now % 2 ≡ 1) }
     ensures memory { IfErr result (λ error.
         error ≢ PlanError.MalformedOrder → error ≡ PlanError.OutOfMemory) }
 {
-    let order = with_first(alloc, order, number)?;
-    Ok(Step::write(Variable::Order, order).alone(alloc)?)
+    Ok(placed(alloc, order, 0, number)?.alone(alloc)?)
 }
 
 /// Returns the plan that deletes an entry. If the order contains the entry, the plan first writes
@@ -227,11 +243,16 @@ pub fn next<A: Allocator + Copy>(alloc: A, number: u16) -> Result<Vec<Step<A>, A
     Step::write(Variable::Next, bytes_of(alloc, &[number])?).alone(alloc)
 }
 
-/// Returns the plan that makes the machine boot by its order again.
-pub fn clear_next<A: Allocator + Copy>(alloc: A) -> Result<Vec<Step<A>, A>, AllocError>
-    ensures { IfOk result (λ plan. changes_of plan.items ≡ deleted Variable.Next ∷ []) }
+/// Returns the plan that deletes a variable, so that firmware goes by its default: without
+/// `BootNext` the machine boots by its order, and without `Timeout` firmware chooses how long it
+/// waits.
+pub fn clear<A: Allocator + Copy>(
+    alloc: A,
+    variable: Variable,
+) -> Result<Vec<Step<A>, A>, AllocError>
+    ensures { IfOk result (λ plan. changes_of plan.items ≡ deleted variable ∷ []) }
 {
-    Step::delete(Variable::Next).alone(alloc)
+    Step::delete(variable).alone(alloc)
 }
 
 /// Returns the plan that makes the firmware wait for a number of seconds before it boots.
