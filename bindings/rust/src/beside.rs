@@ -1,6 +1,8 @@
 //! Compares the crate's own Rust code with the calls of the library that do the same, for all short texts of some characters.
 
 use crate::data_types::{CStr16, EqStrUntilNul};
+#[cfg(feature = "alloc")]
+use crate::fs::PathBuf;
 use crate::fs::{validate_path, Path};
 use crate::sys;
 use std::string::String;
@@ -40,7 +42,9 @@ fn each_text() {
         let path = Path::new(string);
         assert_eq!(string.is_ascii(), sys::nard_string_is_ascii(units));
         assert_eq!(string, &**text);
-        let parts = path.components().map(crate::data_types::strs::units_of);
+        let parts = path
+            .components()
+            .map(|it| crate::data_types::strs::units_of(it.as_slice()));
         assert_eq!(
             parts.collect::<Vec<_>>(),
             components(string.to_u16_slice()),
@@ -51,6 +55,16 @@ fn each_text() {
         assert_eq!(back, path.iter().collect::<Vec<_>>(), "{text}");
         assert_eq!(path.validate().is_ok(), validate_path(path).is_ok());
     }
+}
+
+#[cfg(feature = "alloc")]
+#[test]
+fn a_failed_push_changes_nothing() {
+    // No safe call makes such a string.
+    let wrong = Path::new(CStr16::of(&[0xd800, 0]));
+    let mut path: PathBuf = "a".parse().unwrap();
+    let pushed = std::panic::catch_unwind(std::panic::AssertUnwindSafe(|| path.push(wrong)));
+    assert!(pushed.is_err() && path.to_cstr16().to_u16_slice_with_nul() == [0x61, 0]);
 }
 
 #[test]

@@ -9,7 +9,15 @@ use core::ops::Deref;
 use core::str::FromStr;
 
 /// The kind of load options that a name is for.
+///
+/// ```
+/// use nardcorbel::{LoadOptionKind, LoadOptionName};
+///
+/// let name = LoadOptionName { kind: LoadOptionKind::Driver, number: 1 };
+/// assert_eq!(name.to_string(), "Driver0001");
+/// ```
 #[derive(Clone, Copy, Debug, PartialEq, Eq, PartialOrd, Ord, Hash)]
+#[non_exhaustive]
 pub enum LoadOptionKind {
     /// `Boot####`.
     Boot,
@@ -46,6 +54,14 @@ const NAME_ROOM: usize = 21;
 impl LoadOptionName {
     /// Reads a name. Fails if the string is not a name: a word and four upper-case hexadecimal
     /// digits.
+    ///
+    /// ```
+    /// use nardcorbel::{cstr16, LoadOptionName};
+    ///
+    /// assert_eq!(LoadOptionName::from_cstr16(cstr16!("Boot001F"))?.number, 0x1f);
+    /// assert!(LoadOptionName::from_cstr16(cstr16!("BootOrder")).is_err());
+    /// # Ok::<(), nardcorbel::Error>(())
+    /// ```
     pub fn from_cstr16(string: &CStr16) -> Result<Self, Error> {
         let (mut kind, mut number) = (0, 0);
         check(
@@ -62,6 +78,14 @@ impl LoadOptionName {
     }
 
     /// Writes the name and a NUL to the start of a buffer, and returns the string. It has at most 20 characters.
+    ///
+    /// ```
+    /// use nardcorbel::LoadOptionName;
+    ///
+    /// let name: LoadOptionName = "Boot001F".parse()?;
+    /// assert_eq!(name.to_cstr16_in_buf(&mut [0; 21])?, "Boot001F");
+    /// # Ok::<(), nardcorbel::Error>(())
+    /// ```
     pub fn to_cstr16_in_buf(self, buffer: &mut [u16]) -> Result<&CStr16, Error> {
         let kind = match self.kind {
             LoadOptionKind::Boot => sys::BOOT,
@@ -104,7 +128,7 @@ impl fmt::Display for LoadOptionName {
 /// use nardcorbel::order_numbers;
 ///
 /// assert!(order_numbers(&[3, 0, 0x1f, 0])?.eq([3, 0x1f]));
-/// assert_eq!(order_numbers(&[3]).unwrap_err().to_string(), "odd number of bytes, at 1");
+/// assert_eq!(order_numbers(&[3]).unwrap_err().to_string(), "odd number of bytes at offset 1");
 /// # Ok::<(), nardcorbel::Error>(())
 /// ```
 pub fn order_numbers(bytes: &[u8]) -> Result<OrderNumbers<'_>, Error> {
@@ -116,6 +140,14 @@ pub fn order_numbers(bytes: &[u8]) -> Result<OrderNumbers<'_>, Error> {
 }
 
 /// Iterates over the numbers of an order.
+///
+/// ```
+/// use nardcorbel::order_numbers;
+///
+/// let numbers = order_numbers(&[3, 0, 1, 0])?;
+/// assert_eq!((numbers.len(), numbers.max()), (2, Some(3)));
+/// # Ok::<(), nardcorbel::Error>(())
+/// ```
 #[derive(Clone, Debug)]
 pub struct OrderNumbers<'a> {
     bytes: &'a [u8],
@@ -163,6 +195,12 @@ pub struct OrderBuffer<'a> {
 
 impl<'a> OrderBuffer<'a> {
     /// Creates an empty order in a buffer.
+    ///
+    /// ```
+    /// use nardcorbel::OrderBuffer;
+    ///
+    /// assert!(OrderBuffer::new(&mut [0; 4]).is_empty());
+    /// ```
     #[must_use]
     pub fn new(places: &'a mut [u16]) -> Self {
         Self { places, count: 0 }
@@ -172,6 +210,15 @@ impl<'a> OrderBuffer<'a> {
     /// only the first is kept.
     ///
     /// Fails if the number of bytes is odd, or if the buffer has too few places. The buffer is then unchanged.
+    ///
+    /// ```
+    /// use nardcorbel::OrderBuffer;
+    ///
+    /// let mut places = [0; 4];
+    /// let order = OrderBuffer::from_order(&mut places, &[3, 0, 1, 0, 3, 0])?;
+    /// assert_eq!(order.as_slice(), [3, 1]);
+    /// # Ok::<(), nardcorbel::Error>(())
+    /// ```
     pub fn from_order(places: &'a mut [u16], bytes: &[u8]) -> Result<Self, Error> {
         let all = order_numbers(bytes)?;
         let is_new =
@@ -190,6 +237,16 @@ impl<'a> OrderBuffer<'a> {
     }
 
     /// Returns the numbers in order.
+    ///
+    /// ```
+    /// use nardcorbel::OrderBuffer;
+    ///
+    /// let mut places = [0; 4];
+    /// let mut order = OrderBuffer::new(&mut places);
+    /// order.push(7)?;
+    /// assert_eq!(order.as_slice(), [7]);
+    /// # Ok::<(), nardcorbel::Error>(())
+    /// ```
     #[must_use]
     pub fn as_slice(&self) -> &[u16] {
         &self.places[..self.count]
@@ -198,6 +255,16 @@ impl<'a> OrderBuffer<'a> {
     /// Adds a number at the end, or moves it there if the order contains it.
     ///
     /// Fails if the number is new and the buffer has no room. The order is then unchanged.
+    ///
+    /// ```
+    /// use nardcorbel::OrderBuffer;
+    ///
+    /// let mut places = [0; 4];
+    /// let mut order = OrderBuffer::from_order(&mut places, &[3, 0, 1, 0])?;
+    /// order.push(3)?;
+    /// assert_eq!(order.as_slice(), [1, 3]);
+    /// # Ok::<(), nardcorbel::Error>(())
+    /// ```
     pub fn push(&mut self, number: u16) -> Result<(), Error> {
         self.insert(self.count, number)
     }
@@ -214,7 +281,7 @@ impl<'a> OrderBuffer<'a> {
     /// order.insert(0, 7)?;
     /// order.insert(0, 9)?;
     /// assert_eq!(order.as_slice(), [9, 7]);
-    /// assert_eq!(order.push(5).unwrap_err().to_string(), "buffer too small: it needs room for 3");
+    /// assert_eq!(order.push(5).unwrap_err().to_string(), "buffer too small: 3 elements are needed");
     /// # Ok::<(), nardcorbel::Error>(())
     /// ```
     pub fn insert(&mut self, place: usize, number: u16) -> Result<(), Error> {
@@ -224,16 +291,44 @@ impl<'a> OrderBuffer<'a> {
     }
 
     /// Removes a number, and returns whether it was in the order.
+    ///
+    /// ```
+    /// use nardcorbel::OrderBuffer;
+    ///
+    /// let mut places = [0; 4];
+    /// let mut order = OrderBuffer::from_order(&mut places, &[3, 0, 1, 0])?;
+    /// assert!(order.remove(3) && !order.remove(3));
+    /// # Ok::<(), nardcorbel::Error>(())
+    /// ```
     pub fn remove(&mut self, number: u16) -> bool {
         sys::nard_boot_order_remove(self.places, &mut self.count, number)
     }
 
     /// Moves a number to the front, and returns whether it was in the order.
+    ///
+    /// ```
+    /// use nardcorbel::OrderBuffer;
+    ///
+    /// let mut places = [0; 4];
+    /// let mut order = OrderBuffer::from_order(&mut places, &[3, 0, 1, 0])?;
+    /// assert!(order.move_to_front(1));
+    /// assert_eq!(order.as_slice(), [1, 3]);
+    /// # Ok::<(), nardcorbel::Error>(())
+    /// ```
     pub fn move_to_front(&mut self, number: u16) -> bool {
         sys::nard_boot_order_move_to_front(self.places, &mut self.count, number)
     }
 
     /// Returns the bytes of the order, in the form of a variable's value.
+    ///
+    /// ```
+    /// use nardcorbel::OrderBuffer;
+    ///
+    /// let mut places = [0; 4];
+    /// let order = OrderBuffer::from_order(&mut places, &[3, 0, 1, 0])?;
+    /// assert!(order.to_le_bytes().eq([3, 0, 1, 0]));
+    /// # Ok::<(), nardcorbel::Error>(())
+    /// ```
     pub fn to_le_bytes(&self) -> impl Iterator<Item = u8> + '_ {
         self.iter().flat_map(|it| it.to_le_bytes())
     }

@@ -10,9 +10,10 @@ use core::fmt;
 ///
 /// let error = "a\\😀".parse::<PathBuf>().unwrap_err();
 /// assert_eq!((error.reason, error.place, error.character), (Reason::InvalidChar, 2, Some('😀')));
-/// assert_eq!(error.to_string(), "invalid character, '😀' (U+1F600), at 2");
+/// assert_eq!(error.to_string(), "invalid character at index 2: '😀'");
 /// ```
 #[derive(Clone, Copy, Debug, PartialEq, Eq)]
+#[non_exhaustive]
 pub struct Error {
     /// What is wrong.
     pub reason: Reason,
@@ -60,6 +61,13 @@ impl Error {
 macro_rules! reasons {
     ($($name:ident = $number:ident, $text:literal;)*) => {
         /// What is wrong with an input.
+        ///
+        /// ```
+        /// use nardcorbel::{DevicePath, Reason};
+        ///
+        /// let error = DevicePath::from_bytes(&[1, 1, 6, 0]).unwrap_err();
+        /// assert_eq!(error.reason, Reason::NodeBeyondEnd);
+        /// ```
         #[derive(Clone, Copy, Debug, PartialEq, Eq)]
         #[non_exhaustive]
         pub enum Reason {
@@ -130,18 +138,39 @@ reasons! {
 impl fmt::Display for Error {
     fn fmt(&self, f: &mut fmt::Formatter<'_>) -> fmt::Result {
         self.reason.fmt(f)?;
-        if let Some(character) = self.character {
-            write!(f, ", {character:?} (U+{:04X})", u32::from(character))?;
-        }
-        match self.reason {
-            Reason::BufferTooSmall => write!(f, ": it needs room for {}", self.place),
-            Reason::PathEmpty
-            | Reason::NoParent
-            | Reason::NodeOfEnd
-            | Reason::NodeTooLong
-            | Reason::ListTooLong
-            | Reason::NotAName => Ok(()),
-            _ => write!(f, ", at {}", self.place),
+        match (self.reason, self.character) {
+            (Reason::IllegalChar, Some(it)) => {
+                write!(
+                    f,
+                    " (value {}) at index {}: {it:?}",
+                    u32::from(it),
+                    self.place
+                )
+            }
+            (Reason::InvalidChar, Some(it)) => write!(f, " at index {}: {it:?}", self.place),
+            (Reason::BufferTooSmall, _) => write!(f, ": {} elements are needed", self.place),
+            (
+                Reason::InvalidChar
+                | Reason::InteriorNul
+                | Reason::EmptyComponent
+                | Reason::IllegalChar
+                | Reason::ClimbsAboveRoot,
+                _,
+            ) => write!(f, " at index {}", self.place),
+            (
+                Reason::NoNul
+                | Reason::PathEmpty
+                | Reason::NoParent
+                | Reason::NameEmpty
+                | Reason::NameTooLong
+                | Reason::NodeOfEnd
+                | Reason::NodeTooLong
+                | Reason::ListTooLong
+                | Reason::NotAName
+                | Reason::NoField,
+                _,
+            ) => Ok(()),
+            _ => write!(f, " at offset {}", self.place),
         }
     }
 }

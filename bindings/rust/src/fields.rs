@@ -159,6 +159,7 @@ pub const CD_ROM_PARTITION_SIZE: (usize, usize) = (12, 8);
 pub const MEDIA_VENDOR: (u8, u8) = (4, 3);
 pub const MEDIA_VENDOR_VENDOR_GUID: (usize, usize) = (0, 16);
 pub const MEDIA_VENDOR_VENDOR_DEFINED_DATA: (usize, usize) = (16, 0);
+pub const FILE_PATH: (u8, u8) = (4, 4);
 pub const PROTOCOL: (u8, u8) = (4, 5);
 pub const PROTOCOL_PROTOCOL_GUID: (usize, usize) = (0, 16);
 pub const FIRMWARE_FILE: (u8, u8) = (4, 6);

@@ -9,6 +9,9 @@ extern crate std;
 
 #[cfg(test)]
 mod beside;
+#[cfg(doctest)]
+#[doc = include_str!("../tests/misuses.md")]
+mod misuses {}
 mod boot_variables;
 pub mod data_types;
 mod error;
@@ -20,6 +23,8 @@ pub mod proto;
 #[allow(missing_docs)]
 #[rustfmt::skip]
 mod sys;
+#[cfg(feature = "uefi")]
+pub mod with_uefi;
 
 pub use boot_variables::{
     order_numbers, LoadOptionKind, LoadOptionName, OrderBuffer, OrderNumbers,

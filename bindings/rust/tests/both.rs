@@ -227,17 +227,42 @@ fn strings_of_bytes() {
 
 #[test]
 fn strings_in_buffers() {
-    let mut buffer = [0; 4];
-    for (text, wanted) in [
-        ("ABC", Ok(&[65, 66, 67, 0][..])),
-        ("A", Ok(&[65, 0])),
-        ("ABCD", Err(FromStrWithBufError::BufferTooSmall)),
-        ("a😀", Err(FromStrWithBufError::InvalidChar(1))),
-        ("a\0b", Err(FromStrWithBufError::InteriorNul(1))),
+    for (text, wanted, after) in [
+        ("ABC", Ok(&[65, 66, 67, 0][..]), [65, 66, 67, 0]),
+        ("A", Ok(&[65, 0]), [65, 0, 9, 9]),
+        (
+            "ABCD",
+            Err(FromStrWithBufError::BufferTooSmall),
+            [65, 66, 67, 68],
+        ),
+        (
+            "ab\0😀",
+            Err(FromStrWithBufError::BufferTooSmall),
+            [97, 98, 0, 0xd83d],
+        ),
+        (
+            "a😀",
+            Err(FromStrWithBufError::InvalidChar(1)),
+            [97, 0xd83d, 0xde00, 0],
+        ),
+        (
+            "a\0b",
+            Err(FromStrWithBufError::InteriorNul(1)),
+            [97, 0, 98, 0],
+        ),
     ] {
+        let mut buffer = [9; 4];
         let found = CStr16::from_str_with_buf(text, &mut buffer);
         assert_eq!(found.map(|it| it.to_u16_slice_with_nul()), wanted);
+        assert_eq!(buffer, after);
     }
+}
+
+#[test]
+fn widths() {
+    let (latin, string) = (cstr8!("ab"), cstr16!("é"));
+    assert_eq!(format!("{latin:<3}|{string:->3}|"), "a  b  |--é|");
+    assert_eq!(format!("{:^3.0}|", path_of("a")), "   |");
 }
 
 #[test]
@@ -473,17 +498,65 @@ fn names_of_paths() {
 
 #[test]
 fn errors_are_errors() {
-    let errors: [&dyn std::error::Error; 7] = [
-        &CharConversionError,
-        &FromSliceUntilNulError::InvalidChar(7),
-        &FromSliceWithNulError::InteriorNul(7),
-        &FromStrError::InvalidChar,
-        &FromStrWithBufError::InteriorNul(7),
-        &UnalignedCStr16Error::InvalidChar(7),
-        &PathError::IllegalChar(char16!('7')),
+    let (place, nul) = ("at index 7", "interior null character");
+    let errors: [(&dyn std::error::Error, String); 16] = [
+        (&CharConversionError, "CharConversionError".into()),
+        (
+            &FromSliceUntilNulError::InvalidChar(7),
+            format!("invalid character {place}"),
+        ),
+        (&FromSliceUntilNulError::NoNul, "no nul character".into()),
+        (
+            &FromSliceWithNulError::InvalidChar(7),
+            format!("invalid character {place}"),
+        ),
+        (
+            &FromSliceWithNulError::InteriorNul(7),
+            format!("{nul} {place}"),
+        ),
+        (
+            &FromSliceWithNulError::NotNulTerminated,
+            "not null-terminated".into(),
+        ),
+        (
+            &FromSliceWithNulError::NotAligned,
+            "slice is not aligned to a 16-bit boundary".into(),
+        ),
+        (
+            &UnalignedCStr16Error::InteriorNul(7),
+            format!("{nul} {place}"),
+        ),
+        (
+            &UnalignedCStr16Error::BufferTooSmall,
+            "buffer too small".into(),
+        ),
+        (
+            &FromStrWithBufError::InteriorNul(7),
+            format!("{nul} {place}"),
+        ),
+        (
+            &FromStrWithBufError::BufferTooSmall,
+            "buffer too small".into(),
+        ),
+        (
+            &FromStrError::InvalidChar,
+            "UCS-2 Conversion Error: Invalid character".into(),
+        ),
+        (
+            &FromStrError::InteriorNul,
+            "UCS-2 Conversion Error: Interior null terminator".into(),
+        ),
+        (&PathError::Empty, "path is empty".into()),
+        (
+            &PathError::EmptyComponent,
+            "path contains an empty component".into(),
+        ),
+        (
+            &PathError::IllegalChar(char16!('7')),
+            "path contains an illegal character (value 55)".into(),
+        ),
     ];
-    assert!(errors.iter().all(|it| !it.to_string().is_empty()));
-    assert!([1, 2, 4, 5]
-        .iter()
-        .all(|it| errors[*it].to_string().contains('7')));
+    for (error, text) in errors {
+        assert_eq!(error.to_string(), text);
+    }
 }

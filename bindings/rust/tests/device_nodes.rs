@@ -57,7 +57,7 @@ fn again(node: &DevicePathNode) -> Box<DevicePath> {
         HardwareController hardware::Controller { controller_number }
         HardwareBmc hardware::Bmc { interface_type base_address }
         AcpiAcpi acpi::Acpi { hid uid }
-        AcpiExpanded acpi::Expanded { hid uid cid id_strings }
+        AcpiExpanded acpi::Expanded { hid uid cid hid_str uid_str cid_str }
         AcpiAdr acpi::Adr { adr: copied }
         AcpiNvdimm acpi::Nvdimm { nfit_device_handle }
         MessagingAtapi messaging::Atapi { primary_secondary master_slave logical_unit_number }
@@ -132,13 +132,11 @@ fn each(rows: &[Row<'_>]) {
     for (node, hexadecimal, text) in rows {
         let path = path_of(*node).unwrap();
         let mut wanted = bytes(hexadecimal);
-        let read = <&DevicePathNode>::try_from(&wanted[..])
-            .unwrap()
-            .to_string();
+        let read = format!("{}", <&DevicePathNode>::try_from(&wanted[..]).unwrap());
         wanted.extend([0x7f, 0xff, 4, 0]);
         assert_eq!(path.as_bytes(), wanted, "{text}");
         assert_eq!(
-            (path.to_string(), read),
+            (format!("{path}"), read),
             (text.to_string(), text.to_string())
         );
         let node = path.node_iter().next().unwrap();
@@ -209,7 +207,9 @@ fn hardware_and_acpi() {
                 hid: 0x0a0841d0,
                 uid: 0x10,
                 cid: 0x0a0341d0,
-                id_strings: b"ACPI0004\0U1\0C\0",
+                hid_str: b"ACPI0004",
+                uid_str: b"U1\0",
+                cid_str: b"C\0U",
             },
             "02021e00d041080a10000000d041030a4143504930303034005531004300",
             "AcpiEx(PNP0A08,PNP0A03,0x10,ACPI0004,C,U1)",

@@ -2,8 +2,9 @@
 #![cfg(feature = "alloc")]
 
 use nardcorbel::proto::device_path::{
-    build, end, hardware, AllowShortcuts, BuildError, BuildNode, DevicePath, DevicePathNode,
-    DeviceSubType, DeviceType, DisplayOnly, LoadOption, NodeConversionError,
+    build, end, hardware, AllowShortcuts, BuildError, BuildNode, DevicePath, DevicePathHeader,
+    DevicePathInstance, DevicePathNode, DeviceSubType, DeviceType, DisplayOnly, LoadOption,
+    NodeConversionError,
 };
 use nardcorbel::{cstr16, fields, guid, Error, Guid, Reason};
 
@@ -47,7 +48,7 @@ fn nodes() {
     );
     assert_eq!(
         <&hardware::Bmc>::try_from(node).err(),
-        Some(NodeConversionError::UnsupportedType)
+        Some(NodeConversionError::DifferentType)
     );
     let short = <&DevicePathNode>::try_from(&[1, 1, 5, 0, 2][..]).unwrap();
     assert_eq!(short.as_enum(), Err(NodeConversionError::InvalidLength));
@@ -71,7 +72,7 @@ fn nodes() {
 fn paths() -> Result<(), Error> {
     let path = <&DevicePath>::try_from(&[PATH, &[9]].concat()[..])?.to_owned();
     assert_eq!((path.as_bytes(), path.clone()), (PATH, path.to_boxed()));
-    assert_eq!(path.to_string(), r"Pci(0x1F,0x2)/\a");
+    assert_eq!(format!("{path}"), r"Pci(0x1F,0x2)/\a");
     assert_eq!(
         path.to_text(DisplayOnly(true), AllowShortcuts(true)),
         r"Pci(0x1F,0x2)/\a"
@@ -94,7 +95,7 @@ fn paths() -> Result<(), Error> {
     for limit in 0..=PATH.len() {
         let bytes = PATH[..limit].to_vec();
         // SAFETY: `limit` bytes can be read.
-        let found = unsafe { DevicePath::try_from_ffi_ptr(bytes.as_ptr(), limit) };
+        let found = unsafe { DevicePath::try_from_ffi_ptr(bytes.as_ptr().cast(), limit) };
         assert_eq!(found, DevicePath::from_bytes(&bytes));
     }
     let error = DevicePath::from_bytes(&PATH[..18]).unwrap_err();
@@ -116,14 +117,14 @@ fn instances() {
             .map(|it| it.to_string())
             .collect::<Vec<_>>()
             .join(","),
-        path.to_string()
+        format!("{path}")
     );
     assert_eq!(instances[0].into_iter().count(), 2);
     assert_eq!(instances.len(), 2);
     let texts = |index: usize| {
         instances[index]
             .node_iter()
-            .map(|it| it.to_string())
+            .map(|it| format!("{it}"))
             .collect::<Vec<_>>()
     };
     assert_eq!(
@@ -179,8 +180,8 @@ fn long_texts() {
         "VenHw(12345678-9ABC-DEF0-1234-56789ABCDEF0,{})",
         "AB".repeat(3000)
     );
-    assert_eq!(path.to_string(), wanted);
-    assert_eq!(path.node_iter().next().unwrap().to_string(), wanted);
+    assert_eq!(format!("{path}"), wanted);
+    assert_eq!(format!("{}", path.node_iter().next().unwrap()), wanted);
     assert_eq!(
         path.to_text(DisplayOnly(false), AllowShortcuts(false)),
         wanted
@@ -221,32 +222,107 @@ fn what_is_not_built() {
         .unwrap();
     assert_eq!(whole.finalize().map(|it| it.as_bytes().len()), Ok(16));
     let error = build::DevicePathBuilder::with_buf(&mut buffer)
-        .push_path(DevicePath::from_bytes(PATH).unwrap());
-    assert_eq!(
-        error.err(),
-        Some(Error {
-            reason: Reason::BufferTooSmall,
-            place: 20,
-            character: None
-        })
-    );
-    let end = <&DevicePathNode>::try_from(&PATH[16..]).unwrap();
+        .push_path(DevicePath::from_bytes(PATH).unwrap())
+        .unwrap_err();
+    assert_eq!((error.reason, error.place), (Reason::BufferTooSmall, 20));
     let vendor = build::hardware::Vendor {
         vendor_guid: GUID,
         vendor_defined_data: &[0; 0x10000],
     };
     let mut bytes = Vec::new();
-    for (node, error) in [
-        (&end as &dyn BuildNode, BuildError::EndNode),
-        (&vendor, BuildError::NodeTooBig),
+    for node in [
+        &vendor as &dyn BuildNode,
+        &Far(0x10000 - 5),
+        &Far(usize::MAX),
     ] {
-        assert_eq!(
-            build::DevicePathBuilder::with_vec(&mut bytes)
-                .push(node)
-                .err(),
-            Some(error)
-        );
+        let builder = build::DevicePathBuilder::with_vec(&mut bytes);
+        assert_eq!(builder.push(node).err(), Some(BuildError::NodeTooBig));
     }
+}
+
+#[test]
+fn texts_of_errors() {
+    for (error, text) in [
+        (
+            &NodeConversionError::DifferentType as &dyn std::error::Error,
+            "the node is of another type or sub-type",
+        ),
+        (
+            &NodeConversionError::InvalidLength,
+            "no node of this kind has this length",
+        ),
+        (
+            &NodeConversionError::UnsupportedType,
+            "no kind has this type and sub-type",
+        ),
+        (&BuildError::BufferTooSmall, "buffer too small"),
+        (
+            &BuildError::NodeTooBig,
+            "the node is longer than its header can state",
+        ),
+        (
+            &BuildError::EndNode,
+            "an end node may not stand before the end of a device path",
+        ),
+    ] {
+        assert_eq!(error.to_string(), text);
+    }
+}
+
+#[test]
+fn ends() {
+    // The builder adds the end of a path, and takes one that is pushed; nothing follows it.
+    let pci = build::hardware::Pci {
+        function: 2,
+        device: 0x1f,
+    };
+    let end = <&DevicePathNode>::try_from(&PATH[16..]).unwrap();
+    for node in [&build::end::Entire as &dyn BuildNode, &end] {
+        let mut bytes = Vec::new();
+        let builder = build::DevicePathBuilder::with_vec(&mut bytes);
+        let path = builder.push(&pci).unwrap().push(node).unwrap().finalize();
+        assert_eq!(
+            path.unwrap().as_bytes(),
+            [1, 1, 6, 0, 2, 0x1f, 0x7f, 0xff, 4, 0]
+        );
+        type Push = fn(build::DevicePathBuilder<'_>) -> Option<BuildError>;
+        let pushes: [Push; 2] = [
+            |it| it.push(&build::end::Instance).err(),
+            |it| it.push(&build::end::Entire).err(),
+        ];
+        for push in pushes {
+            let builder = build::DevicePathBuilder::with_vec(&mut bytes);
+            assert_eq!(push(builder.push(node).unwrap()), Some(BuildError::EndNode));
+        }
+        let builder = build::DevicePathBuilder::with_vec(&mut bytes);
+        let error = builder.push(node).unwrap().push_text("Pci(0x0,0x0)");
+        assert_eq!(error.unwrap_err().reason, Reason::NodeOfEnd);
+    }
+}
+
+#[test]
+fn pointers_of_firmware() {
+    let path = DevicePath::from_bytes(PATH).unwrap();
+    // SAFETY: the pointers are those of whole nodes, and of a path.
+    let (whole, node) = unsafe {
+        let start = path.as_ffi_ptr();
+        (
+            DevicePath::from_ffi_ptr(start),
+            DevicePathNode::from_ffi_ptr(start),
+        )
+    };
+    assert_eq!((whole, node.as_bytes()), (path, &PATH[..6]));
+    assert_eq!(node.as_ffi_ptr(), path.as_ffi_ptr());
+    let header = <&DevicePathHeader>::try_from(PATH).unwrap();
+    assert_eq!((header.device_type, header.sub_type), node.full_type());
+    assert_eq!({ header.length }, 6);
+    assert!(<&DevicePathHeader>::try_from(&PATH[..3]).is_err());
+    let copies: Vec<Box<DevicePathInstance>> =
+        path.instance_iter().map(|it| it.to_boxed()).collect();
+    assert_eq!(copies[0].as_bytes(), PATH);
+    assert_eq!(copies.clone(), copies);
+    let instance: &DevicePathInstance = &copies[0];
+    assert_eq!(*instance.to_owned(), *instance);
 }
 
 #[test]
@@ -301,7 +377,7 @@ fn load_options() -> Result<(), Error> {
     assert!(option.description_chars().eq(['d']) && option.description_units().eq([0x64]));
     assert!(option.device_paths().eq([entry.device_path]));
     let error = LoadOption::from_bytes(&bytes[..9]).unwrap_err();
-    assert_eq!(error.to_string(), "no NUL ends the description, at 8");
+    assert_eq!(error.to_string(), "no NUL ends the description at offset 8");
 
     // A pair of surrogates, a surrogate without a partner, and ESC.
     let units = [0xd83d, 0xde00, 0xd800, 0x1b, 0x62, 0];
@@ -314,4 +390,17 @@ fn load_options() -> Result<(), Error> {
     );
     assert_eq!(shown.description().to_string(), "\u{1f600}\u{fffd}\\u{1b}b");
     Ok(())
+}
+
+/// A node whose last byte is far from its header.
+struct Far(usize);
+
+impl BuildNode for Far {
+    fn full_type(&self) -> (DeviceType, DeviceSubType) {
+        (DeviceType::HARDWARE, DeviceSubType(0x28))
+    }
+
+    fn parts(&self, write: &mut dyn FnMut(usize, &[u8])) {
+        write(self.0, &[1]);
+    }
 }

@@ -45,9 +45,9 @@ fn texts_of_any_length() -> Result<(), Error> {
         .finalize()?;
     let node = long("78563412BC9AF0DE123456789ABCDEF0", &"AB".repeat(600));
     assert_eq!(
-        path.to_string(),
+        format!("{path}"),
         format!("Pci(0x1F,0x2)/{node},Pci(0x1F,0x2)")
     );
-    assert_eq!(path.node_iter().nth(1).unwrap().to_string(), node);
+    assert_eq!(format!("{}", path.node_iter().nth(1).unwrap()), node);
     Ok(())
 }

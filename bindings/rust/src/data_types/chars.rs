@@ -3,12 +3,18 @@
 use core::fmt;
 
 /// The character cannot be represented in the type that was asked for.
+///
+/// ```
+/// use nardcorbel::data_types::{Char8, CharConversionError};
+///
+/// assert_eq!(Char8::try_from('€'), Err(CharConversionError));
+/// ```
 #[derive(Clone, Copy, Debug, PartialEq, Eq)]
 pub struct CharConversionError;
 
 impl fmt::Display for CharConversionError {
     fn fmt(&self, f: &mut fmt::Formatter<'_>) -> fmt::Result {
-        f.write_str("the character cannot be represented")
+        f.write_str("CharConversionError")
     }
 }
 
@@ -28,6 +34,12 @@ impl core::error::Error for CharConversionError {}
 pub struct Char8(u8);
 
 /// The character that ends a string of Latin-1.
+///
+/// ```
+/// use nardcorbel::data_types::{Char8, NUL_8};
+///
+/// assert_eq!(NUL_8, Char8::from(0));
+/// ```
 pub const NUL_8: Char8 = Char8(0);
 
 impl TryFrom<char> for Char8 {
@@ -72,6 +84,12 @@ impl From<Char8> for char {
 pub struct Char16(u16);
 
 /// The character that ends a string of UCS-2.
+///
+/// ```
+/// use nardcorbel::{cstr16, data_types::NUL_16};
+///
+/// assert_eq!(cstr16!("a").as_slice_with_nul().last(), Some(&NUL_16));
+/// ```
 pub const NUL_16: Char16 = Char16(0);
 
 impl Char16 {
@@ -98,12 +116,25 @@ impl Char16 {
     /// # Safety
     ///
     /// The unit is no surrogate.
+    ///
+    /// ```
+    /// use nardcorbel::Char16;
+    ///
+    /// // SAFETY: 0x61 is no surrogate.
+    /// assert_eq!(unsafe { Char16::from_u16_unchecked(0x61) }, 'a');
+    /// ```
     #[must_use]
     pub const unsafe fn from_u16_unchecked(unit: u16) -> Self {
         Self(unit)
     }
 
     /// Returns whether the character is ASCII.
+    ///
+    /// ```
+    /// use nardcorbel::char16;
+    ///
+    /// assert!(char16!('a').is_ascii() && !char16!('é').is_ascii());
+    /// ```
     #[must_use]
     pub const fn is_ascii(&self) -> bool {
         self.0 < 0x80

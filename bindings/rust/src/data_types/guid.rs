@@ -26,18 +26,51 @@ impl Guid {
     pub const ZERO: Self = Self([0; 16]);
 
     /// Creates an identifier from the bytes that firmware stores.
+    ///
+    /// ```
+    /// use nardcorbel::Guid;
+    ///
+    /// let guid = Guid::from_bytes([0, 1, 2, 3, 4, 5, 6, 7, 8, 9, 10, 11, 12, 13, 14, 15]);
+    /// assert_eq!(guid.to_string(), "03020100-0504-0706-0809-0a0b0c0d0e0f");
+    /// ```
     #[must_use]
     pub const fn from_bytes(bytes: [u8; 16]) -> Self {
         Self(bytes)
     }
 
     /// Returns the bytes that firmware stores.
+    ///
+    /// ```
+    /// use nardcorbel::guid;
+    ///
+    /// let guid = guid!("03020100-0504-0706-0809-0a0b0c0d0e0f");
+    /// assert_eq!(guid.to_bytes()[..4], [0, 1, 2, 3]);
+    /// ```
     #[must_use]
     pub const fn to_bytes(self) -> [u8; 16] {
         self.0
     }
 
+    /// Returns whether all bytes are zero.
+    ///
+    /// ```
+    /// use nardcorbel::Guid;
+    ///
+    /// assert!(Guid::ZERO.is_zero());
+    /// ```
+    #[must_use]
+    pub const fn is_zero(self) -> bool {
+        u128::from_le_bytes(self.0) == 0
+    }
+
     /// Reads a text of 36 characters. Fails with the offset of the first wrong byte.
+    ///
+    /// ```
+    /// use nardcorbel::Guid;
+    ///
+    /// assert!(Guid::try_parse("03020100-0504-0706-0809-0a0b0c0d0e0f").is_ok());
+    /// assert_eq!(Guid::try_parse("03020100_").unwrap_err().to_string(), "not a GUID at offset 8");
+    /// ```
     pub const fn try_parse(text: &str) -> Result<Self, Error> {
         let (text, mut bytes, mut index) = (text.as_bytes(), [0; 16], 0);
         while index < 36 {
@@ -82,6 +115,13 @@ const fn digit(byte: u8) -> u8 {
 }
 
 /// A GUID that the compiler reads.
+///
+/// ```
+/// use nardcorbel::{guid, Guid};
+///
+/// const OWNER: Guid = guid!("8be4df61-93ca-11d2-aa0d-00e098032b8c");
+/// assert_eq!(OWNER.to_bytes()[0], 0x61);
+/// ```
 #[macro_export]
 macro_rules! guid {
     ($text:expr) => {{

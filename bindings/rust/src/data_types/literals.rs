@@ -75,6 +75,7 @@ macro_rules! cstr16 {
 }
 
 /// The character of a literal.
+#[doc(hidden)]
 #[must_use]
 pub const fn char16(character: char) -> Char16 {
     match Char16::try_from_char(character) {
@@ -117,6 +118,7 @@ const fn num_chars(text: &str) -> usize {
 macro_rules! literal {
     ($count:ident, $convert:ident, $unit:ty, $most:literal, $fault:literal) => {
         /// Counts the characters of a literal. Panics if the encoding lacks one of them.
+        #[doc(hidden)]
         #[must_use]
         pub const fn $count(text: &str) -> usize {
             let (bytes, mut at) = (text.as_bytes(), 0);
@@ -129,6 +131,7 @@ macro_rules! literal {
         }
 
         /// Encodes a literal with its NUL. Panics if it has a NUL or a character that the encoding lacks, or another length.
+        #[doc(hidden)]
         #[must_use]
         pub const fn $convert<const N: usize>(text: &str) -> [$unit; N] {
             assert!($count(text) + 1 == N, "the array has another length");

@@ -14,6 +14,12 @@ use core::ops::Deref;
 use core::str::FromStr;
 
 /// Why a text is no string.
+///
+/// ```
+/// use nardcorbel::{data_types::FromStrError, CString16};
+///
+/// assert_eq!(CString16::try_from("😀"), Err(FromStrError::InvalidChar));
+/// ```
 #[derive(Clone, Copy, Debug, Eq, PartialEq)]
 pub enum FromStrError {
     /// A character is above U+FFFF.
@@ -25,8 +31,8 @@ pub enum FromStrError {
 impl fmt::Display for FromStrError {
     fn fmt(&self, f: &mut fmt::Formatter<'_>) -> fmt::Result {
         f.write_str(match self {
-            Self::InvalidChar => "the text has a character above U+FFFF",
-            Self::InteriorNul => "the text has a NUL",
+            Self::InvalidChar => "UCS-2 Conversion Error: Invalid character",
+            Self::InteriorNul => "UCS-2 Conversion Error: Interior null terminator",
         })
     }
 }
@@ -49,15 +55,30 @@ pub struct CString16(Vec<u16>);
 
 impl CString16 {
     /// Creates an empty string.
+    ///
+    /// ```
+    /// use nardcorbel::CString16;
+    ///
+    /// assert_eq!(CString16::new().to_u16_slice_with_nul(), [0]);
+    /// ```
     #[must_use]
     pub fn new() -> Self {
         Self(vec![0])
     }
 
     /// Removes all characters.
+    ///
+    /// ```
+    /// use nardcorbel::CString16;
+    ///
+    /// let mut string = CString16::try_from("ab")?;
+    /// string.clear();
+    /// assert!(string.is_empty());
+    /// # Ok::<(), nardcorbel::data_types::FromStrError>(())
+    /// ```
     pub fn clear(&mut self) {
-        self.0.clear();
-        self.0.push(0);
+        self.0.truncate(1);
+        self.0[0] = 0;
     }
 
     /// Adds a character.
@@ -65,15 +86,34 @@ impl CString16 {
     /// # Panics
     ///
     /// Panics if the character is NUL.
+    ///
+    /// ```
+    /// use nardcorbel::{char16, CString16};
+    ///
+    /// let mut string = CString16::new();
+    /// string.push(char16!('a'));
+    /// assert_eq!(string, "a");
+    /// ```
     pub fn push(&mut self, character: Char16) {
         assert_ne!(character, NUL_16, "a string has no NUL before its end");
+        // The NUL is replaced last: an allocator may unwind.
         let end = self.num_chars();
-        self.0[end] = character.into();
         self.0.push(0);
+        self.0[end] = character.into();
     }
 
     /// Adds the characters of another string.
+    ///
+    /// ```
+    /// use nardcorbel::{cstr16, CString16};
+    ///
+    /// let mut string = CString16::try_from("boot")?;
+    /// string.push_str(cstr16!(".efi"));
+    /// assert_eq!(string, "boot.efi");
+    /// # Ok::<(), nardcorbel::data_types::FromStrError>(())
+    /// ```
     pub fn push_str(&mut self, string: &CStr16) {
+        self.0.reserve(string.num_chars());
         self.0.pop();
         self.0.extend_from_slice(string.to_u16_slice_with_nul());
     }
@@ -83,6 +123,15 @@ impl CString16 {
     /// # Panics
     ///
     /// Panics if one of the two is NUL.
+    ///
+    /// ```
+    /// use nardcorbel::{char16, CString16};
+    ///
+    /// let mut string = CString16::try_from("a/b")?;
+    /// string.replace_char(char16!('/'), char16!('\\'));
+    /// assert_eq!(string, r"a\b");
+    /// # Ok::<(), nardcorbel::data_types::FromStrError>(())
+    /// ```
     pub fn replace_char(&mut self, search: Char16, replace: Char16) {
         assert!(
             search != NUL_16 && replace != NUL_16,
@@ -96,12 +145,25 @@ impl CString16 {
     }
 
     /// Returns the number of characters, without the NUL.
+    ///
+    /// ```
+    /// use nardcorbel::CString16;
+    ///
+    /// assert_eq!(CString16::try_from("aé")?.num_chars(), 2);
+    /// # Ok::<(), nardcorbel::data_types::FromStrError>(())
+    /// ```
     #[must_use]
     pub fn num_chars(&self) -> usize {
         self.0.len() - 1
     }
 
     /// Returns whether the string is only its NUL.
+    ///
+    /// ```
+    /// use nardcorbel::CString16;
+    ///
+    /// assert!(CString16::new().is_empty());
+    /// ```
     #[must_use]
     pub fn is_empty(&self) -> bool {
         self.num_chars() == 0
@@ -175,6 +237,14 @@ impl TryFrom<&UnalignedSlice<'_, u16>> for CString16 {
 
 impl UnalignedSlice<'_, u16> {
     /// Copies the units to an owned string.
+    ///
+    /// ```
+    /// use nardcorbel::data_types::UnalignedSlice;
+    ///
+    /// let name = UnalignedSlice::from_unit_bytes(&[0x61, 0, 0, 0]);
+    /// assert_eq!(name.to_cstring16()?, "a");
+    /// # Ok::<(), nardcorbel::data_types::FromSliceWithNulError>(())
+    /// ```
     pub fn to_cstring16(&self) -> Result<CString16, FromSliceWithNulError> {
         CString16::try_from(self)
     }

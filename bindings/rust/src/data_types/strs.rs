@@ -1,7 +1,7 @@
 //! Borrowed strings.
 
 use super::chars::{Char16, Char8, NUL_16};
-use super::{pad, UnalignedSlice};
+use super::UnalignedSlice;
 use crate::error::{check, Error};
 use crate::sys;
 use core::borrow::Borrow;
@@ -40,32 +40,62 @@ macro_rules! errors {
 }
 errors! {
     /// Why units up to a NUL are no string.
+    ///
+    /// ```
+    /// use nardcorbel::{data_types::FromSliceUntilNulError, CStr16};
+    ///
+    /// let error = CStr16::from_u16_until_nul(&[0x61, 0xd800, 0]).unwrap_err();
+    /// assert_eq!(error, FromSliceUntilNulError::InvalidChar(1));
+    /// assert_eq!(error.to_string(), "invalid character at index 1");
+    /// ```
     FromSliceUntilNulError {
         InvalidChar(index) = "invalid character";
-        NoNul = "there is no NUL";
+        NoNul = "no nul character";
     }
 
     /// Why units or bytes are no string.
+    ///
+    /// ```
+    /// use nardcorbel::{data_types::FromSliceWithNulError, CStr16};
+    ///
+    /// let error = CStr16::from_u16_with_nul(&[0x61, 0, 0x62, 0]).unwrap_err();
+    /// assert_eq!(error, FromSliceWithNulError::InteriorNul(1));
+    /// assert_eq!(error.to_string(), "interior null character at index 1");
+    /// ```
     FromSliceWithNulError {
         InvalidChar(index) = "invalid character";
-        InteriorNul(index) = "NUL before the end";
-        NotNulTerminated = "the last character is not NUL";
-        NotAligned = "the bytes begin at an odd address";
+        InteriorNul(index) = "interior null character";
+        NotNulTerminated = "not null-terminated";
+        NotAligned = "slice is not aligned to a 16-bit boundary";
     }
 
     /// Why unaligned units are no string, or don't fit a buffer.
+    ///
+    /// ```
+    /// use nardcorbel::data_types::{UnalignedCStr16Error, UnalignedSlice};
+    ///
+    /// let name = UnalignedSlice::from_unit_bytes(&[0x61, 0, 0, 0]);
+    /// assert_eq!(name.to_cstr16(&mut []), Err(UnalignedCStr16Error::BufferTooSmall));
+    /// ```
     UnalignedCStr16Error {
         InvalidChar(index) = "invalid character";
-        InteriorNul(index) = "NUL before the end";
-        NotNulTerminated = "the last character is not NUL";
-        BufferTooSmall = "the buffer is too small";
+        InteriorNul(index) = "interior null character";
+        NotNulTerminated = "not null-terminated";
+        BufferTooSmall = "buffer too small";
     }
 
     /// Why a text is no string, or doesn't fit a buffer.
+    ///
+    /// ```
+    /// use nardcorbel::{data_types::FromStrWithBufError, CStr16};
+    ///
+    /// let error = CStr16::from_str_with_buf("ab", &mut [0; 2]).unwrap_err();
+    /// assert_eq!(error, FromStrWithBufError::BufferTooSmall);
+    /// ```
     FromStrWithBufError {
         InvalidChar(index) = "invalid character";
-        InteriorNul(index) = "NUL in the text";
-        BufferTooSmall = "the buffer is too small";
+        InteriorNul(index) = "interior null character";
+        BufferTooSmall = "buffer too small";
     }
 }
 
@@ -88,6 +118,14 @@ impl CStr8 {
     /// # Safety
     ///
     /// A NUL follows, and up to it the memory is readable, and unchanged while the string is used.
+    ///
+    /// ```
+    /// use nardcorbel::{cstr8, CStr8};
+    ///
+    /// let language = cstr8!("en");
+    /// // SAFETY: the pointer is that of a string.
+    /// assert_eq!(unsafe { CStr8::from_ptr(language.as_ptr()) }, language);
+    /// ```
     #[must_use]
     pub unsafe fn from_ptr<'ptr>(ptr: *const Char8) -> &'ptr Self {
         // SAFETY: the caller's, for each character up to the NUL and for the slice of them.
@@ -98,6 +136,14 @@ impl CStr8 {
     }
 
     /// Creates a string from bytes, whose last and only the last is 0.
+    ///
+    /// ```
+    /// use nardcorbel::CStr8;
+    ///
+    /// assert_eq!(CStr8::from_bytes_with_nul(b"en\0")?.to_string(), "en");
+    /// assert!(CStr8::from_bytes_with_nul(b"en").is_err());
+    /// # Ok::<(), nardcorbel::data_types::FromSliceWithNulError>(())
+    /// ```
     pub fn from_bytes_with_nul(bytes: &[u8]) -> Result<&Self, FromSliceWithNulError> {
         match bytes.iter().position(|it| *it == 0) {
             None => Err(FromSliceWithNulError::NotNulTerminated),
@@ -111,6 +157,14 @@ impl CStr8 {
     /// # Safety
     ///
     /// The last byte, and only that, is 0.
+    ///
+    /// ```
+    /// use nardcorbel::{cstr8, CStr8};
+    ///
+    /// // SAFETY: the only NUL is at the end.
+    /// let language = unsafe { CStr8::from_bytes_with_nul_unchecked(b"en\0") };
+    /// assert_eq!(language, cstr8!("en"));
+    /// ```
     #[must_use]
     pub const unsafe fn from_bytes_with_nul_unchecked(bytes: &[u8]) -> &Self {
         // SAFETY: `CStr8` and `Char8` are transparent wrappers.
@@ -132,12 +186,25 @@ impl CStr8 {
     }
 
     /// Returns the address of the first character.
+    ///
+    /// ```
+    /// use nardcorbel::cstr8;
+    ///
+    /// // SAFETY: a string has a first character.
+    /// assert_eq!(unsafe { *cstr8!("en").as_ptr() }, 'e');
+    /// ```
     #[must_use]
     pub const fn as_ptr(&self) -> *const Char8 {
         self.0.as_ptr()
     }
 
     /// Returns the bytes and the NUL.
+    ///
+    /// ```
+    /// use nardcorbel::cstr8;
+    ///
+    /// assert_eq!(cstr8!("é").as_bytes(), [0xe9, 0]);
+    /// ```
     #[must_use]
     pub const fn as_bytes(&self) -> &[u8] {
         // SAFETY: `Char8` is a transparent wrapper.
@@ -216,6 +283,14 @@ impl CStr16 {
     /// # Safety
     ///
     /// A NUL follows, and up to it the memory is readable, holds no surrogate, and is unchanged while the string is used.
+    ///
+    /// ```
+    /// use nardcorbel::{cstr16, CStr16};
+    ///
+    /// let name = cstr16!("BootOrder");
+    /// // SAFETY: the pointer is that of a string.
+    /// assert_eq!(unsafe { CStr16::from_ptr(name.as_ptr()) }, name);
+    /// ```
     #[must_use]
     pub unsafe fn from_ptr<'ptr>(ptr: *const Char16) -> &'ptr Self {
         // SAFETY: the caller's, for each character up to the NUL and for the slice of them.
@@ -243,6 +318,14 @@ impl CStr16 {
     }
 
     /// Creates a string from all of the units.
+    ///
+    /// ```
+    /// use nardcorbel::CStr16;
+    ///
+    /// assert_eq!(CStr16::from_u16_with_nul(&[0x61, 0])?, "a");
+    /// assert!(CStr16::from_u16_with_nul(&[0x61, 0, 0x62, 0]).is_err());
+    /// # Ok::<(), nardcorbel::data_types::FromSliceWithNulError>(())
+    /// ```
     pub fn from_u16_with_nul(units: &[u16]) -> Result<&Self, FromSliceWithNulError> {
         let mut place = 0;
         match sys::nard_string_with_nul(units, &mut place) {
@@ -258,6 +341,13 @@ impl CStr16 {
     /// # Safety
     ///
     /// The last unit, and only that, is 0, and none is a surrogate.
+    ///
+    /// ```
+    /// use nardcorbel::CStr16;
+    ///
+    /// // SAFETY: the only NUL is at the end, and no unit is a surrogate.
+    /// assert_eq!(unsafe { CStr16::from_u16_with_nul_unchecked(&[0x61, 0]) }, "a");
+    /// ```
     #[must_use]
     pub const unsafe fn from_u16_with_nul_unchecked(units: &[u16]) -> &Self {
         // SAFETY: `CStr16` and `Char16` are transparent wrappers.
@@ -287,6 +377,14 @@ impl CStr16 {
     }
 
     /// Creates a string from the characters up to the first NUL.
+    ///
+    /// ```
+    /// use nardcorbel::{char16, data_types::NUL_16, CStr16};
+    ///
+    /// let chars = [char16!('a'), NUL_16, char16!('b')];
+    /// assert_eq!(CStr16::from_char16_until_nul(&chars)?, "a");
+    /// # Ok::<(), nardcorbel::data_types::FromSliceUntilNulError>(())
+    /// ```
     pub fn from_char16_until_nul(chars: &[Char16]) -> Result<&Self, FromSliceUntilNulError> {
         match chars.iter().position(|it| *it == NUL_16) {
             Some(end) => Ok(Self::of(units_of(&chars[..=end]))),
@@ -295,6 +393,13 @@ impl CStr16 {
     }
 
     /// Creates a string from characters, whose last and only the last is NUL.
+    ///
+    /// ```
+    /// use nardcorbel::{char16, data_types::NUL_16, CStr16};
+    ///
+    /// assert_eq!(CStr16::from_char16_with_nul(&[char16!('a'), NUL_16])?, "a");
+    /// # Ok::<(), nardcorbel::data_types::FromSliceWithNulError>(())
+    /// ```
     pub fn from_char16_with_nul(chars: &[Char16]) -> Result<&Self, FromSliceWithNulError> {
         match chars.iter().position(|it| *it == NUL_16) {
             None => Err(FromSliceWithNulError::NotNulTerminated),
@@ -308,14 +413,22 @@ impl CStr16 {
     /// # Safety
     ///
     /// The last character, and only that, is NUL.
+    ///
+    /// ```
+    /// use nardcorbel::{char16, data_types::NUL_16, CStr16};
+    ///
+    /// // SAFETY: the only NUL is at the end.
+    /// assert_eq!(unsafe { CStr16::from_char16_with_nul_unchecked(&[char16!('a'), NUL_16]) }, "a");
+    /// ```
     #[must_use]
     pub const unsafe fn from_char16_with_nul_unchecked(chars: &[Char16]) -> &Self {
         Self::of(units_of(chars))
     }
 
-    /// Writes a text and a NUL to the start of a buffer, and returns the string.
+    /// Writes a text in UTF-16 and a NUL to the start of a buffer, and returns the string.
     ///
-    /// If the call fails, the buffer is unchanged.
+    /// Fails with `BufferTooSmall` if the text and the NUL do not fit, whatever the text holds. The buffer is then full of the
+    /// text's first units. Otherwise the whole text is written before its characters are checked, also if the call then fails.
     ///
     /// ```
     /// use nardcorbel::CStr16;
@@ -331,16 +444,31 @@ impl CStr16 {
         text: &str,
         buffer: &'a mut [u16],
     ) -> Result<&'a Self, FromStrWithBufError> {
-        let mut place = 0;
-        match sys::nard_string_from_utf8(text.as_bytes(), buffer, &mut place) {
-            sys::OK => Ok(Self::of(&buffer[..=place])),
-            sys::INVALID_CHAR => Err(FromStrWithBufError::InvalidChar(place)),
-            sys::INTERIOR_NUL => Err(FromStrWithBufError::InteriorNul(place)),
-            _ => Err(FromStrWithBufError::BufferTooSmall),
+        let mut units = text.encode_utf16().chain([0]);
+        // The buffer first: a unit without a place is not taken.
+        let places = buffer.iter_mut().zip(units.by_ref());
+        let written = places.map(|(to, unit)| *to = unit).count();
+        if units.next().is_some() {
+            return Err(FromStrWithBufError::BufferTooSmall);
         }
+        Self::from_u16_with_nul(&buffer[..written]).map_err(|error| match error {
+            FromSliceWithNulError::InteriorNul(it) => FromStrWithBufError::InteriorNul(it),
+            // A text in UTF-16 lacks only characters above U+FFFF, and a NUL was added.
+            FromSliceWithNulError::InvalidChar(it) => FromStrWithBufError::InvalidChar(it),
+            _ => FromStrWithBufError::BufferTooSmall,
+        })
     }
 
     /// Copies units from any address to an aligned buffer, and creates a string from them.
+    ///
+    /// ```
+    /// use nardcorbel::{data_types::UnalignedSlice, CStr16};
+    /// use std::mem::MaybeUninit;
+    ///
+    /// let name = UnalignedSlice::from_unit_bytes(&[0x61, 0, 0, 0]);
+    /// assert_eq!(CStr16::from_unaligned_slice(&name, &mut [MaybeUninit::uninit(); 8])?, "a");
+    /// # Ok::<(), nardcorbel::data_types::UnalignedCStr16Error>(())
+    /// ```
     pub fn from_unaligned_slice<'buf>(
         source: &UnalignedSlice<'_, u16>,
         buffer: &'buf mut [MaybeUninit<u16>],
@@ -359,48 +487,94 @@ impl CStr16 {
     }
 
     /// Creates a string from bytes at an even address, two for each unit in the machine's order.
+    ///
+    /// ```
+    /// use nardcorbel::{cstr16, CStr16};
+    ///
+    /// let string = cstr16!("a");
+    /// assert_eq!(CStr16::from_bytes_with_nul(string.as_bytes())?, string);
+    /// # Ok::<(), nardcorbel::data_types::FromSliceWithNulError>(())
+    /// ```
     pub fn from_bytes_with_nul(bytes: &[u8]) -> Result<&Self, FromSliceWithNulError> {
         if bytes.len() % 2 != 0 || !bytes.ends_with(&[0, 0]) {
             return Err(FromSliceWithNulError::NotNulTerminated);
         }
-        // SAFETY: two bytes of any value are a unit.
-        match unsafe { bytes.align_to::<u16>() } {
-            ([], units, []) => Self::from_u16_with_nul(units),
-            _ => Err(FromSliceWithNulError::NotAligned),
+        let units = bytes.as_ptr().cast::<u16>();
+        if !units.is_aligned() {
+            return Err(FromSliceWithNulError::NotAligned);
         }
+        // SAFETY: the address is even, and two bytes of any value are a unit.
+        Self::from_u16_with_nul(unsafe { slice::from_raw_parts(units, bytes.len() / 2) })
     }
 
     /// Returns the address of the first character.
+    ///
+    /// ```
+    /// use nardcorbel::cstr16;
+    ///
+    /// // SAFETY: a string has a first character.
+    /// assert_eq!(unsafe { *cstr16!("ab").as_ptr() }, 'a');
+    /// ```
     #[must_use]
     pub const fn as_ptr(&self) -> *const Char16 {
         self.0.as_ptr()
     }
 
     /// Returns the characters without the NUL.
+    ///
+    /// ```
+    /// use nardcorbel::{char16, cstr16};
+    ///
+    /// assert_eq!(cstr16!("a").as_slice(), [char16!('a')]);
+    /// ```
     #[must_use]
     pub fn as_slice(&self) -> &[Char16] {
         &self.0[..self.num_chars()]
     }
 
     /// Returns the characters and the NUL.
+    ///
+    /// ```
+    /// use nardcorbel::{char16, cstr16, data_types::NUL_16};
+    ///
+    /// assert_eq!(cstr16!("a").as_slice_with_nul(), [char16!('a'), NUL_16]);
+    /// ```
     #[must_use]
     pub const fn as_slice_with_nul(&self) -> &[Char16] {
         &self.0
     }
 
     /// Returns the units without the NUL.
+    ///
+    /// ```
+    /// use nardcorbel::cstr16;
+    ///
+    /// assert_eq!(cstr16!("a€").to_u16_slice(), [0x61, 0x20ac]);
+    /// ```
     #[must_use]
     pub fn to_u16_slice(&self) -> &[u16] {
         &self.to_u16_slice_with_nul()[..self.num_chars()]
     }
 
     /// Returns the units and the NUL.
+    ///
+    /// ```
+    /// use nardcorbel::cstr16;
+    ///
+    /// assert_eq!(cstr16!("a€").to_u16_slice_with_nul(), [0x61, 0x20ac, 0]);
+    /// ```
     #[must_use]
     pub const fn to_u16_slice_with_nul(&self) -> &[u16] {
         units_of(&self.0)
     }
 
     /// Iterates over the characters, without the NUL.
+    ///
+    /// ```
+    /// use nardcorbel::{char16, cstr16};
+    ///
+    /// assert!(cstr16!("ab").iter().rev().eq(&[char16!('b'), char16!('a')]));
+    /// ```
     #[must_use]
     pub fn iter(&self) -> CStr16Iter<'_> {
         CStr16Iter(self.as_slice().iter())
@@ -418,24 +592,60 @@ impl CStr16 {
     }
 
     /// Returns the number of characters, without the NUL.
+    ///
+    /// ```
+    /// use nardcorbel::cstr16;
+    ///
+    /// assert_eq!(cstr16!("aé").num_chars(), 2);
+    /// ```
     #[must_use]
     pub const fn num_chars(&self) -> usize {
         self.0.len() - 1
     }
 
+    /// Returns the number of characters, without the NUL, as [`num_chars`](Self::num_chars) does.
+    ///
+    /// ```
+    /// use nardcorbel::cstr16;
+    ///
+    /// assert_eq!(cstr16!("aé").len(), 2);
+    /// ```
+    #[must_use]
+    pub const fn len(&self) -> usize {
+        self.num_chars()
+    }
+
     /// Returns whether the string is only its NUL.
+    ///
+    /// ```
+    /// use nardcorbel::cstr16;
+    ///
+    /// assert!(cstr16!("").is_empty());
+    /// ```
     #[must_use]
     pub const fn is_empty(&self) -> bool {
         self.num_chars() == 0
     }
 
     /// Returns the number of bytes, including the NUL.
+    ///
+    /// ```
+    /// use nardcorbel::cstr16;
+    ///
+    /// assert_eq!(cstr16!("aé").num_bytes(), 6);
+    /// ```
     #[must_use]
     pub const fn num_bytes(&self) -> usize {
         self.0.len() * 2
     }
 
     /// Returns whether all characters are ASCII.
+    ///
+    /// ```
+    /// use nardcorbel::cstr16;
+    ///
+    /// assert!(cstr16!("a").is_ascii() && !cstr16!("é").is_ascii());
+    /// ```
     #[must_use]
     pub fn is_ascii(&self) -> bool {
         // Without a branch for each unit.
@@ -473,6 +683,13 @@ impl CStr16 {
     }
 
     /// Returns the bytes of the units and the NUL, in the machine's order.
+    ///
+    /// ```
+    /// use nardcorbel::cstr16;
+    ///
+    /// let bytes = cstr16!("a").as_bytes();
+    /// assert_eq!(bytes, [0x61_u16, 0].map(u16::to_ne_bytes).as_flattened());
+    /// ```
     #[must_use]
     pub const fn as_bytes(&self) -> &[u8] {
         // SAFETY: the units are as many bytes, of any value.
@@ -543,6 +760,13 @@ pub(crate) const fn units_of(chars: &[Char16]) -> &[u16] {
 }
 
 /// Iterates over the characters of a string, without the NUL.
+///
+/// ```
+/// use nardcorbel::{char16, cstr16};
+///
+/// let mut chars = cstr16!("ab").iter();
+/// assert_eq!((chars.next(), chars.len()), (Some(&char16!('a')), 1));
+/// ```
 #[derive(Clone, Debug)]
 pub struct CStr16Iter<'a>(slice::Iter<'a, Char16>);
 
@@ -596,6 +820,15 @@ impl AsRef<Self> for CStr16 {
 
 impl UnalignedSlice<'_, u16> {
     /// Copies the units to an aligned buffer, and creates a string from them.
+    ///
+    /// ```
+    /// use nardcorbel::data_types::UnalignedSlice;
+    /// use std::mem::MaybeUninit;
+    ///
+    /// let name = UnalignedSlice::from_unit_bytes(&[0x61, 0, 0, 0]);
+    /// assert_eq!(name.to_cstr16(&mut [MaybeUninit::uninit(); 8])?, "a");
+    /// # Ok::<(), nardcorbel::data_types::UnalignedCStr16Error>(())
+    /// ```
     pub fn to_cstr16<'buf>(
         &self,
         buffer: &'buf mut [MaybeUninit<u16>],
@@ -607,8 +840,9 @@ impl UnalignedSlice<'_, u16> {
 macro_rules! as_text {
     ($($name:ident)*) => {$(
         impl fmt::Display for $name {
+            /// Writes the characters. Width, fill and precision apply to each of them.
             fn fmt(&self, f: &mut fmt::Formatter<'_>) -> fmt::Result {
-                pad(f, self.chars())
+                self.chars().try_for_each(|it| fmt::Display::fmt(&it, f))
             }
         }
 
@@ -658,6 +892,12 @@ as_text!(CStr8 CStr16);
 /// ```
 pub trait EqStrUntilNul<StrType: ?Sized> {
     /// Returns whether one is a beginning of the other: the string, and the text up to its first NUL.
+    ///
+    /// ```
+    /// use nardcorbel::{cstr16, data_types::EqStrUntilNul};
+    ///
+    /// assert!(!cstr16!("boot").eq_str_until_nul("bo-t"));
+    /// ```
     fn eq_str_until_nul(&self, other: &StrType) -> bool;
 }
 

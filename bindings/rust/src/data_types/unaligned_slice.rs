@@ -28,6 +28,15 @@ impl<'a, T: Copy> UnalignedSlice<'a, T> {
     /// # Safety
     ///
     /// That many items are at the address, and they are unchanged while the slice is used.
+    ///
+    /// ```
+    /// use nardcorbel::data_types::UnalignedSlice;
+    ///
+    /// let bytes = [0, 1, 0, 2, 0];
+    /// // SAFETY: there are two units after the first byte.
+    /// let units = unsafe { UnalignedSlice::<u16>::new(bytes[1..].as_ptr().cast(), 2) };
+    /// assert_eq!(units.len(), 2);
+    /// ```
     #[must_use]
     pub const unsafe fn new(data: *const T, len: usize) -> Self {
         Self {
@@ -38,24 +47,53 @@ impl<'a, T: Copy> UnalignedSlice<'a, T> {
     }
 
     /// Returns whether there are no items.
+    ///
+    /// ```
+    /// use nardcorbel::data_types::UnalignedSlice;
+    ///
+    /// let units = UnalignedSlice::from_unit_bytes(&[1, 0, 2, 0]);
+    /// assert!(!units.is_empty());
+    /// ```
     #[must_use]
     pub const fn is_empty(&self) -> bool {
         self.len == 0
     }
 
     /// Returns the address of the first item.
+    ///
+    /// ```
+    /// use nardcorbel::data_types::UnalignedSlice;
+    ///
+    /// let units = UnalignedSlice::from_unit_bytes(&[1, 0, 2, 0]);
+    /// // SAFETY: there is a first unit.
+    /// assert_eq!(unsafe { units.as_ptr().read_unaligned() }, 1);
+    /// ```
     #[must_use]
     pub const fn as_ptr(&self) -> *const T {
         self.data
     }
 
     /// Returns the number of items.
+    ///
+    /// ```
+    /// use nardcorbel::data_types::UnalignedSlice;
+    ///
+    /// let units = UnalignedSlice::from_unit_bytes(&[1, 0, 2, 0]);
+    /// assert_eq!(units.len(), 2);
+    /// ```
     #[must_use]
     pub const fn len(&self) -> usize {
         self.len
     }
 
     /// Returns an item, or `None` if there are not so many.
+    ///
+    /// ```
+    /// use nardcorbel::data_types::UnalignedSlice;
+    ///
+    /// let units = UnalignedSlice::from_unit_bytes(&[1, 0, 2, 0]);
+    /// assert_eq!((units.get(1), units.get(2)), (Some(2), None));
+    /// ```
     #[must_use]
     pub const fn get(&self, index: usize) -> Option<T> {
         if index < self.len {
@@ -67,6 +105,13 @@ impl<'a, T: Copy> UnalignedSlice<'a, T> {
     }
 
     /// Iterates over the items.
+    ///
+    /// ```
+    /// use nardcorbel::data_types::UnalignedSlice;
+    ///
+    /// let units = UnalignedSlice::from_unit_bytes(&[1, 0, 2, 0]);
+    /// assert_eq!(units.iter().sum::<u16>(), 3);
+    /// ```
     #[must_use]
     pub const fn iter(&'a self) -> UnalignedSliceIter<'a, T> {
         UnalignedSliceIter {
@@ -80,6 +125,15 @@ impl<'a, T: Copy> UnalignedSlice<'a, T> {
     /// # Panics
     ///
     /// Panics if the slices have different lengths.
+    ///
+    /// ```
+    /// use nardcorbel::data_types::UnalignedSlice;
+    ///
+    /// let units = UnalignedSlice::from_unit_bytes(&[1, 0, 2, 0]);
+    /// let mut copy = [0; 2];
+    /// units.copy_to(&mut copy);
+    /// assert_eq!(copy, [1, 2]);
+    /// ```
     pub fn copy_to(&self, dest: &mut [T]) {
         assert_eq!(dest.len(), self.len, "the slices have different lengths");
         dest.iter_mut().zip(self).for_each(|(to, item)| *to = item);
@@ -90,6 +144,16 @@ impl<'a, T: Copy> UnalignedSlice<'a, T> {
     /// # Panics
     ///
     /// Panics if the slices have different lengths.
+    ///
+    /// ```
+    /// use nardcorbel::data_types::UnalignedSlice;
+    ///
+    /// let units = UnalignedSlice::from_unit_bytes(&[1, 0, 2, 0]);
+    /// let mut copy = [std::mem::MaybeUninit::uninit(); 2];
+    /// units.copy_to_maybe_uninit(&mut copy);
+    /// // SAFETY: both were written.
+    /// assert_eq!(copy.map(|it| unsafe { it.assume_init() }), [1, 2]);
+    /// ```
     pub fn copy_to_maybe_uninit(&self, dest: &mut [MaybeUninit<T>]) {
         assert_eq!(dest.len(), self.len, "the slices have different lengths");
         dest.iter_mut()
@@ -98,6 +162,13 @@ impl<'a, T: Copy> UnalignedSlice<'a, T> {
     }
 
     /// Copies the items to a vector.
+    ///
+    /// ```
+    /// use nardcorbel::data_types::UnalignedSlice;
+    ///
+    /// let units = UnalignedSlice::from_unit_bytes(&[1, 0, 2, 0]);
+    /// assert_eq!(units.to_vec(), [1, 2]);
+    /// ```
     #[cfg(feature = "alloc")]
     #[must_use]
     pub fn to_vec(&self) -> Vec<T> {
@@ -122,6 +193,13 @@ impl<'a, T: Plain> UnalignedSlice<'a, T> {
 
 impl<'a> UnalignedSlice<'a, u16> {
     /// Creates a slice of the units that bytes are, two for each; an odd byte at the end is left out.
+    ///
+    /// ```
+    /// use nardcorbel::data_types::UnalignedSlice;
+    ///
+    /// let units = UnalignedSlice::from_unit_bytes(&[1, 0, 2, 0, 9]);
+    /// assert_eq!(units.to_vec(), [1, 2]);
+    /// ```
     #[must_use]
     pub const fn from_unit_bytes(bytes: &'a [u8]) -> Self {
         Self::of_bytes(bytes)
@@ -163,6 +241,13 @@ impl<'a, T: Copy> IntoIterator for &'a UnalignedSlice<'a, T> {
 }
 
 /// Iterates over the items of a slice that it owns.
+///
+/// ```
+/// use nardcorbel::data_types::UnalignedSlice;
+///
+/// let units = UnalignedSlice::from_unit_bytes(&[1, 0, 2, 0]);
+/// assert_eq!(units.into_iter().len(), 2);
+/// ```
 #[derive(Clone, Debug)]
 pub struct UnalignedSliceIntoIter<'a, T: Copy> {
     slice: UnalignedSlice<'a, T>,
@@ -170,6 +255,13 @@ pub struct UnalignedSliceIntoIter<'a, T: Copy> {
 }
 
 /// Iterates over the items of a slice.
+///
+/// ```
+/// use nardcorbel::data_types::UnalignedSlice;
+///
+/// let units = UnalignedSlice::from_unit_bytes(&[1, 0, 2, 0]);
+/// assert_eq!(units.iter().last(), Some(2));
+/// ```
 #[derive(Clone, Debug)]
 pub struct UnalignedSliceIter<'a, T: Copy> {
     slice: &'a UnalignedSlice<'a, T>,

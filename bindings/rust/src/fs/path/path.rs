@@ -1,13 +1,13 @@
 //! Borrowed paths.
 
 use super::validation::located;
-use super::{validate_path, Components, Iter, SEPARATOR};
+use super::{validate_path, Component, Components, SEPARATOR, SEPARATOR_STR};
 #[cfg(feature = "alloc")]
 use super::{PathArgument, PathBuf};
+use crate::char16;
 use crate::data_types::CStr16;
 use crate::error::{check, Error, Reason};
 use crate::sys;
-use core::borrow::Borrow;
 use core::cmp::Ordering;
 use core::fmt;
 use core::hash::{Hash, Hasher};
@@ -30,6 +30,12 @@ pub struct Path(CStr16);
 
 impl Path {
     /// Wraps a string as a path.
+    ///
+    /// ```
+    /// use nardcorbel::{cstr16, Path};
+    ///
+    /// assert_eq!(Path::new(cstr16!(r"\EFI")), "EFI");
+    /// ```
     #[must_use]
     pub fn new<S: AsRef<CStr16> + ?Sized>(string: &S) -> &Self {
         // SAFETY: `Path` is a transparent wrapper of `CStr16`.
@@ -37,6 +43,12 @@ impl Path {
     }
 
     /// Returns the string of the path.
+    ///
+    /// ```
+    /// use nardcorbel::{cstr16, Path};
+    ///
+    /// assert_eq!(Path::new(cstr16!(r"\EFI")).to_cstr16(), r"\EFI");
+    /// ```
     #[must_use]
     pub const fn to_cstr16(&self) -> &CStr16 {
         &self.0
@@ -55,25 +67,32 @@ impl Path {
     }
 
     /// Returns whether the path is the empty text.
+    ///
+    /// ```
+    /// use nardcorbel::{cstr16, Path};
+    ///
+    /// assert!(Path::new(cstr16!("")).is_empty() && !Path::new(cstr16!(r"\")).is_empty());
+    /// ```
     #[must_use]
     pub const fn is_empty(&self) -> bool {
         self.0.is_empty()
     }
 
-    /// Iterates over the components, as slices of characters.
+    /// Iterates over the components, which are slices of characters that can be printed and compared with texts.
     ///
     /// ```
     /// use nardcorbel::{cstr16, Path};
     ///
     /// let path = Path::new(cstr16!(r"\a\bc"));
     /// assert!(path.components().map(|it| it.len()).eq([1, 2]));
+    /// assert!(path.components().eq(["a", "bc"]));
     /// ```
     #[must_use]
     pub fn components(&self) -> Components<'_> {
         Components::of(self.canonical().as_slice())
     }
 
-    /// Iterates over the components, which can be printed and compared with texts.
+    /// Iterates over the components, as [`components`](Self::components) does.
     ///
     /// ```
     /// use nardcorbel::{cstr16, Path};
@@ -81,8 +100,8 @@ impl Path {
     /// assert!(Path::new(cstr16!(r"a\b")).iter().rev().eq(["b", "a"]));
     /// ```
     #[must_use]
-    pub fn iter(&self) -> Iter<'_> {
-        Iter(self.components())
+    pub fn iter(&self) -> Components<'_> {
+        self.components()
     }
 
     /// Returns the last component, which may be empty, or `None` if there is none.
@@ -101,6 +120,72 @@ impl Path {
             .then(|| CStr16::of(&self.units()[start..]))
     }
 
+    /// The index in the last component of the dot before its extension, and where the component begins.
+    fn dot(&self) -> Option<(usize, Option<usize>)> {
+        let name = self.components().next_back()?;
+        let dot = name.iter().rposition(|it| *it == char16!('.'));
+        let start = self.0.num_chars() - name.len();
+        Some((start, dot.filter(|it| *it > 0 && name != "..")))
+    }
+
+    /// Returns what follows the last dot of the last component, or `None` if there is no dot after the component's first character,
+    /// or the component is `..`.
+    ///
+    /// ```
+    /// use nardcorbel::{cstr16, Path};
+    ///
+    /// let extension = |it| Path::new(it).extension();
+    /// assert_eq!(extension(cstr16!(r"a\b.tar.gz")), Some(cstr16!("gz")));
+    /// assert_eq!(extension(cstr16!(r"a\.profile")), None);
+    /// ```
+    #[must_use]
+    pub fn extension(&self) -> Option<&CStr16> {
+        let (start, dot) = self.dot()?;
+        Some(CStr16::of(&self.units()[start + dot? + 1..]))
+    }
+
+    /// Returns the last component without its [`extension`](Self::extension) and the dot before it.
+    ///
+    /// ```
+    /// use nardcorbel::{cstr16, Path};
+    ///
+    /// assert_eq!(Path::new(cstr16!(r"a\b.tar.gz")).file_stem().unwrap(), "b.tar");
+    /// ```
+    #[must_use]
+    pub fn file_stem(&self) -> Option<Component<'_>> {
+        let (start, dot) = self.dot()?;
+        let name = &self.0.as_slice()[start..];
+        Some(Component(&name[..dot.unwrap_or(name.len())]))
+    }
+
+    /// Returns whether the first components of the path are those of a base.
+    ///
+    /// ```
+    /// use nardcorbel::{cstr16, Path};
+    ///
+    /// let path = Path::new(cstr16!(r"\EFI\BOOT\a.efi"));
+    /// assert!(path.starts_with(cstr16!("EFI")) && !path.starts_with(cstr16!("EF")));
+    /// ```
+    #[must_use]
+    pub fn starts_with<P: AsRef<Self>>(&self, base: P) -> bool {
+        self.strip_prefix(base).is_some()
+    }
+
+    /// Returns the components after those of a base, or `None` if the path does not start with it.
+    ///
+    /// ```
+    /// use nardcorbel::{cstr16, Path};
+    ///
+    /// let rest = Path::new(cstr16!(r"\EFI\BOOT\a.efi")).strip_prefix(cstr16!("EFI"));
+    /// assert!(rest.unwrap().eq(["BOOT", "a.efi"]));
+    /// ```
+    #[must_use]
+    pub fn strip_prefix<P: AsRef<Self>>(&self, base: P) -> Option<Components<'_>> {
+        let mut rest = self.components();
+        let mut base = base.as_ref().components();
+        base.all(|it| rest.next() == Some(it)).then_some(rest)
+    }
+
     /// Checks that the path names a file, and says where the fault of the first component is that has one.
     ///
     /// ```
@@ -108,7 +193,8 @@ impl Path {
     ///
     /// let error = Path::new(cstr16!(r"a\b:")).validate().unwrap_err();
     /// assert_eq!((error.place, error.character), (3, Some(':')));
-    /// assert_eq!(error.to_string(), "path contains an illegal character, ':' (U+003A), at 3");
+    /// let sentence = "path contains an illegal character (value 58) at index 3: ':'";
+    /// assert_eq!(error.to_string(), sentence);
     /// ```
     pub fn validate(&self) -> Result<(), Error> {
         validate_path(self).map_err(|error| error.located(self.0.chars()))
@@ -152,6 +238,19 @@ impl Path {
         let mut length = 0;
         let reason = sys::nard_path_join(self.units(), other.units(), buffer, &mut length);
         written(reason, length, buffer)
+    }
+
+    /// Writes the path with one separator at its start to a buffer, and returns it: see [`with_root`](Self::with_root).
+    ///
+    /// ```
+    /// use nardcorbel::{cstr16, Path};
+    ///
+    /// let path = Path::new(cstr16!("a")).with_root_in_buf(&mut [0; 4])?.to_string();
+    /// assert_eq!(path, r"\a");
+    /// # Ok::<(), nardcorbel::Error>(())
+    /// ```
+    pub fn with_root_in_buf<'a>(&self, buffer: &'a mut [u16]) -> Result<&'a Self, Error> {
+        Self::new(SEPARATOR_STR).join_in_buf(Self::new(self.canonical()), buffer)
     }
 
     /// Writes the parent, all components but the last, to the start of a buffer and returns it.
@@ -223,6 +322,12 @@ fn written(reason: u32, length: usize, buffer: &[u16]) -> Result<&Path, Error> {
 #[cfg(feature = "alloc")]
 impl Path {
     /// Copies the path, replacing each `/` with `\`.
+    ///
+    /// ```
+    /// use nardcorbel::{cstr16, Path};
+    ///
+    /// assert_eq!(Path::new(cstr16!("a/b")).to_path_buf().to_string(), r"a\b");
+    /// ```
     #[must_use]
     pub fn to_path_buf(&self) -> PathBuf {
         PathBuf::from(&self.0)
@@ -265,7 +370,29 @@ impl Path {
         })
     }
 
-    /// Copies the path without `.`, and without each name that a `..` follows.
+    /// Copies the path, with one separator at its start, and each `/` replaced with `\`. A device path names a file in this way:
+    ///
+    /// ```
+    /// use nardcorbel::proto::device_path::build::{media, DevicePathBuilder};
+    /// use nardcorbel::{cstr16, DevicePath, Path};
+    ///
+    /// let file = Path::new(cstr16!("EFI/debian/../BOOT/a.efi")).normalize()?.with_root();
+    /// let node = media::FilePath { path_name: file.to_cstr16() };
+    /// let mut bytes = Vec::new();
+    /// let path = DevicePathBuilder::with_vec(&mut bytes).push(&node)?.finalize()?;
+    /// assert_eq!(format!("{path}"), r"\EFI\BOOT\a.efi");
+    /// // And back: from the text, and to the path of the file.
+    /// let again: Box<DevicePath> = format!("{path}").parse()?;
+    /// assert_eq!(again.file_path()?.normalize()?, *file);
+    /// # Ok::<(), nardcorbel::Error>(())
+    /// ```
+    #[must_use]
+    pub fn with_root(&self) -> PathBuf {
+        Self::new(SEPARATOR_STR).join(Self::new(self.canonical()))
+    }
+
+    /// Copies the path without `.`, and without each name that a `..` follows. The copy has no separator at its start:
+    /// [`with_root`](Self::with_root) adds it.
     ///
     /// ```
     /// use nardcorbel::{cstr16, Path};
@@ -355,10 +482,10 @@ impl fmt::Debug for Path {
 }
 
 impl<'a> IntoIterator for &'a Path {
-    type Item = super::Component<'a>;
-    type IntoIter = Iter<'a>;
+    type Item = Component<'a>;
+    type IntoIter = Components<'a>;
 
-    fn into_iter(self) -> Iter<'a> {
+    fn into_iter(self) -> Components<'a> {
         self.iter()
     }
 }
@@ -384,18 +511,5 @@ impl AsRef<Path> for CStr16 {
 impl AsRef<CStr16> for Path {
     fn as_ref(&self) -> &CStr16 {
         &self.0
-    }
-}
-
-/// Paths are equal more often than their strings: look paths up by paths.
-impl Borrow<CStr16> for Path {
-    fn borrow(&self) -> &CStr16 {
-        &self.0
-    }
-}
-
-impl Borrow<Path> for CStr16 {
-    fn borrow(&self) -> &Path {
-        Path::new(self)
     }
 }

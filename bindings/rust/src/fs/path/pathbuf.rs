@@ -1,9 +1,9 @@
 //! Owned paths.
 
-use super::{Component, Iter, Path, SEPARATOR};
+use super::{Component, Components, Path, SEPARATOR};
 use crate::char16;
 use crate::data_types::{CStr16, CString16};
-use crate::error::{check, Error};
+use crate::error::Error;
 use crate::sys;
 use alloc::borrow::Borrow;
 use alloc::string::String;
@@ -30,12 +30,27 @@ pub struct PathBuf(CString16);
 
 impl PathBuf {
     /// Creates an empty path.
+    ///
+    /// ```
+    /// use nardcorbel::PathBuf;
+    ///
+    /// assert!(PathBuf::new().is_empty());
+    /// ```
     #[must_use]
     pub fn new() -> Self {
         Self::default()
     }
 
     /// Removes all components.
+    ///
+    /// ```
+    /// use nardcorbel::PathBuf;
+    ///
+    /// let mut path: PathBuf = "a/b".parse()?;
+    /// path.clear();
+    /// assert!(path.is_empty());
+    /// # Ok::<(), nardcorbel::Error>(())
+    /// ```
     pub fn clear(&mut self) {
         self.0.clear();
     }
@@ -65,15 +80,26 @@ impl PathBuf {
 
     pub(super) fn push_path(&mut self, path: &Path) {
         let (added, units) = (path.to_cstr16().to_u16_slice_with_nul(), self.0.units_mut());
-        let mut length = units.len() - 1;
+        let (before, mut length) = (units.len(), 0);
         // Room for a separator too.
-        units.resize(units.len() + added.len(), 0);
+        units.resize(before + added.len(), 0);
         let reason = sys::nard_path_push(units, added, &mut length);
-        debug_assert!(check(reason, length).is_ok());
-        units.truncate(length + 1);
+        // Only a string that unsafe code made without its condition can fail. The path is then as before.
+        match reason {
+            sys::OK => units.truncate(length + 1),
+            _ => units.truncate(before),
+        }
+        assert_eq!(reason, sys::OK, "the path to add is no string");
     }
 
     /// Returns the string of the path.
+    ///
+    /// ```
+    /// use nardcorbel::PathBuf;
+    ///
+    /// assert_eq!("a/b".parse::<PathBuf>()?.into_cstring16(), r"a\b");
+    /// # Ok::<(), nardcorbel::Error>(())
+    /// ```
     #[must_use]
     pub fn into_cstring16(self) -> CString16 {
         self.0
@@ -81,6 +107,17 @@ impl PathBuf {
 }
 
 /// A value that can be joined with a path: another path, or a text.
+///
+/// ```
+/// use nardcorbel::{cstr16, fs::PathArgument, PathBuf};
+///
+/// fn below_efi<P: PathArgument>(path: P) -> P::Result<PathBuf> {
+///     PathBuf::from(cstr16!("EFI")).join(path)
+/// }
+/// assert_eq!(below_efi(cstr16!("BOOT")), r"EFI\BOOT");
+/// assert_eq!(below_efi("BOOT")?, r"EFI\BOOT");
+/// # Ok::<(), nardcorbel::Error>(())
+/// ```
 pub trait PathArgument {
     /// The result of a call that would return `T` for a path.
     type Result<T>;
@@ -173,9 +210,9 @@ impl<P: AsRef<Path>> FromIterator<P> for PathBuf {
 
 impl<'a> IntoIterator for &'a PathBuf {
     type Item = Component<'a>;
-    type IntoIter = Iter<'a>;
+    type IntoIter = Components<'a>;
 
-    fn into_iter(self) -> Iter<'a> {
+    fn into_iter(self) -> Components<'a> {
         self.iter()
     }
 }
@@ -202,13 +239,6 @@ impl Borrow<Path> for PathBuf {
 
 impl AsRef<CStr16> for PathBuf {
     fn as_ref(&self) -> &CStr16 {
-        &self.0
-    }
-}
-
-/// Paths are equal more often than their strings: look paths up by paths.
-impl Borrow<CStr16> for PathBuf {
-    fn borrow(&self) -> &CStr16 {
         &self.0
     }
 }

@@ -7,7 +7,15 @@ use crate::sys;
 use core::fmt;
 
 /// Why a path names no file.
+///
+/// ```
+/// use nardcorbel::fs::{validate_path, PathError};
+/// use nardcorbel::cstr16;
+///
+/// assert_eq!(validate_path(cstr16!("")), Err(PathError::Empty));
+/// ```
 #[derive(Clone, Copy, Debug, Eq, PartialEq)]
+#[non_exhaustive]
 pub enum PathError {
     /// The path is empty.
     Empty,
@@ -22,12 +30,10 @@ pub enum PathError {
 impl fmt::Display for PathError {
     fn fmt(&self, f: &mut fmt::Formatter<'_>) -> fmt::Result {
         match self {
-            Self::Empty => f.write_str("the path is empty"),
-            Self::EmptyComponent => f.write_str("a component of the path is empty"),
             Self::IllegalChar(it) => {
-                write!(f, "no file name holds {it:?} (U+{:04X})", u16::from(*it))
+                write!(f, "{} (value {})", Reason::IllegalChar, u16::from(*it))
             }
-            Self::ClimbsAboveRoot => f.write_str("the path climbs above the root"),
+            _ => self.parts().0.fmt(f),
         }
     }
 }
@@ -43,7 +49,9 @@ impl core::error::Error for PathError {}
 /// use nardcorbel::{char16, cstr16};
 ///
 /// assert_eq!(validate_path(cstr16!(r"\EFI\a.efi")), Ok(()));
-/// assert_eq!(validate_path(cstr16!("a:b")), Err(PathError::IllegalChar(char16!(':'))));
+/// let error = validate_path(cstr16!("a:b")).unwrap_err();
+/// assert_eq!(error, PathError::IllegalChar(char16!(':')));
+/// assert_eq!(error.to_string(), "path contains an illegal character (value 58)");
 /// ```
 pub fn validate_path<P: AsRef<Path>>(path: P) -> Result<(), PathError> {
     let (mut length, mut unit) = (0, 0);

@@ -1,6 +1,7 @@
 //! Nodes for devices that ACPI names.
 
-use super::node_fields::views;
+use super::fields;
+use super::node_fields::{view, views, Field};
 use crate::data_types::UnalignedSlice;
 
 views! {
@@ -10,18 +11,6 @@ views! {
         hid: u32 = ACPI_HID;
         /// The number of its unique ID, `_UID`.
         uid: u32 = ACPI_UID;
-    }
-
-    /// A device that ACPI names by numbers or by strings.
-    Expanded['a]: EXPANDED, 15 {
-        /// The number of its hardware ID, `_HID`.
-        hid: u32 = EXPANDED_HID;
-        /// The number of its unique ID, `_UID`.
-        uid: u32 = EXPANDED_UID;
-        /// The number of its compatible ID, `_CID`.
-        cid: u32 = EXPANDED_CID;
-        /// The strings of its three IDs `_HID`, `_UID` and `_CID`, each ended by a NUL.
-        id_strings: &'a [u8] = EXPANDED_ID_STRINGS;
     }
 
     /// The outputs of a display adapter.
@@ -37,7 +26,128 @@ views! {
     }
 }
 
+view! {
+    /// A device that ACPI names by numbers or by strings.
+    Expanded: fields::EXPANDED, 15
+}
+
+/// The struct that builds the node with three strings.
+pub(super) mod expanded {
+    use super::fields;
+    use crate::proto::device_path::{BuildNode, DeviceSubType, DeviceType};
+
+    /// A device that ACPI names by numbers or by strings. A NUL is added to each string; a NUL in it ends it.
+    ///
+    /// ```
+    /// use nardcorbel::proto::device_path::build::{acpi, DevicePathBuilder};
+    ///
+    /// let device = acpi::Expanded { hid: 0, uid: 0, cid: 0, hid_str: b"PNP0A03", uid_str: b"7", cid_str: b"" };
+    /// let mut buffer = [0; 64];
+    /// let path = DevicePathBuilder::with_buf(&mut buffer).push(&device)?.finalize()?;
+    /// assert!(path.as_bytes().windows(11).any(|it| it == b"PNP0A03\x007\0\0"));
+    /// # Ok::<(), nardcorbel::proto::device_path::BuildError>(())
+    /// ```
+    #[derive(Clone, Copy, Debug, PartialEq, Eq)]
+    pub struct Expanded<'a> {
+        /// The number of its hardware ID, `_HID`.
+        pub hid: u32,
+        /// The number of its unique ID, `_UID`.
+        pub uid: u32,
+        /// The number of its compatible ID, `_CID`.
+        pub cid: u32,
+        /// The string of `_HID`, or an empty one.
+        pub hid_str: &'a [u8],
+        /// The string of `_UID`, or an empty one.
+        pub uid_str: &'a [u8],
+        /// The string of `_CID`, or an empty one.
+        pub cid_str: &'a [u8],
+    }
+
+    impl BuildNode for Expanded<'_> {
+        fn full_type(&self) -> (DeviceType, DeviceSubType) {
+            (
+                DeviceType(fields::EXPANDED.0),
+                DeviceSubType(fields::EXPANDED.1),
+            )
+        }
+
+        fn parts(&self, write: &mut dyn FnMut(usize, &[u8])) {
+            write(fields::EXPANDED_HID.0, &self.hid.to_le_bytes());
+            write(fields::EXPANDED_UID.0, &self.uid.to_le_bytes());
+            write(fields::EXPANDED_CID.0, &self.cid.to_le_bytes());
+            let mut place = fields::EXPANDED_ID_STRINGS.0;
+            for string in [self.hid_str, self.uid_str, self.cid_str] {
+                let string = string.split(|it| *it == 0).next().unwrap_or_default();
+                for part in [string, &[0]] {
+                    write(place, part);
+                    place += part.len();
+                }
+            }
+        }
+    }
+}
+
 impl Expanded {
+    /// Returns the number of its hardware ID, `_HID`.
+    ///
+    /// ```
+    /// use nardcorbel::proto::device_path::{acpi::Expanded, DevicePathNode};
+    ///
+    /// fn strings(node: &DevicePathNode) -> Option<String> {
+    ///     let device: &Expanded = node.try_into().ok()?;
+    ///     Some(format!("{:?}", device.hid()))
+    /// }
+    /// ```
+    #[must_use]
+    pub fn hid(&self) -> u32 {
+        Field::read(self.0.data(), fields::EXPANDED_HID.0)
+    }
+
+    /// Returns the number of its unique ID, `_UID`.
+    ///
+    /// ```
+    /// use nardcorbel::proto::device_path::{acpi::Expanded, DevicePathNode};
+    ///
+    /// fn strings(node: &DevicePathNode) -> Option<String> {
+    ///     let device: &Expanded = node.try_into().ok()?;
+    ///     Some(format!("{:?}", device.uid()))
+    /// }
+    /// ```
+    #[must_use]
+    pub fn uid(&self) -> u32 {
+        Field::read(self.0.data(), fields::EXPANDED_UID.0)
+    }
+
+    /// Returns the number of its compatible ID, `_CID`.
+    ///
+    /// ```
+    /// use nardcorbel::proto::device_path::{acpi::Expanded, DevicePathNode};
+    ///
+    /// fn strings(node: &DevicePathNode) -> Option<String> {
+    ///     let device: &Expanded = node.try_into().ok()?;
+    ///     Some(format!("{:?}", device.cid()))
+    /// }
+    /// ```
+    #[must_use]
+    pub fn cid(&self) -> u32 {
+        Field::read(self.0.data(), fields::EXPANDED_CID.0)
+    }
+
+    /// Returns the strings of its three IDs `_HID`, `_UID` and `_CID`, each ended by a NUL.
+    ///
+    /// ```
+    /// use nardcorbel::proto::device_path::{acpi::Expanded, DevicePathNode};
+    ///
+    /// fn strings(node: &DevicePathNode) -> Option<String> {
+    ///     let device: &Expanded = node.try_into().ok()?;
+    ///     Some(format!("{:?}", device.id_strings()))
+    /// }
+    /// ```
+    #[must_use]
+    pub fn id_strings(&self) -> &[u8] {
+        Field::read(self.0.data(), fields::EXPANDED_ID_STRINGS.0)
+    }
+
     /// Returns one of the three strings, without its NUL; an empty one if the data ends before it.
     fn string(&self, index: usize) -> &[u8] {
         self.id_strings()
@@ -47,18 +157,45 @@ impl Expanded {
     }
 
     /// Returns the string of `_HID`, without its NUL.
+    ///
+    /// ```
+    /// use nardcorbel::proto::device_path::{acpi::Expanded, DevicePathNode};
+    ///
+    /// fn strings(node: &DevicePathNode) -> Option<String> {
+    ///     let device: &Expanded = node.try_into().ok()?;
+    ///     Some(format!("{:?}", device.hid_str()))
+    /// }
+    /// ```
     #[must_use]
     pub fn hid_str(&self) -> &[u8] {
         self.string(0)
     }
 
     /// Returns the string of `_UID`, without its NUL.
+    ///
+    /// ```
+    /// use nardcorbel::proto::device_path::{acpi::Expanded, DevicePathNode};
+    ///
+    /// fn strings(node: &DevicePathNode) -> Option<String> {
+    ///     let device: &Expanded = node.try_into().ok()?;
+    ///     Some(format!("{:?}", device.uid_str()))
+    /// }
+    /// ```
     #[must_use]
     pub fn uid_str(&self) -> &[u8] {
         self.string(1)
     }
 
     /// Returns the string of `_CID`, without its NUL.
+    ///
+    /// ```
+    /// use nardcorbel::proto::device_path::{acpi::Expanded, DevicePathNode};
+    ///
+    /// fn strings(node: &DevicePathNode) -> Option<String> {
+    ///     let device: &Expanded = node.try_into().ok()?;
+    ///     Some(format!("{:?}", device.cid_str()))
+    /// }
+    /// ```
     #[must_use]
     pub fn cid_str(&self) -> &[u8] {
         self.string(2)

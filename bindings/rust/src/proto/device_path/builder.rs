@@ -9,20 +9,29 @@ use core::fmt;
 use core::mem::MaybeUninit;
 
 /// Why a device path cannot be built.
+///
+/// ```
+/// use nardcorbel::proto::device_path::build::{BuildError, DevicePathBuilder};
+///
+/// let mut buffer = [0; 2];
+/// let path = DevicePathBuilder::with_buf(&mut buffer).finalize();
+/// assert_eq!(path.err(), Some(BuildError::BufferTooSmall));
+/// ```
 #[derive(Clone, Copy, Debug, PartialEq, Eq)]
+#[non_exhaustive]
 pub enum BuildError {
     /// The buffer is too small for the path.
     BufferTooSmall,
     /// A node would have more than 65,535 bytes.
     NodeTooBig,
-    /// A node would end the path, or ends an instance and has data.
+    /// A node follows the end of the path, or is an end node with data or of another sub-type.
     EndNode,
 }
 
 impl fmt::Display for BuildError {
     fn fmt(&self, f: &mut fmt::Formatter<'_>) -> fmt::Result {
         f.write_str(match self {
-            Self::BufferTooSmall => "the buffer is too small for the device path",
+            Self::BufferTooSmall => "buffer too small",
             Self::NodeTooBig => "the node is longer than its header can state",
             Self::EndNode => "an end node may not stand before the end of a device path",
         })
@@ -62,15 +71,30 @@ impl From<BuildError> for Error {
 ///
 /// let mut buffer = [0; 16];
 /// let path = DevicePathBuilder::with_buf(&mut buffer).push(&Lamp(7))?.finalize()?;
-/// assert_eq!(path.to_string(), "Path(3,40,07)");
+/// assert_eq!(format!("{path}"), "Path(3,40,07)");
 /// # Ok::<(), nardcorbel::proto::device_path::BuildError>(())
 /// ```
 pub trait BuildNode {
     /// Returns the type and the sub-type.
+    ///
+    /// ```
+    /// use nardcorbel::proto::device_path::{build, BuildNode, DeviceSubType, DeviceType};
+    ///
+    /// let pci = build::hardware::Pci { function: 2, device: 0x1f };
+    /// assert_eq!(pci.full_type(), (DeviceType::HARDWARE, DeviceSubType::HARDWARE_PCI));
+    /// ```
     fn full_type(&self) -> (DeviceType, DeviceSubType);
 
     /// Writes the data in pieces, each with its place. The node ends with the last piece; bytes
     /// that no piece covers are zero.
+    ///
+    /// ```
+    /// use nardcorbel::proto::device_path::{build, BuildNode};
+    ///
+    /// let (mut data, pci) = ([0; 2], build::hardware::Pci { function: 2, device: 0x1f });
+    /// pci.parts(&mut |place, part| data[place..place + part.len()].copy_from_slice(part));
+    /// assert_eq!(data, [2, 0x1f]);
+    /// ```
     fn parts(&self, write: &mut dyn FnMut(usize, &[u8]));
 }
 
@@ -84,7 +108,7 @@ pub trait BuildNode {
 ///     .push(&build::hardware::Pci { function: 2, device: 0x1f })?
 ///     .push_text(r"Sata(0x0,0xFFFF,0x0)/\a")?
 ///     .finalize()?;
-/// assert_eq!(path.to_string(), r"Pci(0x1F,0x2)/Sata(0x0,0xFFFF,0x0)/\a");
+/// assert_eq!(format!("{path}"), r"Pci(0x1F,0x2)/Sata(0x0,0xFFFF,0x0)/\a");
 /// # Ok::<(), nardcorbel::Error>(())
 /// ```
 #[derive(Debug)]
@@ -92,6 +116,8 @@ pub struct DevicePathBuilder<'a> {
     room: Room<'a>,
     /// The bytes of the path with its end node: 0 if the buffer has no room for that.
     length: usize,
+    /// Whether the end node was pushed.
+    is_ended: bool,
 }
 
 #[derive(Debug)]
@@ -102,6 +128,16 @@ enum Room<'a> {
 }
 
 /// A buffer of bytes, initialized or not.
+///
+/// ```
+/// use nardcorbel::proto::device_path::build::DevicePathBuilder;
+/// use std::mem::MaybeUninit;
+///
+/// let mut buffer = [MaybeUninit::uninit(); 16];
+/// let path = DevicePathBuilder::with_buf(&mut buffer).finalize()?;
+/// assert_eq!(path.as_bytes(), [0x7f, 0xff, 4, 0]);
+/// # Ok::<(), nardcorbel::proto::device_path::BuildError>(())
+/// ```
 pub trait Buffer {
     /// Returns the bytes; those that were not initialized become zero.
     #[doc(hidden)]
@@ -133,6 +169,13 @@ where
 
 impl<'a> DevicePathBuilder<'a> {
     /// Starts a path without nodes in a buffer. It needs 4 bytes for the end node.
+    ///
+    /// ```
+    /// use nardcorbel::proto::device_path::build::DevicePathBuilder;
+    ///
+    /// let mut buffer = [0; 16];
+    /// assert!(DevicePathBuilder::with_buf(&mut buffer).finalize().is_ok());
+    /// ```
     pub fn with_buf<B: Buffer + ?Sized>(buffer: &'a mut B) -> Self {
         let (buffer, mut length) = (buffer.initialized(), 0);
         if sys::nard_device_path_begin(buffer, &mut length) != sys::OK {
@@ -141,10 +184,20 @@ impl<'a> DevicePathBuilder<'a> {
         Self {
             room: Room::Buffer(buffer),
             length,
+            is_ended: false,
         }
     }
 
     /// Starts a path without nodes in a vector, which loses its content and grows as needed.
+    ///
+    /// ```
+    /// use nardcorbel::proto::device_path::build::DevicePathBuilder;
+    ///
+    /// let mut bytes = vec![7];
+    /// let path = DevicePathBuilder::with_vec(&mut bytes).push_text("Pci(0x1F,0x2)")?.finalize()?;
+    /// assert_eq!(path.as_bytes()[..6], [1, 1, 6, 0, 2, 0x1f]);
+    /// # Ok::<(), nardcorbel::Error>(())
+    /// ```
     #[cfg(feature = "alloc")]
     pub fn with_vec(vector: &'a mut Vec<u8>) -> Self {
         vector.clear();
@@ -152,6 +205,7 @@ impl<'a> DevicePathBuilder<'a> {
         Self {
             room: Room::Vec(vector),
             length: 4,
+            is_ended: false,
         }
     }
 
@@ -175,15 +229,35 @@ impl<'a> DevicePathBuilder<'a> {
     }
 
     /// Adds a node.
+    ///
+    /// Fails if the node has more than 65,535 bytes, follows the end of the path, or is an end node with data or of an unknown
+    /// sub-type; or if the buffer is too small.
+    ///
+    /// ```
+    /// use nardcorbel::proto::device_path::build::{messaging, DevicePathBuilder};
+    ///
+    /// let mut buffer = [0; 16];
+    /// let usb = messaging::Usb { parent_port_number: 1, interface: 0 };
+    /// let path = DevicePathBuilder::with_buf(&mut buffer).push(&usb)?.finalize()?;
+    /// assert_eq!(format!("{path}"), "USB(0x1,0x0)");
+    /// # Ok::<(), nardcorbel::proto::device_path::BuildError>(())
+    /// ```
     pub fn push(mut self, node: &dyn BuildNode) -> Result<Self, BuildError> {
         let mut size = 4;
-        node.parts(&mut |place, bytes| size = size.max(4 + place + bytes.len()));
+        node.parts(&mut |place, bytes| {
+            size = size.max(place.saturating_add(bytes.len()).saturating_add(4));
+        });
         let header = u16::try_from(size)
             .map_err(|_| BuildError::NodeTooBig)?
             .to_le_bytes();
         let (DeviceType(kind), DeviceSubType(sub_type)) = node.full_type();
-        if kind == 0x7f && (sub_type != 1 || size > 4) {
+        let is_end = kind == 0x7f;
+        if self.is_ended || is_end && (size > 4 || !matches!(sub_type, 1 | 0xff)) {
             return Err(BuildError::EndNode);
+        }
+        if is_end && sub_type == 0xff {
+            self.is_ended = true;
+            return Ok(self);
         }
         let start = self.length.saturating_sub(4);
         let bytes = &mut self.room(size)?[start..];
@@ -198,6 +272,9 @@ impl<'a> DevicePathBuilder<'a> {
 
     /// Calls the library with a buffer, and again with a larger one if the buffer can grow.
     fn add(mut self, call: &mut dyn FnMut(&mut [u8], &mut usize) -> u32) -> Result<Self, Error> {
+        if self.is_ended {
+            return Err(BuildError::EndNode.into());
+        }
         let mut length = 0;
         let mut reason = call(self.room(0)?, &mut length);
         if reason == sys::BUFFER_TOO_SMALL {
@@ -213,6 +290,17 @@ impl<'a> DevicePathBuilder<'a> {
     }
 
     /// Adds all nodes of another path.
+    ///
+    /// ```
+    /// use nardcorbel::{proto::device_path::build::DevicePathBuilder, DevicePath};
+    ///
+    /// let device: Box<DevicePath> = "PciRoot(0x0)/Pci(0x1F,0x2)".parse()?;
+    /// let mut bytes = Vec::new();
+    /// let builder = DevicePathBuilder::with_vec(&mut bytes).push_path(&device)?;
+    /// let path = builder.push_text("Sata(0x0,0xFFFF,0x0)")?.finalize()?;
+    /// assert_eq!(path.node_iter().count(), 3);
+    /// # Ok::<(), nardcorbel::Error>(())
+    /// ```
     pub fn push_path(self, path: &DevicePath) -> Result<Self, Error> {
         self.add(&mut |room, length| sys::nard_device_path_append(room, path.as_bytes(), length))
     }
@@ -226,7 +314,7 @@ impl<'a> DevicePathBuilder<'a> {
     ///
     /// let mut bytes = Vec::new();
     /// let error = DevicePathBuilder::with_vec(&mut bytes).push_text("Pci(x)").unwrap_err();
-    /// assert_eq!(error.to_string(), "no node, at 0");
+    /// assert_eq!(error.to_string(), "no node at offset 0");
     /// ```
     pub fn push_text(self, text: &str) -> Result<Self, Error> {
         self.add(&mut |room, length| sys::nard_device_path_push_text(room, text.as_bytes(), length))
@@ -245,7 +333,7 @@ impl<'a> DevicePathBuilder<'a> {
     /// let mut bytes = Vec::new();
     /// let builder = DevicePathBuilder::with_vec(&mut bytes);
     /// let path = builder.push_lenient_text("pci(31, 2)/File(a)")?.finalize()?;
-    /// assert_eq!(path.to_string(), r"Pci(0x1F,0x2)/\a");
+    /// assert_eq!(format!("{path}"), r"Pci(0x1F,0x2)/\a");
     /// # Ok::<(), nardcorbel::Error>(())
     /// ```
     pub fn push_lenient_text(self, text: &str) -> Result<Self, Error> {
@@ -276,6 +364,16 @@ impl<'a> DevicePathBuilder<'a> {
     /// Adds the nodes of a text in UTF-16 as people write it, which [`push_lenient_text`](Self::push_lenient_text) reads in UTF-8.
     ///
     /// Fails as [`push_units`](Self::push_units) does, but with [`Reason::NoNode`] at the wrong unit.
+    ///
+    /// ```
+    /// use nardcorbel::proto::device_path::build::DevicePathBuilder;
+    ///
+    /// let mut bytes = Vec::new();
+    /// let units: Vec<u16> = "pci(31, 2)".encode_utf16().collect();
+    /// let path = DevicePathBuilder::with_vec(&mut bytes).push_lenient_units(&units)?.finalize()?;
+    /// assert_eq!(format!("{path}"), "Pci(0x1F,0x2)");
+    /// # Ok::<(), nardcorbel::Error>(())
+    /// ```
     pub fn push_lenient_units(self, units: &[u16]) -> Result<Self, Error> {
         self.add(&mut |room, length| sys::nard_device_path_push_lenient_units(room, units, length))
     }
@@ -291,7 +389,7 @@ impl<'a> DevicePathBuilder<'a> {
     /// let builder = DevicePathBuilder::with_vec(&mut bytes);
     /// let text = "NVMe(0x1,00-25-38-5B-71-B0-03-1C)";
     /// let path = builder.push_libefivar_text(text)?.finalize()?;
-    /// assert_eq!(path.to_string(), "NVMe(0x1,1C-03-B0-71-5B-38-25-00)");
+    /// assert_eq!(format!("{path}"), "NVMe(0x1,1C-03-B0-71-5B-38-25-00)");
     /// # Ok::<(), nardcorbel::Error>(())
     /// ```
     pub fn push_libefivar_text(self, text: &str) -> Result<Self, Error> {
@@ -320,6 +418,14 @@ impl<'a> DevicePathBuilder<'a> {
 
     /// Returns the number of bytes at the start of a text that are a path, as [`push_libefivar_text`](Self::push_libefivar_text)
     /// reads it.
+    ///
+    /// ```
+    /// use nardcorbel::proto::device_path::build::DevicePathBuilder;
+    ///
+    /// let text = r"PciRoot(0x0)/File(\a.efi)RC";
+    /// assert_eq!(&text[DevicePathBuilder::libefivar_text_extent(text)?..], "RC");
+    /// # Ok::<(), nardcorbel::Error>(())
+    /// ```
     pub fn libefivar_text_extent(text: &str) -> Result<usize, Error> {
         let mut length = 0;
         let reason = sys::nard_libefivar_text_extent(text.as_bytes(), &mut length);
@@ -348,7 +454,19 @@ impl<'a> DevicePathBuilder<'a> {
 
     /// Writes in words why [`push_lenient_units`](Self::push_lenient_units) fails with [`Reason::NoNode`] for a text, as
     /// [`lenient_text_fault`](Self::lenient_text_fault) does for a text in UTF-8. Offsets in the words count units.
-    pub fn lenient_units_fault<'b>(units: &[u16], buffer: &'b mut [u16]) -> Result<&'b [u16], Error> {
+    ///
+    /// ```
+    /// use nardcorbel::proto::device_path::build::DevicePathBuilder;
+    ///
+    /// let (text, mut units) = ("Pci(x)".encode_utf16().collect::<Vec<u16>>(), [0; 64]);
+    /// let words = String::from_utf16_lossy(DevicePathBuilder::lenient_units_fault(&text, &mut units)?);
+    /// assert_eq!(words, "no node at offset 0: expected a number up to 0xFF at offset 4");
+    /// # Ok::<(), nardcorbel::Error>(())
+    /// ```
+    pub fn lenient_units_fault<'b>(
+        units: &[u16],
+        buffer: &'b mut [u16],
+    ) -> Result<&'b [u16], Error> {
         let mut length = 0;
         let reason = sys::nard_lenient_units_fault(units, buffer, &mut length);
         crate::error::check(reason, length)?;
@@ -356,6 +474,15 @@ impl<'a> DevicePathBuilder<'a> {
     }
 
     /// Returns the path.
+    ///
+    /// ```
+    /// use nardcorbel::proto::device_path::build::DevicePathBuilder;
+    ///
+    /// let mut buffer = [0; 16];
+    /// let path = DevicePathBuilder::with_buf(&mut buffer).finalize()?;
+    /// assert_eq!(path.node_iter().count(), 0);
+    /// # Ok::<(), nardcorbel::proto::device_path::BuildError>(())
+    /// ```
     pub fn finalize(mut self) -> Result<&'a DevicePath, BuildError> {
         self.room(0)?;
         let bytes: &'a [u8] = match self.room {

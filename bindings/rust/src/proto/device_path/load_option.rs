@@ -26,6 +26,16 @@ pub struct LoadOption<'a> {
 
 impl<'a> LoadOption<'a> {
     /// Reads a load option. Fails for the first fault; the error's place is its offset.
+    ///
+    /// ```
+    /// use nardcorbel::LoadOption;
+    ///
+    /// let entry = [1, 0, 0, 0, 4, 0, 0x62, 0, 0, 0, 0x7f, 0xff, 4, 0, 9];
+    /// assert!(LoadOption::from_bytes(&entry).is_ok());
+    /// let error = LoadOption::from_bytes(&entry[..5]).unwrap_err();
+    /// assert_eq!(error.to_string(), "the load option ends before its description at offset 5");
+    /// # Ok::<(), nardcorbel::Error>(())
+    /// ```
     pub fn from_bytes(bytes: &'a [u8]) -> Result<Self, Error> {
         let (mut parts, mut offset) = (sys::LoadOption::default(), 0);
         check(
@@ -36,6 +46,14 @@ impl<'a> LoadOption<'a> {
     }
 
     /// Returns the attributes.
+    ///
+    /// ```
+    /// use nardcorbel::LoadOption;
+    ///
+    /// let entry = [1, 0, 0, 0, 4, 0, 0x62, 0, 0, 0, 0x7f, 0xff, 4, 0, 9];
+    /// assert_eq!(LoadOption::from_bytes(&entry)?.attributes(), 1);
+    /// # Ok::<(), nardcorbel::Error>(())
+    /// ```
     #[must_use]
     pub fn attributes(&self) -> u32 {
         // The library promises that these are 32 bits.
@@ -43,12 +61,28 @@ impl<'a> LoadOption<'a> {
     }
 
     /// Returns whether firmware tries the option by itself: the first bit of the attributes.
+    ///
+    /// ```
+    /// use nardcorbel::LoadOption;
+    ///
+    /// let entry = [1, 0, 0, 0, 4, 0, 0x62, 0, 0, 0, 0x7f, 0xff, 4, 0, 9];
+    /// assert!(LoadOption::from_bytes(&entry)?.is_active());
+    /// # Ok::<(), nardcorbel::Error>(())
+    /// ```
     #[must_use]
     pub fn is_active(&self) -> bool {
         self.attributes() % 2 == 1
     }
 
     /// Iterates over the code units of the description, without its NUL. They may be surrogates.
+    ///
+    /// ```
+    /// use nardcorbel::LoadOption;
+    ///
+    /// let entry = [1, 0, 0, 0, 4, 0, 0x62, 0, 0, 0, 0x7f, 0xff, 4, 0, 9];
+    /// assert!(LoadOption::from_bytes(&entry)?.description_units().eq([0x62]));
+    /// # Ok::<(), nardcorbel::Error>(())
+    /// ```
     pub fn description_units(&self) -> impl Iterator<Item = u16> + Clone + 'a {
         let (start, length) = (self.parts.description_start, self.parts.description_length);
         self.bytes[start..start + 2 * length]
@@ -58,17 +92,42 @@ impl<'a> LoadOption<'a> {
 
     /// Iterates over the characters of the description. U+FFFD stands for each unpaired surrogate. They may be
     /// control characters: print [`LoadOption::description`].
+    ///
+    /// ```
+    /// use nardcorbel::LoadOption;
+    ///
+    /// let entry = [1, 0, 0, 0, 4, 0, 0x62, 0, 0, 0, 0x7f, 0xff, 4, 0, 9];
+    /// assert!(LoadOption::from_bytes(&entry)?.description_chars().eq(['b']));
+    /// # Ok::<(), nardcorbel::Error>(())
+    /// ```
     pub fn description_chars(&self) -> impl Iterator<Item = char> + Clone + 'a {
         char::decode_utf16(self.description_units())
             .map(|it| it.unwrap_or(char::REPLACEMENT_CHARACTER))
     }
 
     /// Returns the description as people may see it: see [`Shown`].
+    ///
+    /// ```
+    /// use nardcorbel::LoadOption;
+    ///
+    /// let entry = [1, 0, 0, 0, 4, 0, 0x62, 0, 0, 0, 0x7f, 0xff, 4, 0, 9];
+    /// assert_eq!(LoadOption::from_bytes(&entry)?.description().to_string(), "b");
+    /// # Ok::<(), nardcorbel::Error>(())
+    /// ```
     pub fn description(&self) -> Shown<impl Iterator<Item = char> + Clone + 'a> {
         Shown(self.description_chars())
     }
 
     /// Iterates over the device paths of the file path list. There is at least one.
+    ///
+    /// ```
+    /// use nardcorbel::LoadOption;
+    ///
+    /// let entry = [1, 0, 0, 0, 4, 0, 0x62, 0, 0, 0, 0x7f, 0xff, 4, 0, 9];
+    /// let option = LoadOption::from_bytes(&entry)?;
+    /// assert_eq!(option.device_paths().next().unwrap().as_bytes(), [0x7f, 0xff, 4, 0]);
+    /// # Ok::<(), nardcorbel::Error>(())
+    /// ```
     #[must_use]
     pub fn device_paths(&self) -> LoadOptionDevicePaths<'a> {
         let (start, length) = (self.parts.list_start, self.parts.list_length);
@@ -78,6 +137,14 @@ impl<'a> LoadOption<'a> {
     }
 
     /// Returns the bytes after the file path list.
+    ///
+    /// ```
+    /// use nardcorbel::LoadOption;
+    ///
+    /// let entry = [1, 0, 0, 0, 4, 0, 0x62, 0, 0, 0, 0x7f, 0xff, 4, 0, 9];
+    /// assert_eq!(LoadOption::from_bytes(&entry)?.optional_data(), [9]);
+    /// # Ok::<(), nardcorbel::Error>(())
+    /// ```
     #[must_use]
     pub fn optional_data(&self) -> &'a [u8] {
         let (start, length) = (self.parts.optional_start, self.parts.optional_length);
@@ -94,6 +161,15 @@ impl<'a> TryFrom<&'a [u8]> for LoadOption<'a> {
 }
 
 /// Iterates over the device paths of a load option.
+///
+/// ```
+/// use nardcorbel::LoadOption;
+///
+/// let entry = [1, 0, 0, 0, 4, 0, 0x62, 0, 0, 0, 0x7f, 0xff, 4, 0, 9];
+/// let mut paths = LoadOption::from_bytes(&entry)?.device_paths();
+/// assert!(paths.next().is_some() && paths.next().is_none());
+/// # Ok::<(), nardcorbel::Error>(())
+/// ```
 #[derive(Clone, Debug)]
 pub struct LoadOptionDevicePaths<'a> {
     rest: &'a [u8],
@@ -166,6 +242,17 @@ pub mod build {
         /// Writes the load option to the start of a buffer, and returns its bytes.
         ///
         /// Fails if the device path has more than 65,535 bytes, or if the buffer is too small. Then the buffer is unchanged.
+        ///
+        /// ```
+        /// use nardcorbel::proto::device_path::{build, DevicePath};
+        /// use nardcorbel::cstr16;
+        ///
+        /// let path: Box<DevicePath> = r"\a".parse()?;
+        /// let (description, optional_data) = (cstr16!("a"), &[][..]);
+        /// let entry = build::LoadOption { attributes: 1, description, device_path: &path, optional_data };
+        /// assert_eq!(entry.write_in_buf(&mut [0; 64])?[..4], [1, 0, 0, 0]);
+        /// # Ok::<(), nardcorbel::Error>(())
+        /// ```
         pub fn write_in_buf<'b>(&self, buffer: &'b mut [u8]) -> Result<&'b [u8], Error> {
             let mut length = 0;
             check_bytes(self.write(buffer, &mut length), length)?;
@@ -173,6 +260,17 @@ pub mod build {
         }
 
         /// Returns the bytes of the load option. Fails if the device path has more than 65,535.
+        ///
+        /// ```
+        /// use nardcorbel::proto::device_path::{build, DevicePath};
+        /// use nardcorbel::cstr16;
+        ///
+        /// let path: Box<DevicePath> = r"\a".parse()?;
+        /// let (description, optional_data) = (cstr16!("a"), &[][..]);
+        /// let entry = build::LoadOption { attributes: 1, description, device_path: &path, optional_data };
+        /// assert_eq!(entry.to_vec()?.len(), 6 + 4 + path.as_bytes().len());
+        /// # Ok::<(), nardcorbel::Error>(())
+        /// ```
         #[cfg(feature = "alloc")]
         pub fn to_vec(&self) -> Result<alloc::vec::Vec<u8>, Error> {
             // There are six bytes before the description.

@@ -96,7 +96,21 @@ views! {
 }
 
 /// The signature of a partition.
+///
+/// ```
+/// use nardcorbel::proto::device_path::{media::PartitionSignature, DevicePath, DevicePathNodeEnum};
+///
+/// let path: Box<DevicePath> = "HD(1,MBR,0xA0021243,0x800,0x1000)".parse()?;
+/// match path.node_iter().next().unwrap().as_enum() {
+///     Ok(DevicePathNodeEnum::MediaHardDrive(it)) => {
+///         assert_eq!(it.partition_signature(), PartitionSignature::Mbr([0x43, 0x12, 2, 0xa0]));
+///     }
+///     other => panic!("{other:?}"),
+/// }
+/// # Ok::<(), nardcorbel::Error>(())
+/// ```
 #[derive(Clone, Copy, Debug, PartialEq, Eq, Hash)]
+#[non_exhaustive]
 pub enum PartitionSignature {
     /// None.
     None,
@@ -156,17 +170,25 @@ impl Put for PartitionSignature {
 
 view! {
     /// The name of a file or a folder.
-    FilePath: FILE_PATH, 0
+    FilePath: fields::FILE_PATH, 0
 }
-
-/// The type and the sub-type of a file's name.
-const FILE_PATH: (u8, u8) = (4, 4);
 
 /// The items of [`build::media`](super::build::media) besides the structs of the table.
 pub(super) mod file {
-    use super::{BuildNode, CStr16, DeviceSubType, DeviceType, FILE_PATH};
+    use super::{fields, BuildNode, CStr16, DeviceSubType, DeviceType};
 
     /// The name of a file or a folder.
+    ///
+    /// ```
+    /// use nardcorbel::proto::device_path::build::{media, DevicePathBuilder};
+    /// use nardcorbel::cstr16;
+    ///
+    /// let mut buffer = [0; 64];
+    /// let node = media::FilePath { path_name: cstr16!(r"\EFI\a.efi") };
+    /// let path = DevicePathBuilder::with_buf(&mut buffer).push(&node)?.finalize()?;
+    /// assert_eq!(format!("{path}"), r"\EFI\a.efi");
+    /// # Ok::<(), nardcorbel::proto::device_path::BuildError>(())
+    /// ```
     #[derive(Clone, Copy, Debug, PartialEq, Eq)]
     pub struct FilePath<'a> {
         /// The name, with its NUL.
@@ -175,7 +197,10 @@ pub(super) mod file {
 
     impl BuildNode for FilePath<'_> {
         fn full_type(&self) -> (DeviceType, DeviceSubType) {
-            (DeviceType(FILE_PATH.0), DeviceSubType(FILE_PATH.1))
+            (
+                DeviceType(fields::FILE_PATH.0),
+                DeviceSubType(fields::FILE_PATH.1),
+            )
         }
 
         fn parts(&self, write: &mut dyn FnMut(usize, &[u8])) {
@@ -188,6 +213,15 @@ pub(super) mod file {
 
 impl FilePath {
     /// Returns the units of the name, with its NUL.
+    ///
+    /// ```
+    /// use nardcorbel::proto::device_path::{media::FilePath, DevicePath, NodeConversionError};
+    ///
+    /// let path: Box<DevicePath> = r"\a".parse().unwrap();
+    /// let name: &FilePath = path.node_iter().next().unwrap().try_into()?;
+    /// assert_eq!(name.path_name().to_vec(), [0x5c, 0x61, 0]);
+    /// # Ok::<(), NodeConversionError>(())
+    /// ```
     #[must_use]
     pub fn path_name(&self) -> UnalignedSlice<'_, u16> {
         UnalignedSlice::from_unit_bytes(self.0.data())

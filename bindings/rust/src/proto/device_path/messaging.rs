@@ -394,6 +394,16 @@ views! {
 
 impl RestService {
     /// Returns the GUID of a vendor's service and the vendor's data after it, or `None` if the service is another or has no GUID.
+    ///
+    /// ```no_run
+    /// use nardcorbel::proto::device_path::messaging::RestService;
+    ///
+    /// fn print(service: &RestService) {
+    ///     if let Some((guid, data)) = service.vendor_guid_and_data() {
+    ///         println!("{guid}: {data:?}");
+    ///     }
+    /// }
+    /// ```
     #[must_use]
     pub fn vendor_guid_and_data(&self) -> Option<(Guid, &[u8])> {
         let (guid, data) = self.0.data()[2..].split_at_checked(16)?;

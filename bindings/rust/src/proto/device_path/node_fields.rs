@@ -113,6 +113,9 @@ impl Put for Guid {
 macro_rules! named {
     ($(#[$about:meta])* $name:ident($inner:ty) { $($value:ident = $number:expr;)* }) => {
         $(#[$about])*
+        #[doc = concat!("\n```no_run\nuse ", module_path!(), "::", stringify!($name), ";\n\nlet known = [")]
+        $(#[doc = concat!("    ", stringify!($name), "::", stringify!($value), ",")])*
+        #[doc = "];\nprintln!(\"{known:?}\");\n```"]
         #[derive(Clone, Copy, Debug, PartialEq, Eq, PartialOrd, Ord, Hash)]
         #[repr(transparent)]
         pub struct $name(pub $inner);
@@ -143,6 +146,10 @@ pub(crate) use named;
 macro_rules! view {
     ($(#[$about:meta])* $name:ident: $kind:expr, $least:literal) => {
         $(#[$about])*
+        #[doc = concat!(
+            "\n```no_run\nuse nardcorbel::proto::device_path::DevicePathNode;\nuse ", module_path!(), "::", stringify!($name),
+            ";\n\nfn view(node: &DevicePathNode) -> Option<&", stringify!($name), "> {\n    node.try_into().ok()\n}\n```"
+        )]
         #[derive(Debug, PartialEq, Eq, Hash)]
         #[repr(transparent)]
         pub struct $name($crate::proto::device_path::DevicePathNode);
@@ -188,6 +195,10 @@ macro_rules! views {
             impl $name {
                 $(
                     $(#[$field_about])*
+                    #[doc = concat!(
+                        "\n```no_run\nuse ", module_path!(), "::", stringify!($name), ";\n\nfn print(node: &", stringify!($name),
+                        ") {\n    println!(\"{:?}\", node.", stringify!($field), "());\n}\n```"
+                    )]
                     #[must_use]
                     pub fn $field<'a>(&'a self) -> $type {
                         const {
@@ -209,6 +220,11 @@ macro_rules! views {
 
             $(
                 $(#[$about])*
+                #[doc = concat!(
+                    "\n```no_run\nuse nardcorbel::proto::device_path::build::{BuildError, DevicePathBuilder};\nuse ", module_path!(), "::",
+                    stringify!($name), ";\n\nfn add<'a>(path: DevicePathBuilder<'a>, node: &", stringify!($name),
+                    ") -> Result<DevicePathBuilder<'a>, BuildError> {\n    path.push(node)\n}\n```"
+                )]
                 #[derive(Clone, Copy, Debug, PartialEq, Eq)]
                 pub struct $name<$($life)?> {
                     $($(#[$field_about])* pub $field: built!($type $(; $built)?),)*

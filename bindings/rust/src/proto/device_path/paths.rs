@@ -1,6 +1,6 @@
 //! Device paths in borrowed and in owned bytes.
 
-use super::{text, DevicePathNode, DeviceType};
+use super::{text, DevicePathNode, DeviceType, FfiDevicePath};
 use crate::data_types::CStr16;
 use crate::error::{check, Error};
 use crate::fs::Path;
@@ -16,7 +16,7 @@ use core::iter::FusedIterator;
 /// use nardcorbel::DevicePath;
 ///
 /// let path = DevicePath::from_bytes(&[1, 1, 6, 0, 2, 0x1f, 0x7f, 0xff, 4, 0])?;
-/// assert_eq!(path.to_string(), "Pci(0x1F,0x2)");
+/// assert_eq!(format!("{path}"), "Pci(0x1F,0x2)");
 /// for node in path {
 ///     println!("{node}: {} bytes", node.length());
 /// }
@@ -41,7 +41,7 @@ impl DevicePath {
     /// use nardcorbel::DevicePath;
     ///
     /// let error = DevicePath::from_bytes(&[1, 1, 3, 0]).unwrap_err();
-    /// assert_eq!(error.to_string(), "a node is shorter than its header, at 2");
+    /// assert_eq!(error.to_string(), "a node is shorter than its header at offset 2");
     /// ```
     pub fn from_bytes(bytes: &[u8]) -> Result<&Self, Error> {
         let mut length = 0;
@@ -54,8 +54,18 @@ impl DevicePath {
     /// # Safety
     ///
     /// There are nodes at the address, up to the end node, and they are unchanged while the path is used.
+    ///
+    /// ```
+    /// use nardcorbel::DevicePath;
+    ///
+    /// let path: Box<DevicePath> = r"Pci(0x1F,0x2)/\a".parse()?;
+    /// // SAFETY: the pointer is that of a path.
+    /// assert_eq!(unsafe { DevicePath::from_ffi_ptr(path.as_ffi_ptr()) }, &*path);
+    /// # Ok::<(), nardcorbel::Error>(())
+    /// ```
     #[must_use]
-    pub unsafe fn from_ffi_ptr<'a>(ptr: *const u8) -> &'a Self {
+    pub unsafe fn from_ffi_ptr<'a>(ptr: *const FfiDevicePath) -> &'a Self {
+        let ptr: *const u8 = ptr.cast();
         // SAFETY: the caller's, for each header up to the end node's and for the slice of all.
         unsafe {
             let mut length = 0;
@@ -79,10 +89,10 @@ impl DevicePath {
     ///
     /// let bytes = [1, 1, 6, 0, 2, 0x1f, 0x7f, 0xff, 4, 0];
     /// // SAFETY: these bytes are a path.
-    /// let path = unsafe { DevicePath::try_from_ffi_ptr(bytes.as_ptr(), 4096)? };
+    /// let path = unsafe { DevicePath::try_from_ffi_ptr(bytes.as_ptr().cast(), 4096)? };
     /// assert_eq!(path.as_bytes(), bytes);
     /// // SAFETY: the first nine bytes can be read.
-    /// let error = unsafe { DevicePath::try_from_ffi_ptr(bytes.as_ptr(), 9) }.unwrap_err();
+    /// let error = unsafe { DevicePath::try_from_ffi_ptr(bytes.as_ptr().cast(), 9) }.unwrap_err();
     /// assert_eq!((error.reason, error.place), (Reason::TruncatedHeader, 6));
     /// # Ok::<(), nardcorbel::Error>(())
     /// ```
@@ -91,16 +101,22 @@ impl DevicePath {
     ///
     /// The bytes up to the end of the path, or `limit` bytes if there is no well-formed path, can be read, and are unchanged while
     /// the path is used.
-    pub unsafe fn try_from_ffi_ptr<'a>(ptr: *const u8, limit: usize) -> Result<&'a Self, Error> {
+    pub unsafe fn try_from_ffi_ptr<'a>(
+        ptr: *const FfiDevicePath,
+        limit: usize,
+    ) -> Result<&'a Self, Error> {
         let (mut offset, mut needed) = (0, 4);
         loop {
             let count = needed.min(limit);
             // SAFETY: the caller's, since a well-formed path that begins with the bytes read so far has `needed` bytes or more.
-            let bytes = unsafe { core::slice::from_raw_parts(ptr, count) };
+            let bytes = unsafe { core::slice::from_raw_parts(ptr.cast(), count) };
             if count < needed {
                 return Self::from_bytes(bytes);
             }
-            check(sys::nard_device_path_needs(bytes, &mut offset, &mut needed), offset)?;
+            check(
+                sys::nard_device_path_needs(bytes, &mut offset, &mut needed),
+                offset,
+            )?;
             if needed <= count {
                 return Ok(Self::of(&bytes[..needed]));
             }
@@ -108,18 +124,42 @@ impl DevicePath {
     }
 
     /// Returns the address of the first node, for the firmware.
+    ///
+    /// ```
+    /// use nardcorbel::DevicePath;
+    ///
+    /// let path: Box<DevicePath> = r"Pci(0x1F,0x2)/\a".parse()?;
+    /// assert_eq!(path.as_ffi_ptr().cast(), path.as_bytes().as_ptr());
+    /// # Ok::<(), nardcorbel::Error>(())
+    /// ```
     #[must_use]
-    pub const fn as_ffi_ptr(&self) -> *const u8 {
-        self.0.as_ptr()
+    pub const fn as_ffi_ptr(&self) -> *const FfiDevicePath {
+        self.0.as_ptr().cast()
     }
 
     /// Returns all bytes of the path, including its end node.
+    ///
+    /// ```
+    /// use nardcorbel::DevicePath;
+    ///
+    /// let path: Box<DevicePath> = r"Pci(0x1F,0x2)/\a".parse()?;
+    /// assert_eq!(path.as_bytes()[..6], [1, 1, 6, 0, 2, 0x1f]);
+    /// # Ok::<(), nardcorbel::Error>(())
+    /// ```
     #[must_use]
     pub const fn as_bytes(&self) -> &[u8] {
         &self.0
     }
 
     /// Iterates over the nodes, without the end node.
+    ///
+    /// ```
+    /// use nardcorbel::DevicePath;
+    ///
+    /// let path: Box<DevicePath> = r"Pci(0x1F,0x2)/\a".parse()?;
+    /// assert_eq!(path.node_iter().count(), 2);
+    /// # Ok::<(), nardcorbel::Error>(())
+    /// ```
     #[must_use]
     pub fn node_iter(&self) -> DevicePathNodeIterator<'_> {
         DevicePathNodeIterator {
@@ -145,6 +185,14 @@ impl DevicePath {
     /// Writes the names of all nodes that name files to the start of a buffer, as one path, and returns it.
     ///
     /// Fails if one of these names is not a string, or if the buffer is too small.
+    ///
+    /// ```
+    /// use nardcorbel::DevicePath;
+    ///
+    /// let path: Box<DevicePath> = r"Pci(0x1F,0x2)/\a".parse()?;
+    /// assert_eq!(path.file_path_in_buf(&mut [0; 8])?, r"\a");
+    /// # Ok::<(), nardcorbel::Error>(())
+    /// ```
     pub fn file_path_in_buf<'b>(&self, buffer: &'b mut [u16]) -> Result<&'b Path, Error> {
         let mut length = 0;
         check(
@@ -159,6 +207,16 @@ impl DevicePath {
     /// `display_only` asks for shorter forms that cannot be read back, `allow_shortcuts` for names such as `VenPcAnsi()`.
     ///
     /// A buffer of four units for each byte of the path always has room.
+    ///
+    /// ```
+    /// use nardcorbel::DevicePath;
+    ///
+    /// let path: Box<DevicePath> = r"Pci(0x1F,0x2)/\a".parse()?;
+    /// let mut units = [0; 64];
+    /// let text = path.text_in_buf(true, false, &mut units)?;
+    /// assert_eq!(String::from_utf16_lossy(text), r"Pci(0x1F,0x2)/\a");
+    /// # Ok::<(), nardcorbel::Error>(())
+    /// ```
     pub fn text_in_buf<'b>(
         &self,
         display_only: bool,
@@ -183,11 +241,23 @@ impl DevicePath {
     /// ```
     pub fn libefivar_text_in_buf<'b>(&self, buffer: &'b mut [u16]) -> Result<&'b [u16], Error> {
         let mut length = 0;
-        check(sys::nard_device_path_libefivar_text(&self.0, buffer, &mut length), length)?;
+        check(
+            sys::nard_device_path_libefivar_text(&self.0, buffer, &mut length),
+            length,
+        )?;
         Ok(&buffer[..length])
     }
 
     /// Returns the path without the nodes of another one at its start, or `None` if it does not begin with them.
+    ///
+    /// ```
+    /// use nardcorbel::DevicePath;
+    ///
+    /// let path: Box<DevicePath> = r"Pci(0x1F,0x2)/\a".parse()?;
+    /// let device: Box<DevicePath> = "Pci(0x1F,0x2)".parse()?;
+    /// assert_eq!(format!("{}", path.strip_prefix(&device).unwrap()), r"\a");
+    /// # Ok::<(), nardcorbel::Error>(())
+    /// ```
     #[must_use]
     pub fn strip_prefix(&self, prefix: &DevicePath) -> Option<&DevicePath> {
         let mut offset = 0;
@@ -196,6 +266,15 @@ impl DevicePath {
     }
 
     /// Returns whether a short form, such as `HD(..)/\file`, stands for this full path.
+    ///
+    /// ```
+    /// use nardcorbel::DevicePath;
+    ///
+    /// let short: Box<DevicePath> = r"HD(1,MBR,0xA0021243,0x800,0x1000)/\a".parse()?;
+    /// let full: Box<DevicePath> = format!("PciRoot(0x0)/Pci(0x1F,0x2)/{short}").parse()?;
+    /// assert!(full.is_expansion_of(&short));
+    /// # Ok::<(), nardcorbel::Error>(())
+    /// ```
     #[must_use]
     pub fn is_expansion_of(&self, short: &DevicePath) -> bool {
         sys::nard_device_path_is_expansion(&self.0, &short.0)
@@ -212,6 +291,14 @@ impl DevicePath {
     }
 
     /// Copies the path.
+    ///
+    /// ```
+    /// use nardcorbel::DevicePath;
+    ///
+    /// let path: Box<DevicePath> = r"Pci(0x1F,0x2)/\a".parse()?;
+    /// assert_eq!(path.to_boxed(), path);
+    /// # Ok::<(), nardcorbel::Error>(())
+    /// ```
     #[must_use]
     pub fn to_boxed(&self) -> Box<Self> {
         Self::boxed(self.0.to_vec())
@@ -224,7 +311,7 @@ impl DevicePath {
     ///
     /// let device: Box<DevicePath> = "PciRoot(0x0)".parse()?;
     /// let file: Box<DevicePath> = r"\a".parse()?;
-    /// assert_eq!(device.append_path(&file)?.to_string(), r"PciRoot(0x0)/\a");
+    /// assert_eq!(format!("{}", device.append_path(&file)?), r"PciRoot(0x0)/\a");
     /// # Ok::<(), nardcorbel::Error>(())
     /// ```
     pub fn append_path(&self, right: &Self) -> Result<Box<Self>, Error> {
@@ -239,6 +326,15 @@ impl DevicePath {
     }
 
     /// Copies the nodes of this path, followed by another node.
+    ///
+    /// ```
+    /// use nardcorbel::DevicePath;
+    ///
+    /// let path: Box<DevicePath> = r"Pci(0x1F,0x2)/\a".parse()?;
+    /// let node = path.node_iter().next().unwrap();
+    /// assert_eq!(path.append_node(node)?.node_iter().count(), 3);
+    /// # Ok::<(), nardcorbel::Error>(())
+    /// ```
     pub fn append_node(&self, right: &DevicePathNode) -> Result<Box<Self>, Error> {
         let (mut bytes, mut length) = (self.0.to_vec(), 0);
         bytes.resize(bytes.len() + right.as_bytes().len(), 0);
@@ -327,12 +423,30 @@ impl fmt::Debug for DevicePath {
 }
 
 /// An instance of a device path: some of its nodes, and the node that ends the instance or the path.
+///
+/// ```
+/// use nardcorbel::DevicePath;
+///
+/// let path: Box<DevicePath> = r"Pci(0x1F,0x2)/\a".parse()?;
+/// let instance = path.instance_iter().next().unwrap();
+/// assert_eq!(instance.to_string(), r"Pci(0x1F,0x2)/\a");
+/// # Ok::<(), nardcorbel::Error>(())
+/// ```
 #[derive(PartialEq, Eq, Hash)]
 #[repr(transparent)]
 pub struct DevicePathInstance([u8]);
 
 impl DevicePathInstance {
     /// Iterates over the nodes, without the node that ends the instance.
+    ///
+    /// ```
+    /// use nardcorbel::DevicePath;
+    ///
+    /// let path: Box<DevicePath> = r"Pci(0x1F,0x2)/\a".parse()?;
+    /// let instance = path.instance_iter().next().unwrap();
+    /// assert_eq!(instance.node_iter().count(), 2);
+    /// # Ok::<(), nardcorbel::Error>(())
+    /// ```
     #[must_use]
     pub fn node_iter(&self) -> DevicePathNodeIterator<'_> {
         DevicePathNodeIterator {
@@ -342,9 +456,51 @@ impl DevicePathInstance {
     }
 
     /// Returns all bytes, including the node that ends the instance.
+    ///
+    /// ```
+    /// use nardcorbel::DevicePath;
+    ///
+    /// let path: Box<DevicePath> = r"Pci(0x1F,0x2)/\a".parse()?;
+    /// let instance = path.instance_iter().next().unwrap();
+    /// assert_eq!(instance.as_bytes(), path.as_bytes());
+    /// # Ok::<(), nardcorbel::Error>(())
+    /// ```
     #[must_use]
     pub const fn as_bytes(&self) -> &[u8] {
         &self.0
+    }
+
+    /// Copies the instance.
+    ///
+    /// ```
+    /// use nardcorbel::DevicePath;
+    ///
+    /// let path: Box<DevicePath> = r"Pci(0x1F,0x2)/\a".parse()?;
+    /// let instance = path.instance_iter().next().unwrap().to_boxed();
+    /// assert_eq!(instance.as_bytes(), path.as_bytes());
+    /// # Ok::<(), nardcorbel::Error>(())
+    /// ```
+    #[cfg(feature = "alloc")]
+    #[must_use]
+    pub fn to_boxed(&self) -> Box<Self> {
+        // SAFETY: `DevicePathInstance` is a transparent wrapper.
+        unsafe { Box::from_raw(Box::into_raw(Box::<[u8]>::from(&self.0)) as *mut Self) }
+    }
+}
+
+#[cfg(feature = "alloc")]
+impl ToOwned for DevicePathInstance {
+    type Owned = Box<Self>;
+
+    fn to_owned(&self) -> Box<Self> {
+        self.to_boxed()
+    }
+}
+
+#[cfg(feature = "alloc")]
+impl Clone for Box<DevicePathInstance> {
+    fn clone(&self) -> Self {
+        self.to_boxed()
     }
 }
 
@@ -370,6 +526,15 @@ impl fmt::Debug for DevicePathInstance {
 }
 
 /// Iterates over the nodes of a path or an instance, first to last.
+///
+/// ```
+/// use nardcorbel::DevicePath;
+///
+/// let path: Box<DevicePath> = r"Pci(0x1F,0x2)/\a".parse()?;
+/// let mut nodes = path.node_iter();
+/// assert_eq!(nodes.next().unwrap().length(), 6);
+/// # Ok::<(), nardcorbel::Error>(())
+/// ```
 #[derive(Clone, Debug)]
 pub struct DevicePathNodeIterator<'a> {
     rest: &'a [u8],
@@ -395,6 +560,15 @@ impl<'a> Iterator for DevicePathNodeIterator<'a> {
 impl FusedIterator for DevicePathNodeIterator<'_> {}
 
 /// Iterates over the instances of a path, first to last.
+///
+/// ```
+/// use nardcorbel::DevicePath;
+///
+/// let path: Box<DevicePath> = r"Pci(0x1F,0x2)/\a".parse()?;
+/// let mut instances = path.instance_iter();
+/// assert!(instances.next().is_some() && instances.next().is_none());
+/// # Ok::<(), nardcorbel::Error>(())
+/// ```
 #[derive(Clone, Debug)]
 pub struct DevicePathInstanceIterator<'a> {
     rest: &'a [u8],

@@ -3,14 +3,33 @@
 use super::{DevicePath, DevicePathInstance, DevicePathNode};
 use crate::error::Error;
 #[cfg(feature = "alloc")]
-use crate::Reason;
+use crate::{
+    data_types::{CString16, FromSliceWithNulError},
+    Reason,
+};
 use core::fmt::{self, Write};
 
 /// Whether a text may have shorter forms that cannot be read back.
+///
+/// ```
+/// use nardcorbel::proto::device_path::{AllowShortcuts, DevicePath, DisplayOnly};
+///
+/// let path: Box<DevicePath> = r"PciRoot(0x0)/\a".parse()?;
+/// assert_eq!(path.to_text(DisplayOnly(true), AllowShortcuts(false)), r"PciRoot(0x0)/\a");
+/// # Ok::<(), nardcorbel::Error>(())
+/// ```
 #[derive(Clone, Copy, Debug, Default, PartialEq, Eq)]
 pub struct DisplayOnly(pub bool);
 
 /// Whether a text may have names such as `VenPcAnsi()`.
+///
+/// ```
+/// use nardcorbel::proto::device_path::{AllowShortcuts, DevicePath, DisplayOnly};
+///
+/// let path: Box<DevicePath> = r"PciRoot(0x0)/\a".parse()?;
+/// assert_eq!(path.to_text(DisplayOnly(false), AllowShortcuts(true)), r"PciRoot(0x0)/\a");
+/// # Ok::<(), nardcorbel::Error>(())
+/// ```
 #[derive(Clone, Copy, Debug, Default, PartialEq, Eq)]
 pub struct AllowShortcuts(pub bool);
 
@@ -77,15 +96,52 @@ pub(super) fn display_node(node: &DevicePathNode, f: &mut fmt::Formatter<'_>) ->
 macro_rules! to_text {
     ($($name:ident)*) => {$(
         impl $name {
-            /// Formats as text. `{}` formats without shorter forms and without shortcuts.
+            /// Formats as text with the options that the crate `uefi` has. `{}` formats without shorter forms and without shortcuts.
             ///
-            /// A surrogate without a partner, in the name of a file, becomes U+FFFD.
+            /// Fails if the text has a character above U+FFFF or a surrogate, in the name of a file.
+            ///
+            /// ```
+            /// use nardcorbel::proto::device_path::{AllowShortcuts, DevicePath, DisplayOnly};
+            ///
+            /// let path = DevicePath::from_bytes(&[1, 1, 6, 0, 2, 0x1f, 0x7f, 0xff, 4, 0])?;
+            /// let text = path.to_string(DisplayOnly(false), AllowShortcuts(false))?;
+            /// assert_eq!(text, "Pci(0x1F,0x2)");
+            /// # Ok::<(), nardcorbel::Error>(())
+            /// ```
+            pub fn to_string(&self, display_only: DisplayOnly, allow_shortcuts: AllowShortcuts) -> Result<CString16, Error> {
+                let mut units = self.units(display_only, allow_shortcuts);
+                units.push(0);
+                let place = |error| match error {
+                    FromSliceWithNulError::InvalidChar(it) => it,
+                    _ => 0,
+                };
+                CString16::try_from(units).map_err(|it| Error::new(Reason::InvalidChar, place(it)))
+            }
+
+            /// Formats as text with the same options. A surrogate without a partner, in the name of a file, becomes U+FFFD.
+            ///
+            /// ```
+            /// use nardcorbel::proto::device_path::{AllowShortcuts, DevicePath, DisplayOnly};
+            ///
+            /// let path: Box<DevicePath> = r"PciRoot(0x0)/\😀".parse()?;
+            /// assert_eq!(path.to_text(DisplayOnly(false), AllowShortcuts(true)), r"PciRoot(0x0)/\😀");
+            /// # Ok::<(), nardcorbel::Error>(())
+            /// ```
             #[must_use]
             pub fn to_text(&self, display_only: DisplayOnly, allow_shortcuts: AllowShortcuts) -> alloc::string::String {
+                alloc::string::String::from_utf16_lossy(&self.units(display_only, allow_shortcuts))
+            }
+
+            /// The units of the text.
+            fn units(&self, display_only: DisplayOnly, allow_shortcuts: AllowShortcuts) -> alloc::vec::Vec<u16> {
                 let mut units = alloc::vec![0; ROOM];
                 loop {
                     match self.text_in_buf(display_only.0, allow_shortcuts.0, &mut units) {
-                        Ok(text) => return alloc::string::String::from_utf16_lossy(text),
+                        Ok(text) => {
+                            let length = text.len();
+                            units.truncate(length);
+                            return units;
+                        }
                         // The path is well-formed, so only room can be missing.
                         Err(error) => units.resize(error.place.max(units.len() + 1), 0),
                     }
