@@ -33,9 +33,9 @@
  *   - If a call differs from these rules, its comment says so.
  *
  * Two kinds of archive
- *   - libnardcorbel.a, for programs on Linux: ELF for x86-64-v2. It may use the red zone, so firmware must not link it.
+ *   - libnardcorbel.a, for programs on Linux: ELF for x86-64-v2 or aarch64. It may use the red zone, so firmware must not link it.
  *   - libnardcorbel_firmware.a and nardcorbel_firmware.lib, for firmware: ELF and COFF, for any x86-64 and aarch64 processor, without
- *     a red zone, and with only general registers. On aarch64 a release has this one for programs on Linux, too.
+ *     a red zone, and with only general registers.
  */
 #ifndef NARDCORBEL_H
 #define NARDCORBEL_H
@@ -88,14 +88,18 @@ typedef unsigned long long nard_number; /* of 64 bits */
 #define NARD_VERSION "0.8.0-dev"
 
 /*
- * Refers to nard_interface_0_8 without a byte of code, so that an object does not link with an archive of another interface. To leave
- * it out, define this as nothing first.
+ * Refers to nard_interface_0_8 without a byte of code, so that an object does not link with an archive of another interface. The
+ * reference is in a section of debug information, because GNU ld accepts one to a shared library only there. To leave it out, define
+ * this as nothing first.
  */
 #ifndef NARD_INTERFACE
+#define NARD_REFERENCE(relocation) \
+    __asm__(".pushsection .debug_nardcorbel,\"\",@progbits\n.globl nard_interface_0_8\n" \
+            ".reloc ., " relocation ", nard_interface_0_8\n.byte 0\n.popsection");
 #if defined(__ELF__) && defined(__x86_64__)
-#define NARD_INTERFACE __asm__(".globl nard_interface_0_8\n.reloc ., R_X86_64_NONE, nard_interface_0_8");
+#define NARD_INTERFACE NARD_REFERENCE("R_X86_64_NONE")
 #elif defined(__ELF__) && defined(__aarch64__)
-#define NARD_INTERFACE __asm__(".globl nard_interface_0_8\n.reloc ., R_AARCH64_NONE, nard_interface_0_8");
+#define NARD_INTERFACE NARD_REFERENCE("R_AARCH64_NONE")
 #else
 #define NARD_INTERFACE
 #if defined(_WIN32) && !defined(__MINGW32__)
@@ -245,8 +249,8 @@ nard_result NARD_CALL nard_string_make_lowercase(nard_unit *buffer, nard_size ro
 
 /*
  * Returns whether both begin with a string, and the pattern matches the whole text of `units` without case, as MetaiMatch does:
- * `*` matches any text, `?` one unit, `[a-z]` one unit of a set. For a pattern of p units and a text of t, the call reads fewer
- * than (p + 1) * (t + 1) units of each, after it has checked that both are strings.
+ * `*` matches any text, `?` one unit, `[a-z]` one unit of a set. The call checks that both are strings, and then matches them by
+ * CountedReader::matches, which is proved to read fewer than (p + 1) * (t + 1) units of each for a pattern of p units and a text of t.
  */
 nard_bool NARD_CALL nard_string_matches(const nard_unit *units, nard_size count,
                                         const nard_unit *pattern, nard_size pattern_count);
@@ -562,7 +566,7 @@ nard_result NARD_CALL nard_device_path_needs(const nard_byte *bytes, nard_size b
  *   another reason   as nard_device_path_check of the first `limit` bytes, with its *length
  *
  * The call reads no byte beyond a well-formed path, and none from `limit` on. The caller has to know that these bytes can be read,
- * because bytes that are not a path may state any length.
+ * because bytes that are not a path may state any length. This function is C, so it is tested and not proved.
  */
 static inline NARD_MUST_USE nard_result nard_device_path_size(const nard_byte *path, nard_size limit, nard_size *length)
 {
@@ -732,9 +736,8 @@ nard_result NARD_CALL nard_device_path_push(nard_byte *buffer, nard_size room, n
 
 /*
  * Adds a node to the device path in the first path_length bytes of a buffer, before its end. path_length is the *length of the
- * call before. Unlike nard_device_path_push, the call reads none of the path but its end node: to build a path of many nodes takes
- * time in proportion to its length. What is before the end node is not checked; if it is a path, the result is that of
- * nard_device_path_push.
+ * call before, so that the call need not search for the end node. Unlike nard_device_path_push, it does not check what is before the
+ * end node; if the bytes are a path, the result is that of nard_device_path_push.
  *
  * Returns NARD_OK, or the first of these that holds
  *   NARD_NO_END_NODE        room < path_length, or the first path_length bytes do not end with an end node; *length is path_length

@@ -43,6 +43,14 @@ def by_gnu_efi(name, room, archives):
     return room / f"{name}.efi"
 
 
+def alone(name, room):
+    """Builds a program that needs no archive, by clang for x86-64: its file."""
+    made = room / f"{name}.efi"
+    run("clang", "--target=x86_64-unknown-windows", *FREESTANDING, "-c", HERE / f"{name}.c", "-o", room / f"{name}.obj")
+    run("lld-link", "-subsystem:efi_application", "-entry:efi_main", "-nodefaultlib", room / f"{name}.obj", f"-out:{made}")
+    return made
+
+
 def by_lld(processor):
     """The same by clang and lld-link, for a processor."""
     def build(name, room, archives):

@@ -1,33 +1,37 @@
 /*
- * The first program of Linux in the test beside this file: runs uefi_boot on the machine's own variables, once with one of them
- * protected as by `chattr +i`, once where they are mounted elsewhere, and once with a full store, and ends the machine.
+ * The first program of Linux in the test beside this file: runs uefi_boot on the machine's own variables, with one of them
+ * protected as by `chattr +i`, with one that was not written, killed between two writes, mounted read-only, mounted elsewhere,
+ * and in a full store, and ends the machine.
  */
 #include <fcntl.h>
 #include <linux/fs.h>
 #include <stdio.h>
+#include <signal.h>
 #include <stdlib.h>
 #include <string.h>
 #include <sys/ioctl.h>
 #include <sys/mount.h>
+#include <sys/ptrace.h>
 #include <sys/reboot.h>
 #include <sys/stat.h>
 #include <sys/syscall.h>
+#include <sys/user.h>
 #include <sys/wait.h>
 #include <unistd.h>
 
 #define VARIABLES "/sys/firmware/efi/efivars"
 #define ELSEWHERE "/target" VARIABLES
-#define PROTECTED VARIABLES "/Boot0000-8be4df61-93ca-11d2-aa0d-00e098032b8c"
+#define FILE_OF(name) VARIABLES "/" name "-8be4df61-93ca-11d2-aa0d-00e098032b8c"
 
 /* Does what `chattr +i` and `chattr -i` do. */
-static void protect(int is_protected)
+static void protect(const char *path, int is_protected)
 {
-    int flags = 0, file = open(PROTECTED, O_RDONLY);
+    int flags = 0, file = open(path, O_RDONLY);
     if (file < 0 || ioctl(file, FS_IOC_GETFLAGS, &flags))
-        perror(PROTECTED);
+        perror(path);
     flags = is_protected ? flags | FS_IMMUTABLE_FL : flags & ~FS_IMMUTABLE_FL;
     if (ioctl(file, FS_IOC_SETFLAGS, &flags))
-        perror(PROTECTED);
+        perror(path);
     close(file);
 }
 
@@ -50,7 +54,8 @@ static void fill(void)
         }
 }
 
-static void run(char *const words[])
+/* Runs the program, and kills it after this number of writes to files, unless that is 0. */
+static void run(int writes, char *const words[])
 {
     int status = 0;
     printf("$");
@@ -61,36 +66,81 @@ static void run(char *const words[])
     pid_t child = fork();
     if (child == 0) {
         dup2(1, 2);
+        if (writes)
+            ptrace(PTRACE_TRACEME, 0, NULL, NULL);
         execv("/uefi_boot", words);
         _exit(127);
     }
     waitpid(child, &status, 0);
-    printf("status %d\n", WEXITSTATUS(status));
+    if (WIFSTOPPED(status))
+        ptrace(PTRACE_SETOPTIONS, child, NULL, PTRACE_O_TRACESYSGOOD);
+    for (int is_within = 0; WIFSTOPPED(status);) {
+        struct user_regs_struct registers;
+        ptrace(PTRACE_SYSCALL, child, NULL, NULL);
+        waitpid(child, &status, 0);
+        if (!WIFSTOPPED(status) || WSTOPSIG(status) != (SIGTRAP | 0x80))
+            continue;
+        is_within = !is_within;
+        if (!is_within && !ptrace(PTRACE_GETREGS, child, NULL, &registers) && registers.orig_rax == SYS_write && registers.rdi > 2 &&
+            --writes == 0)
+            kill(child, SIGKILL);
+    }
+    printf("status %d\n", WIFSIGNALED(status) ? 128 + WTERMSIG(status) : WEXITSTATUS(status));
     fflush(stdout);
 }
 
-#define RUN(...) run((char *const[]){"uefi_boot", __VA_ARGS__, NULL})
+#define RUN(...) run(0, (char *const[]){"uefi_boot", __VA_ARGS__, NULL})
+#define RUN_KILLED(writes, ...) run(writes, (char *const[]){"uefi_boot", __VA_ARGS__, NULL})
+
+/* Loads the modules of the kernel, one after the other. */
+static void load(void)
+{
+    char path[64];
+    for (int place = 0; place < 100; place++) {
+        snprintf(path, sizeof path, "/module%02d.ko", place);
+        int module = open(path, O_RDONLY);
+        if (module >= 0 && syscall(SYS_finit_module, module, "", 0))
+            perror(path);
+    }
+}
 
 int main(void)
 {
     mkdir("/proc", 0755);
     mkdir("/sys", 0755);
+    mkdir("/esp", 0755);
     mount("proc", "/proc", "proc", 0, "");
     mount("sys", "/sys", "sysfs", 0, "");
-    int module = open("/efivarfs.ko", O_RDONLY);
-    if (module >= 0 && syscall(SYS_finit_module, module, "", 0))
-        perror("efivarfs.ko");
+    mount("dev", "/dev", "devtmpfs", 0, "");
+    load();
+    for (int tenths = 0; tenths < 100 && mount("/dev/vda1", "/esp", "vfat", MS_RDONLY, ""); tenths++)
+        usleep(100000);
     if (mount("efivarfs", VARIABLES, "efivarfs", 0, ""))
         perror(VARIABLES);
     printf("LINUX BEGINS\n");
     RUN("create", "--description", "made by Linux", "--path", "HD(1,MBR,0x4E415244,0x800,0x4000)/\\EFI\\linux.efi", "--number", "0042");
     RUN("timeout", "7");
     RUN("next", "0042");
-    protect(1);
+    protect(FILE_OF("Boot0000"), 1);
     RUN("rename", "0000", "protected");
-    protect(0);
+    protect(FILE_OF("Boot0000"), 0);
     RUN("rename", "0000", "no longer protected");
+    protect(FILE_OF("BootOrder"), 1);
+    RUN("create", "--description", "not created", "--path", "\\EFI\\linux.efi", "--number", "0044");
+    protect(FILE_OF("BootOrder"), 0);
+    mount(NULL, VARIABLES, NULL, MS_REMOUNT | MS_RDONLY, NULL);
+    RUN("timeout", "9");
+    mount(NULL, VARIABLES, NULL, MS_REMOUNT, NULL);
+    // A program that is killed before it has written the variable leaves this.
+    close(open(FILE_OF("Boot0077"), O_WRONLY | O_CREAT, 0644));
+    RUN("check");
+    RUN("delete", "0077");
     RUN("delete", "0042");
+    RUN("create", "--description", "by its loader", "--loader", "/esp/EFI/tools/hello.efi", "--number", "0050", "--data-ascii", "one");
+    RUN("create", "--description", "in full", "--disk", "/dev/vda", "--partition", "1", "--loader", "/EFI/tools/hello.efi", "--full-path",
+        "--number", "0051", "--data-ascii", "four");
+    RUN_KILLED(1, "create", "--description", "killed", "--path", "\\EFI\\linux.efi", "--number", "0052");
+    RUN(VARIABLES);
     for (const char *end = ELSEWHERE; (end = strchr(end + 1, '/'));) {
         char path[] = ELSEWHERE;
         path[end - (const char *)ELSEWHERE] = 0;
@@ -98,11 +148,11 @@ int main(void)
     }
     if (mkdir(ELSEWHERE, 0755) || mount("efivarfs", ELSEWHERE, "efivarfs", 0, ""))
         perror(ELSEWHERE);
-    RUN("order", "0000", "--variables", ELSEWHERE);
+    RUN("order", "0051,0050", "--variables", ELSEWHERE);
     RUN("create", "--description", "on a full store", "--path", "\\EFI\\linux.efi", "--number", "0043");
     fill();
     RUN("delete", "0043");
-    run((char *const[]){"uefi_boot", VARIABLES, NULL});
+    RUN(VARIABLES);
     printf("LINUX ENDS\n");
     fflush(stdout);
     sync();

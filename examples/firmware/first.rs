@@ -31,17 +31,9 @@ fn print_normal(console: *mut Console) -> Result<(), Error> {
     Ok(())
 }
 
-/// The function that the firmware starts if Rust's target is `x86_64-unknown-uefi`.
-#[cfg(target_os = "uefi")]
+/// The function that the firmware starts.
 #[no_mangle]
 pub extern "efiapi" fn efi_main(_image: *const c_void, table: &SystemTable) -> usize {
-    usize::from(print_normal(table.console).is_err())
-}
-
-/// The function that gnu-efi's start code calls.
-#[cfg(not(target_os = "uefi"))]
-#[no_mangle]
-pub extern "C" fn efi_main(_image: *const c_void, table: &SystemTable) -> usize {
     usize::from(print_normal(table.console).is_err())
 }
 

@@ -71,10 +71,11 @@ def devices(folder):
 
 
 def command(processor, disk, flash, entries, serial, added=("-net", "none")):
-    """The command that starts a machine, whose flash is written with these variables."""
+    """The command that starts a machine, whose flash is written with these variables, or kept if they are None."""
     code, template = FIRMWARE[processor]
-    with open(template, "rb") as file:
-        flash.write_bytes(variables.with_variables(file.read(), entries))
+    if entries is not None:
+        with open(template, "rb") as file:
+            flash.write_bytes(variables.with_variables(file.read(), entries))
     return [*MACHINES[processor], "-accel", "tcg", "-m", "256", "-display", "none", "-serial", serial, *added, "-no-reboot",
             "-drive", f"if=pflash,format=raw,readonly=on,file={code}", "-drive", f"if=pflash,format=raw,file={flash}",
             "-drive", f"if=none,id=disk,format=raw,file={disk}", "-device", "virtio-blk-pci,drive=disk"]
