@@ -6,6 +6,7 @@ use crate::variables::{
     Content, MOST_BYTES, MOST_READ, OWN, Variable, file_name, find_all, find_own, lowercase_file,
 };
 use crate::{check, create};
+use std::collections::BTreeSet;
 use std::fmt::Write;
 use std::fs;
 use uefi_boot_plans::{PlanError, Step, Variable as Changed};
@@ -190,11 +191,11 @@ impl<'a> Machine<'a> {
 
     /// Returns the smallest number without an entry.
     fn free_number(&self) -> Result<u16, End> {
-        let mut used = Vec::with_capacity(self.rt.alloc(), self.variables.sources.len())?;
+        let mut used = BTreeSet::new(self.rt.alloc());
         for source in &self.variables.sources {
             if let Some(option) = source.variable.option() {
                 if option.kind == self.kind {
-                    used.push(option.number)?;
+                    used.insert(option.number)?;
                 }
             }
         }

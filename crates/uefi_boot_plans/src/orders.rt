@@ -8,6 +8,7 @@ ghost use Rattle.uefi_text.specs.UnitBytes.{unit_bytes, units_of_bytes};
 
 use crate::plan::{PlanError, Step, Variable};
 use std::alloc::{AllocError, Allocator};
+use std::collections::BTreeSet;
 use uefi_boot_variables::order_edits;
 use uefi_text::UnalignedSlice;
 use uefi_text::scan::split;
@@ -35,10 +36,11 @@ fn numbers_of<A: Allocator + Copy>(alloc: A, order: &[u8]) -> Result<Vec<u16, A>
 }
 
 /// Returns the least number that is not used.
-pub fn free_number(used: &[u16]) -> Option<u16>
-    ensures free { IfSome result (λ number. Contains used.now number → ⊥) }
-    ensures least { IfSome result (λ number. (less : ℕ) → less < number → Contains used.now less) }
-    ensures none { IsNone result → (number : ℕ) → number < 2 ^ 16 → Contains used.now number }
+pub fn free_number<A: Allocator>(used: &BTreeSet<u16, A>) -> Option<u16>
+    ensures free { IfSome result (λ number. Contains used.now.keys number → ⊥) }
+    ensures least { IfSome result (λ number.
+        (less : ℕ) → less < number → Contains used.now.keys less) }
+    ensures none { IsNone result → (number : ℕ) → number < 2 ^ 16 → Contains used.now.keys number }
 {
     for number in 0..=u16::MAX {
         if !used.contains(&number) {
