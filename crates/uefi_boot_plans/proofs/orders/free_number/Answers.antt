@@ -12,9 +12,9 @@ found used number = (btree_set_contains_iff nat_cmp_total exact_unsigned used nu
 pub loop-number-preserved : goal.loop-number-preserved
 loop-number-preserved _ c =
     below_more _ _ c.loop-number.invariant
-        (found c.args.used.now c.loop-number.number-counter (sym c.contains.ensures ∙ c.if-not-contains.false))
+    (found c.args.used.now c.loop-number.number-counter (sym c.contains.ensures ∙ c.if-not-contains.false))
 
 pub returns-else-not-contains-clause-none : goal.returns-else-not-contains-clause-none
 returns-else-not-contains-clause-none _ c = λ _ number below.
     below_more _ _ c.loop-number.invariant
-        (found c.args.used.now c.loop-number.number-counter (sym c.contains.ensures ∙ c.if-not-contains.false)) number (omega arith)
+    (found c.args.used.now c.loop-number.number-counter (sym c.contains.ensures ∙ c.if-not-contains.false)) number (omega arith)
