@@ -82,10 +82,10 @@ def command(processor, disk, flash, entries, serial, added=("-net", "none")):
 
 
 class Machine:
-    """Runs with the variables in its flash. `lines` is what its serial line printed, without what a terminal obeys."""
+    """Runs with the variables in its flash, for so many seconds. `text` is what its serial line printed, without what a terminal obeys."""
 
-    def __init__(self, processor, disk, flash, entries, *added):
-        self.said, self.deadline = b"", time.monotonic() + 110
+    def __init__(self, processor, disk, flash, entries, *added, seconds=110):
+        self.said, self.deadline = b"", time.monotonic() + seconds
         self.process = subprocess.Popen(
             [*command(processor, disk, flash, entries, "stdio", *added), "-monitor", "none"],
             stdin=subprocess.PIPE, stdout=subprocess.PIPE, stderr=subprocess.STDOUT)
