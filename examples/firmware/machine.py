@@ -81,6 +81,11 @@ def command(processor, disk, flash, entries, serial, added=("-net", "none")):
             "-drive", f"if=none,id=disk,format=raw,file={disk}", "-device", "virtio-blk-pci,drive=disk"]
 
 
+def commands(said):
+    """The commands that a first program of Linux ran, as they are printed: the words of each, what it prints, and its status."""
+    return re.findall(r"^\$ (.*)\n((?:.*\n)*?)status (\d+)$", said, re.M)
+
+
 class Machine:
     """Runs with the variables in its flash, for so many seconds. `text` is what its serial line printed, without what a terminal obeys."""
 
