@@ -1,4 +1,6 @@
 """Builds the programs beside this file for firmware, over the archives of tools/firmware-lib."""
+import importlib.machinery
+import importlib.util
 import pathlib
 import subprocess
 
@@ -24,6 +26,14 @@ def run(*words, **how):
         said = [it for it in said if "REFUSED" in it] or said
         raise Wrong(f"status {ran.returncode} of {pathlib.Path(words[0]).name}: " + "\n".join(said[:12]))
     return ran.stdout.decode(errors="replace")
+
+
+def of_file(path):
+    """A program in Python, as a module."""
+    loader = importlib.machinery.SourceFileLoader(path.name, str(path))
+    module = importlib.util.module_from_spec(importlib.util.spec_from_loader(path.name, loader))
+    loader.exec_module(module)
+    return module
 
 
 def by_gnu_efi(name, room, archives):

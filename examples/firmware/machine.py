@@ -81,11 +81,16 @@ def command(processor, disk, flash, entries, serial, added=("-net", "none")):
             "-drive", f"if=none,id=disk,format=raw,file={disk}", "-device", "virtio-blk-pci,drive=disk"]
 
 
-class Machine:
-    """Runs with the variables in its flash. `lines` is what its serial line printed, without what a terminal obeys."""
+def commands(said):
+    """The commands that a first program of Linux ran, as they are printed: the words of each, what it prints, and its status."""
+    return re.findall(r"^\$ (.*)\n((?:.*\n)*?)status (\d+)$", said, re.M)
 
-    def __init__(self, processor, disk, flash, entries, *added):
-        self.said, self.deadline = b"", time.monotonic() + 110
+
+class Machine:
+    """Runs with the variables in its flash, for so many seconds. `text` is what its serial line printed, without what a terminal obeys."""
+
+    def __init__(self, processor, disk, flash, entries, *added, seconds=110):
+        self.said, self.deadline = b"", time.monotonic() + seconds
         self.process = subprocess.Popen(
             [*command(processor, disk, flash, entries, "stdio", *added), "-monitor", "none"],
             stdin=subprocess.PIPE, stdout=subprocess.PIPE, stderr=subprocess.STDOUT)
