@@ -126,23 +126,23 @@ extern "C" {
     REASON(ILLEGAL_CHAR, 9, "path contains an illegal character") \
     REASON(CLIMBS_ABOVE_ROOT, 10, "path climbs above the root") \
     REASON(NO_PARENT, 11, "path has no parent") \
-    REASON(NO_END_NODE, 12, "no end node ends the device path") \
-    REASON(TRUNCATED_HEADER, 13, "the bytes end in a node's header") \
-    REASON(UNKNOWN_END, 14, "an end node ends neither a path nor an instance") \
-    REASON(LENGTH_BELOW_HEADER, 15, "a node is shorter than its header") \
-    REASON(END_WITH_DATA, 16, "an end node has data") \
-    REASON(NODE_BEYOND_END, 17, "a node is longer than the bytes that are left") \
-    REASON(OPTION_TOO_SHORT, 18, "the load option ends before its description") \
-    REASON(DESCRIPTION_WITHOUT_END, 19, "no NUL ends the description") \
-    REASON(LIST_BEYOND_END, 20, "the file path list is longer than the bytes that are left") \
-    REASON(EMPTY_LIST, 21, "the file path list is empty") \
+    REASON(NO_END_NODE, 12, "device path has no end node") \
+    REASON(TRUNCATED_HEADER, 13, "device path ends within a node header") \
+    REASON(UNKNOWN_END, 14, "end node has an unknown sub-type") \
+    REASON(LENGTH_BELOW_HEADER, 15, "device path node is shorter than its header") \
+    REASON(END_WITH_DATA, 16, "end node has data") \
+    REASON(NODE_BEYOND_END, 17, "device path node extends past the end of the data") \
+    REASON(OPTION_TOO_SHORT, 18, "load option ends before its description") \
+    REASON(DESCRIPTION_WITHOUT_END, 19, "description is not null-terminated") \
+    REASON(LIST_BEYOND_END, 20, "file path list extends past the end of the load option") \
+    REASON(EMPTY_LIST, 21, "file path list is empty") \
     REASON(END_OF_PATH, 22, "the device path ends here") /* nothing is wrong */ \
-    REASON(NAME_EMPTY, 23, "name is empty without spaces and dots") \
-    REASON(NAME_TOO_LONG, 24, "name has more than 255 characters") \
+    REASON(NAME_EMPTY, 23, "name contains only spaces and dots") \
+    REASON(NAME_TOO_LONG, 24, "name is longer than 255 characters") \
     REASON(CHAR_REPLACED, 25, "a character became '_'") /* nothing is wrong */ \
-    REASON(NODE_OF_END, 26, "an end node may not stand before the end of a device path") \
-    REASON(NODE_TOO_LONG, 27, "the node is longer than its header can state") \
-    REASON(LIST_TOO_LONG, 28, "the file path list is longer than its header can state") \
+    REASON(NODE_OF_END, 26, "end node is only allowed at the end of a device path") \
+    REASON(NODE_TOO_LONG, 27, "device path node is longer than 65,535 bytes") \
+    REASON(LIST_TOO_LONG, 28, "file path list is longer than 65,535 bytes") \
     REASON(NOT_A_NAME, 29, "no load option has the name or the kind") \
     REASON(END_OF_ORDER, 30, "the order ends here") /* nothing is wrong */ \
     REASON(NO_NODE, 31, "no node") \
@@ -889,7 +889,7 @@ nard_result NARD_CALL nard_libefivar_text_extent(const nard_byte *bytes, nard_si
 /*
  * Writes in words why a text is refused. The words say why nard_device_path_push_lenient_text returns NARD_NO_NODE, as UTF-16 with
  * a NUL, for example
- *     no node at offset 11: expected a number up to 0xFF at offset 20
+ *     invalid node at offset 11: expected a number up to 0xFF at offset 20
  * If that call reads the text, the words are empty.
  *
  * Returns NARD_OK, or the first of these that holds

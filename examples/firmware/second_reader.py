@@ -46,18 +46,18 @@ def nodes_of(data, start, end):
     at, is_ended = start, False
     while not (is_ended and at == end):
         if at == end:
-            raise Malformed(end, "the file path list is empty" if start == end else "no end node ends the device path")
+            raise Malformed(end, "file path list is empty" if start == end else "device path has no end node")
         if end - at < 4:
-            raise Malformed(at, "the bytes end in a node's header")
+            raise Malformed(at, "device path ends within a node header")
         kind, subtype, size = struct.unpack_from("<BBH", data, at)
         if kind == 0x7F and subtype not in (1, 0xFF):
-            raise Malformed(at + 1, "an end node ends neither a path nor an instance")
+            raise Malformed(at + 1, "end node has an unknown sub-type")
         if size < 4:
-            raise Malformed(at + 2, "a node is shorter than its header")
+            raise Malformed(at + 2, "device path node is shorter than its header")
         if kind == 0x7F and size != 4:
-            raise Malformed(at + 2, "an end node has data")
+            raise Malformed(at + 2, "end node has data")
         if end - at < size:
-            raise Malformed(at + 2, "a node is longer than the bytes that are left")
+            raise Malformed(at + 2, "device path node extends past the end of the data")
         yield kind, subtype, at, data[at : at + size]
         at, is_ended = at + size, (kind, subtype) == (0x7F, 0xFF)
 
@@ -130,7 +130,7 @@ def lines(number, data, look=lambda normal, disk: ""):
     """The lines of an entry; `look` says what is printed after the normal path of a file."""
     head, after, fault = f"Boot{number:04X}", [], None
     if len(data) < 6:
-        head, fault = f"{head}: ", (len(data), "the load option ends before its description")
+        head, fault = f"{head}: ", (len(data), "load option ends before its description")
     elif MOST_BYTES < len(data):
         head, fault = f"{head}: ", (MOST_BYTES, "the entry is too long")
     else:
@@ -142,9 +142,9 @@ def lines(number, data, look=lambda normal, disk: ""):
         if is_ended and surrogate is not None:
             after.append(malformed(6 + 2 * surrogate, f"description: {TEXT_FAULTS['surrogate']}"))
         if not is_ended:
-            fault = 6 + 2 * count, "no NUL ends the description"
+            fault = 6 + 2 * count, "description is not null-terminated"
         elif not is_whole:
-            fault = 4, "the file path list is longer than the bytes that are left"
+            fault = 4, "file path list extends past the end of the load option"
         else:
             after += list_lines(data, start, start + size, look)
     return [head, *after, *([malformed(*fault)] if fault else [])]

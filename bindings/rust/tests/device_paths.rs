@@ -245,24 +245,24 @@ fn texts_of_errors() {
     for (error, text) in [
         (
             &NodeConversionError::DifferentType as &dyn std::error::Error,
-            "the node is of another type or sub-type",
+            "device path node has a different type or sub-type",
         ),
         (
             &NodeConversionError::InvalidLength,
-            "no node of this kind has this length",
+            "device path node has an invalid length",
         ),
         (
             &NodeConversionError::UnsupportedType,
-            "no kind has this type and sub-type",
+            "unknown device path node type",
         ),
         (&BuildError::BufferTooSmall, "buffer too small"),
         (
             &BuildError::NodeTooBig,
-            "the node is longer than its header can state",
+            "device path node is longer than 65,535 bytes",
         ),
         (
             &BuildError::EndNode,
-            "an end node may not stand before the end of a device path",
+            "end node is only allowed at the end of a device path",
         ),
     ] {
         assert_eq!(error.to_string(), text);
@@ -377,7 +377,7 @@ fn load_options() -> Result<(), Error> {
     assert!(option.description_chars().eq(['d']) && option.description_units().eq([0x64]));
     assert!(option.device_paths().eq([entry.device_path]));
     let error = LoadOption::from_bytes(&bytes[..9]).unwrap_err();
-    assert_eq!(error.to_string(), "no NUL ends the description at offset 8");
+    assert_eq!(error.to_string(), "description is not null-terminated at offset 8");
 
     // A pair of surrogates, a surrogate without a partner, and ESC.
     let units = [0xd83d, 0xde00, 0xd800, 0x1b, 0x62, 0];

@@ -85,7 +85,7 @@ fn refusals() {
     let sentences = [
         "invalid character at index 3: '😀'",
         "path contains an illegal character (value 58) at index 1: ':'",
-        "a node is shorter than its header at offset 2",
+        "device path node is shorter than its header at offset 2",
         "UCS-2 Conversion Error: Interior null terminator",
     ];
     assert!(refusals.iter().map(|it| it.to_string()).eq(sentences)); // 17

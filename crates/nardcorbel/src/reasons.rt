@@ -44,7 +44,7 @@ pub const CLIMBS_ABOVE_ROOT: u32 = 10;
 /// The path has at most one component, and so no parent.
 pub const NO_PARENT: u32 = 11;
 
-/// The bytes end where a node must begin: no end node ends the device path.
+/// The bytes end where a node must begin: device path has no end node.
 pub const NO_END_NODE: u32 = 12;
 
 /// The bytes end within the header of a node.

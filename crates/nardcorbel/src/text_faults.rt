@@ -79,7 +79,7 @@ fn write_fault(style: TextStyle, bytes: &[u8], buffer: &mut [u16], place: &mut u
 }
 
 /// Writes in words why `nard_device_path_push_lenient_text` refuses a text as `NO_NODE`, and a NUL,
-/// to the start of a buffer, as UTF-16: for example `no node at offset 11: expected a number up to
+/// to the start of a buffer, as UTF-16: for example `invalid node at offset 11: expected a number up to
 /// 0xFF at offset 20`. There are no words if the text is read.
 ///
 /// Bytes that are not UTF-8 are refused as `NOT_UTF8`, and `place` becomes the number of bytes

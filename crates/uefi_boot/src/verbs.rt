@@ -139,7 +139,7 @@ impl<'a> Machine<'a> {
     fn refuse_order(&self) -> End {
         let order = Variable::order_of(self.kind);
         let message = format_args!(
-            "{order} is malformed: an order has two bytes for each number\n\
+            "{order} is malformed: boot order has an odd number of bytes\n\
              to replace it, type: uefi_boot order --force NUMBER .."
         );
         refuse(self.rt, MALFORMED, message)

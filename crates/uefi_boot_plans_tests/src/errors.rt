@@ -15,7 +15,7 @@ const ERRORS: &[(PlanError, &str)] = &[
             cause: LoadOptionCause::EmptyList,
             offset: 8,
         }),
-        "the file path list is empty at offset 8",
+        "file path list is empty at offset 8",
     ),
     (PlanError::OutOfMemory, "out of memory"),
 ];

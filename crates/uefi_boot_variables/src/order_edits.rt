@@ -24,7 +24,7 @@ impl Printed for OrderFull {
     ghost printed = { λ _. order_full_text };
 
     fn put<S: TextSink>(&self, sink: &mut S) {
-        sink.put_str("there is no room for another number");
+        sink.put_str("boot order is full");
     }
 }
 

@@ -26,7 +26,7 @@ impl Printed for OddLength {
     ghost printed = { λ _. odd_length_text };
 
     fn put<S: TextSink>(&self, sink: &mut S) {
-        sink.put_str("an order has two bytes for each number");
+        sink.put_str("boot order has an odd number of bytes");
     }
 }
 
@@ -50,7 +50,7 @@ impl Printed for NotTwoBytes {
     ghost printed = { not_two_bytes_text };
 
     fn put<S: TextSink>(&self, sink: &mut S) {
-        put_decimal(sink, "a number has two bytes, and not ", self.0 as u64);
+        put_decimal(sink, "expected 2 bytes, found ", self.0 as u64);
     }
 }
 

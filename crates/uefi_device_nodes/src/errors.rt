@@ -29,12 +29,12 @@ impl Printed for NodeError {
 
     fn put<S: TextSink>(&self, sink: &mut S) {
         match self {
-            Self::Missing => sink.put_str("no end node ends the device path"),
-            Self::TruncatedHeader => sink.put_str("the bytes end in a node's header"),
-            Self::UnknownEnd => sink.put_str("an end node ends neither a path nor an instance"),
-            Self::LengthBelowHeader => sink.put_str("a node is shorter than its header"),
-            Self::EndWithData => sink.put_str("an end node has data"),
-            Self::BeyondEnd => sink.put_str("a node is longer than the bytes that are left"),
+            Self::Missing => sink.put_str("device path has no end node"),
+            Self::TruncatedHeader => sink.put_str("device path ends within a node header"),
+            Self::UnknownEnd => sink.put_str("end node has an unknown sub-type"),
+            Self::LengthBelowHeader => sink.put_str("device path node is shorter than its header"),
+            Self::EndWithData => sink.put_str("end node has data"),
+            Self::BeyondEnd => sink.put_str("device path node extends past the end of the data"),
         }
     }
 }
@@ -67,9 +67,11 @@ impl Printed for NodeConversionError {
 
     fn put<S: TextSink>(&self, sink: &mut S) {
         match self {
-            Self::DifferentType => sink.put_str("the node is of another type or sub-type"),
-            Self::InvalidLength => sink.put_str("no node of this kind has this length"),
-            Self::UnsupportedType => sink.put_str("no kind has this type and sub-type"),
+            Self::DifferentType => sink.put_str(
+                "device path node has a different type or sub-type",
+            ),
+            Self::InvalidLength => sink.put_str("device path node has an invalid length"),
+            Self::UnsupportedType => sink.put_str("unknown device path node type"),
         }
     }
 }

@@ -25,11 +25,11 @@ device_path_error_text error = node_error_text error.cause ++ codes " at offset 
 
 -- the text of a fault of a load option
 abbrev pub load_option_cause_text : LoadOptionCause → List ℕ
-load_option_cause_text option.TooShort = codes "the load option ends before its description"
-load_option_cause_text option.DescriptionWithoutEnd = codes "no NUL ends the description"
+load_option_cause_text option.TooShort = codes "load option ends before its description"
+load_option_cause_text option.DescriptionWithoutEnd = codes "description is not null-terminated"
 load_option_cause_text option.ListBeyondEnd =
-    codes "the file path list is longer than the bytes that are left"
-load_option_cause_text option.EmptyList = codes "the file path list is empty"
+    codes "file path list extends past the end of the load option"
+load_option_cause_text option.EmptyList = codes "file path list is empty"
 load_option_cause_text (option.FilePathList cause) = node_error_text cause
 
 -- the text of an error for a refused load option
@@ -39,8 +39,8 @@ load_option_error_text error =
 
 -- the text of an error for a node that is not added to a device path
 abbrev pub build_error_text : BuildError → List ℕ
-build_error_text build.EndNode = codes "an end node may not stand before the end of a device path"
-build_error_text build.NodeTooLong = codes "the node is longer than its header can state"
+build_error_text build.EndNode = codes "end node is only allowed at the end of a device path"
+build_error_text build.NodeTooLong = codes "device path node is longer than 65,535 bytes"
 build_error_text (build.BufferTooSmall needed) =
     codes "buffer too small: the device path needs " ++ decimal needed ++ codes " bytes"
 build_error_text build.OutOfMemory = codes "out of memory"
@@ -64,10 +64,10 @@ file_path_error_text error = file_path_cause_text error.cause ++ codes " at offs
 abbrev pub option_build_error_text : OptionBuildError → List ℕ
 option_build_error_text (written.NulInDescription place) =
     codes "description: interior null character at index " ++ decimal place
-option_build_error_text written.EmptyList = codes "the file path list is empty"
+option_build_error_text written.EmptyList = codes "file path list is empty"
 option_build_error_text written.ListTooLong =
-    codes "the file path list is longer than its header can state"
-option_build_error_text written.TooLong = codes "the load option is longer than memory"
+    codes "file path list is longer than 65,535 bytes"
+option_build_error_text written.TooLong = codes "load option does not fit in memory"
 option_build_error_text (written.BufferTooSmall needed) =
     codes "buffer too small: the load option needs " ++ decimal needed ++ codes " bytes"
 option_build_error_text written.OutOfMemory = codes "out of memory"

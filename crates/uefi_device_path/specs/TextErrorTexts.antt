@@ -12,7 +12,7 @@ use Rattle.uefi_device_path.specs.declared.text_errors.TextFault.{TextFault}
 
 -- the text of an error for the place where no node is read
 abbrev pub text_fault_text : TextFault → List ℕ
-text_fault_text fault = codes "no node at offset " ++ decimal fault.node ++ codes ": expected "
+text_fault_text fault = codes "invalid node at offset " ++ decimal fault.node ++ codes ": expected "
     ++ expected_text fault.expected ++ codes " at offset " ++ decimal fault.byte
 
 -- the text of an error for a text that is not a path

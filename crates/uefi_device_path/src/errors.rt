@@ -173,12 +173,12 @@ impl Printed for LoadOptionCause {
 
     fn put<S: TextSink>(&self, sink: &mut S) {
         match self {
-            Self::TooShort => sink.put_str("the load option ends before its description"),
-            Self::DescriptionWithoutEnd => sink.put_str("no NUL ends the description"),
+            Self::TooShort => sink.put_str("load option ends before its description"),
+            Self::DescriptionWithoutEnd => sink.put_str("description is not null-terminated"),
             Self::ListBeyondEnd => sink.put_str(
-                "the file path list is longer than the bytes that are left",
+                "file path list extends past the end of the load option",
             ),
-            Self::EmptyList => sink.put_str("the file path list is empty"),
+            Self::EmptyList => sink.put_str("file path list is empty"),
             Self::FilePathList(cause) => cause.put(sink),
         }
     }
@@ -247,10 +247,8 @@ impl Printed for BuildError {
 
     fn put<S: TextSink>(&self, sink: &mut S) {
         match self {
-            Self::EndNode => sink.put_str(
-                "an end node may not stand before the end of a device path",
-            ),
-            Self::NodeTooLong => sink.put_str("the node is longer than its header can state"),
+            Self::EndNode => sink.put_str("end node is only allowed at the end of a device path"),
+            Self::NodeTooLong => sink.put_str("device path node is longer than 65,535 bytes"),
             Self::BufferTooSmall(needed) => {
                 put_decimal(
                     sink,
@@ -335,11 +333,9 @@ impl Printed for OptionBuildError {
                 "description: interior null character at index ",
                 *place as u64,
             ),
-            Self::EmptyList => sink.put_str("the file path list is empty"),
-            Self::ListTooLong => sink.put_str(
-                "the file path list is longer than its header can state",
-            ),
-            Self::TooLong => sink.put_str("the load option is longer than memory"),
+            Self::EmptyList => sink.put_str("file path list is empty"),
+            Self::ListTooLong => sink.put_str("file path list is longer than 65,535 bytes"),
+            Self::TooLong => sink.put_str("load option does not fit in memory"),
             Self::BufferTooSmall(needed) => {
                 put_decimal(
                     sink,

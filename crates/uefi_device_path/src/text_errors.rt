@@ -30,7 +30,7 @@ impl Printed for TextFault {
     ghost printed = { text_fault_text };
 
     fn put<S: TextSink>(&self, sink: &mut S) {
-        put_decimal(sink, "no node at offset ", self.node as u64);
+        put_decimal(sink, "invalid node at offset ", self.node as u64);
         sink.put_str(": expected ");
         self.expected.put(sink);
         put_decimal(sink, " at offset ", self.byte as u64);

@@ -9,23 +9,23 @@ use uefi_device_path::{AllowShortcuts, CheckedNodes, DevicePath, DisplayOnly};
 
 /// Bytes in hexadecimal, and what `CheckedNodes` returns: each node, an error, and how many bytes follow the
 /// path.
-const ROWS: &str = " no end node ends the device path at offset 0
+const ROWS: &str = " device path has no end node at offset 0
 7fff0400 0 more
 7fff04007fff 2 more
 01010600021f7fff04006f Pci(0x1F,0x2); 1 more
 01010600021f7f0104000101060003007fff0400 Pci(0x1F,0x2); Path(127,1); Pci(0x0,0x3); 0 more
-01010600021f010106000300 Pci(0x1F,0x2); Pci(0x0,0x3); no end node ends the device path at offset 12
-01010600021f010103007fff0400 Pci(0x1F,0x2); a node is shorter than its header at offset 8
+01010600021f010106000300 Pci(0x1F,0x2); Pci(0x0,0x3); device path has no end node at offset 12
+01010600021f010103007fff0400 Pci(0x1F,0x2); device path node is shorter than its header at offset 8
 01010600021f0101ff007fff0400 Pci(0x1F,0x2); \
-    a node is longer than the bytes that are left at offset 8
+    device path node extends past the end of the data at offset 8
 01010600021f7f0004007fff0400 Pci(0x1F,0x2); \
-    an end node ends neither a path nor an instance at offset 7
-01010600021f7fff05007fff0400 Pci(0x1F,0x2); an end node has data at offset 8
-01010600021f7fff04 Pci(0x1F,0x2); the bytes end in a node's header at offset 6
-7f020000 an end node ends neither a path nor an instance at offset 1
-010100007fff0400 a node is shorter than its header at offset 2
-7f010001 an end node has data at offset 2
-010104000101ffff0000 Path(1,1); a node is longer than the bytes that are left at offset 6";
+    end node has an unknown sub-type at offset 7
+01010600021f7fff05007fff0400 Pci(0x1F,0x2); end node has data at offset 8
+01010600021f7fff04 Pci(0x1F,0x2); device path ends within a node header at offset 6
+7f020000 end node has an unknown sub-type at offset 1
+010100007fff0400 device path node is shorter than its header at offset 2
+7f010001 end node has data at offset 2
+010104000101ffff0000 Path(1,1); device path node extends past the end of the data at offset 6";
 
 /// Returns the text of each node, the error and the number of bytes after the path.
 fn told(alloc: Global, bytes: &[u8]) -> Result<String, Fail> {

@@ -21,38 +21,35 @@ fn find_unsaid<'a, E: Display + Printed>(alloc: Global, rows: &[(E, &'a str)]) -
 }
 
 const NODES: &[(NodeError, &str)] = &[
-    (NodeError::Missing, "no end node ends the device path"),
+    (NodeError::Missing, "device path has no end node"),
     (
         NodeError::TruncatedHeader,
-        "the bytes end in a node's header",
+        "device path ends within a node header",
     ),
-    (
-        NodeError::UnknownEnd,
-        "an end node ends neither a path nor an instance",
-    ),
+    (NodeError::UnknownEnd, "end node has an unknown sub-type"),
     (
         NodeError::LengthBelowHeader,
-        "a node is shorter than its header",
+        "device path node is shorter than its header",
     ),
-    (NodeError::EndWithData, "an end node has data"),
+    (NodeError::EndWithData, "end node has data"),
     (
         NodeError::BeyondEnd,
-        "a node is longer than the bytes that are left",
+        "device path node extends past the end of the data",
     ),
 ];
 
 const CONVERSIONS: &[(NodeConversionError, &str)] = &[
     (
         NodeConversionError::DifferentType,
-        "the node is of another type or sub-type",
+        "device path node has a different type or sub-type",
     ),
     (
         NodeConversionError::InvalidLength,
-        "no node of this kind has this length",
+        "device path node has an invalid length",
     ),
     (
         NodeConversionError::UnsupportedType,
-        "no kind has this type and sub-type",
+        "unknown device path node type",
     ),
 ];
 
@@ -63,7 +60,7 @@ const BEYOND: DevicePathError = DevicePathError {
 
 const PATHS: &[(DevicePathError, &str)] = &[(
     BEYOND,
-    "a node is longer than the bytes that are left at offset 12",
+    "device path node extends past the end of the data at offset 12",
 )];
 
 const HALF_UNIT: FilePathError = FilePathError {
@@ -112,20 +109,20 @@ const FILE_PATH_CAUSES: &[(FilePathCause, &str)] = &[
 const LOAD_OPTION_CAUSES: &[(LoadOptionCause, &str)] = &[
     (
         LoadOptionCause::TooShort,
-        "the load option ends before its description",
+        "load option ends before its description",
     ),
     (
         LoadOptionCause::DescriptionWithoutEnd,
-        "no NUL ends the description",
+        "description is not null-terminated",
     ),
     (
         LoadOptionCause::ListBeyondEnd,
-        "the file path list is longer than the bytes that are left",
+        "file path list extends past the end of the load option",
     ),
-    (LoadOptionCause::EmptyList, "the file path list is empty"),
+    (LoadOptionCause::EmptyList, "file path list is empty"),
     (
         LoadOptionCause::FilePathList(NodeError::EndWithData),
-        "an end node has data",
+        "end node has data",
     ),
 ];
 
@@ -134,17 +131,17 @@ const LOAD_OPTIONS: &[(LoadOptionError, &str)] = &[(
         cause: LoadOptionCause::EmptyList,
         offset: 10,
     },
-    "the file path list is empty at offset 10",
+    "file path list is empty at offset 10",
 )];
 
 const BUILDS: &[(BuildError, &str)] = &[
     (
         BuildError::EndNode,
-        "an end node may not stand before the end of a device path",
+        "end node is only allowed at the end of a device path",
     ),
     (
         BuildError::NodeTooLong,
-        "the node is longer than its header can state",
+        "device path node is longer than 65,535 bytes",
     ),
     (
         BuildError::BufferTooSmall(14),
@@ -156,18 +153,18 @@ const BUILDS: &[(BuildError, &str)] = &[
 const GROWS: &[(GrowError, &str)] = &[
     (
         GrowError::Path(BEYOND),
-        "a node is longer than the bytes that are left at offset 12",
+        "device path node extends past the end of the data at offset 12",
     ),
     (
         GrowError::Build(BuildError::NodeTooLong),
-        "the node is longer than its header can state",
+        "device path node is longer than 65,535 bytes",
     ),
 ];
 
 const PUSHED_TEXTS: &[(PushTextError, &str)] = &[
     (
         PushTextError::Path(BEYOND),
-        "a node is longer than the bytes that are left at offset 12",
+        "device path node extends past the end of the data at offset 12",
     ),
     (PushTextError::NoNode(FAULT), FAULT_TEXT),
     (
@@ -181,14 +178,14 @@ const OPTION_BUILDS: &[(OptionBuildError, &str)] = &[
         OptionBuildError::NulInDescription(2),
         "description: interior null character at index 2",
     ),
-    (OptionBuildError::EmptyList, "the file path list is empty"),
+    (OptionBuildError::EmptyList, "file path list is empty"),
     (
         OptionBuildError::ListTooLong,
-        "the file path list is longer than its header can state",
+        "file path list is longer than 65,535 bytes",
     ),
     (
         OptionBuildError::TooLong,
-        "the load option is longer than memory",
+        "load option does not fit in memory",
     ),
     (
         OptionBuildError::BufferTooSmall(24),
@@ -203,7 +200,7 @@ const FAULT: TextFault = TextFault {
     expected: Expected::Number(0xff),
 };
 
-const FAULT_TEXT: &str = "no node at offset 11: expected a number up to 0xFF at offset 15";
+const FAULT_TEXT: &str = "invalid node at offset 11: expected a number up to 0xFF at offset 15";
 
 const TEXTS: &[(PathTextError, &str)] = &[
     (PathTextError::NoNode(FAULT), FAULT_TEXT),

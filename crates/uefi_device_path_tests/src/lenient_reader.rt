@@ -193,17 +193,17 @@ fn texts_of_libefivar(rt: HostRuntime) -> Result<(), Fail> {
 /// Texts that libefivar prints for several different nodes, texts that it never prints, and the words of the
 /// error.
 const REFUSED_OF_LIBEFIVAR: &str = "\
-SAS(5006016047273469,12,34,NoTopology): no node at offset 0: expected a form that describes \
+SAS(5006016047273469,12,34,NoTopology): invalid node at offset 0: expected a form that describes \
     the whole node, of at most 65,535 bytes at offset 4
-\\a/UsbClass(781,5583,255,18): no node at offset 3: expected a form that describes \
+\\a/UsbClass(781,5583,255,18): invalid node at offset 3: expected a form that describes \
     the whole node, of at most 65,535 bytes at offset 12
-Fibre(5,0): no node at offset 0: expected a form that describes the whole node, of at \
+Fibre(5,0): invalid node at offset 0: expected a form that describes the whole node, of at \
     most 65,535 bytes at offset 6
-PciRoot(12): no node at offset 0: expected a number after `0x` at offset 8
-pcieroot( ): no node at offset 0: expected a number after `0x` at offset 10
-NVMe(1,00-25-38-5B-71-B0-03-1C): no node at offset 0: expected the exact printed form at offset 5
-NVMe(0x1,00-25-38-5B-71-B0-03-1C)x: no node at offset 0: expected `/`, `,` or the end of the text at offset 33
-Pci(256,0): no node at offset 0: expected a number up to 0xFF at offset 4";
+PciRoot(12): invalid node at offset 0: expected a number after `0x` at offset 8
+pcieroot( ): invalid node at offset 0: expected a number after `0x` at offset 10
+NVMe(1,00-25-38-5B-71-B0-03-1C): invalid node at offset 0: expected the exact printed form at offset 5
+NVMe(0x1,00-25-38-5B-71-B0-03-1C)x: invalid node at offset 0: expected `/`, `,` or the end of the text at offset 33
+Pci(256,0): invalid node at offset 0: expected a number up to 0xFF at offset 4";
 
 #[test]
 fn refused_texts_of_libefivar(rt: HostRuntime) -> Result<(), Fail> {

@@ -86,22 +86,22 @@ fn attributes_of_one_bit(rt: HostRuntime) -> Result<(), Fail> {
 
 /// An entry in hexadecimal, and its parts before the fault: attributes, the length of the description in
 /// units with the NUL, each whole device path, and the nodes before the fault; then the fault and its offset.
-const PARTS: &str = " the load option ends before its description at offset 0
-0100000004 the load option ends before its description at offset 5
-0100000004006400 1; no NUL ends the description at offset 8
+const PARTS: &str = " load option ends before its description at offset 0
+0100000004 load option ends before its description at offset 5
+0100000004006400 1; description is not null-terminated at offset 8
 01000000040064000000 1; 2 units; \
-    the file path list is longer than the bytes that are left at offset 4
-09000000000064000000 9; 2 units; the file path list is empty at offset 10
+    file path list extends past the end of the load option at offset 4
+09000000000064000000 9; 2 units; file path list is empty at offset 10
 01000000080064000000010106000200017f 1; 2 units; nodes Pci(0x0,0x2); \
-    the bytes end in a node's header at offset 16
+    device path ends within a node header at offset 16
 010000001400000001010600021f7fff0400010106000300010203006f 1; 1 units; path Pci(0x1F,0x2); \
-    nodes Pci(0x0,0x3); a node is shorter than its header at offset 26
+    nodes Pci(0x0,0x3); device path node is shorter than its header at offset 26
 010000000f00000001010600021f7fff040001010600037fff0400 1; 1 units; path Pci(0x1F,0x2); \
-    a node is longer than the bytes that are left at offset 20
-010000000400000001010400 1; 1 units; nodes Path(1,1); no end node ends the device path at offset 12
-01000000040000007f000400 1; 1 units; an end node ends neither a path nor an instance at offset 9
-01000000050000007fff050000 1; 1 units; an end node has data at offset 10
-01000000060000007fff04007fff 1; 1 units; path ; the bytes end in a node's header at offset 12";
+    device path node extends past the end of the data at offset 20
+010000000400000001010400 1; 1 units; nodes Path(1,1); device path has no end node at offset 12
+01000000040000007f000400 1; 1 units; end node has an unknown sub-type at offset 9
+01000000050000007fff050000 1; 1 units; end node has data at offset 10
+01000000060000007fff04007fff 1; 1 units; path ; device path ends within a node header at offset 12";
 
 /// Returns the parts of an entry before its fault, and the fault, which `from_bytes` also returns.
 fn parts_of(alloc: Global, entry: &[u8]) -> Result<String, Fail> {

@@ -321,184 +321,184 @@ pub(crate) const OMITTED: &str = "\
 
 /// Texts with a typo, texts that don't determine their node, and the message of each error.
 const WRONG: &str = "\
-PciRoot(0x0)/Pci(0x1F,0x2 => no node at offset 13: expected `)` at offset 25
-PciRoot(0x0)/Pci(0x1F;0x2) => no node at offset 13: expected `,` at offset 21
+PciRoot(0x0)/Pci(0x1F,0x2 => invalid node at offset 13: expected `)` at offset 25
+PciRoot(0x0)/Pci(0x1F;0x2) => invalid node at offset 13: expected `,` at offset 21
 PciRoot(0x0)/Pci(0x1F,0x2)/Sata(0x0,0xFFFF,0x0)/HD(1,GTP,12345678-9abc-def0-1234-56789abcdef0) => no nod\
     e at offset 48: expected `GPT` or `MBR` at offset 53
-PciRoot(0x0)/Pci(1F,0x2) => no node at offset 13: expected `,` at offset 18
-PciRoot(0x0)/Pci(0x1G,0x2) => no node at offset 13: expected `,` at offset 20
-PciRoot(0x0)/Pci(0x100,0x2) => no node at offset 13: expected a number up to 0xFF at offset 17
-PciRoot(0x0)/Pci(256,2) => no node at offset 13: expected a number up to 0xFF at offset 17
-PciRoot(0x0)/Pci(0x1F,0x2))/Sata(0x0) => no node at offset 13: expected `/`, `,` or the end of the text \
+PciRoot(0x0)/Pci(1F,0x2) => invalid node at offset 13: expected `,` at offset 18
+PciRoot(0x0)/Pci(0x1G,0x2) => invalid node at offset 13: expected `,` at offset 20
+PciRoot(0x0)/Pci(0x100,0x2) => invalid node at offset 13: expected a number up to 0xFF at offset 17
+PciRoot(0x0)/Pci(256,2) => invalid node at offset 13: expected a number up to 0xFF at offset 17
+PciRoot(0x0)/Pci(0x1F,0x2))/Sata(0x0) => invalid node at offset 13: expected `/`, `,` or the end of the text \
     at offset 26
-PciRoot(0x0)Pci(0x1F,0x2) => no node at offset 0: expected `/`, `,` or the end of the text at offset 12
-PciRoot(0x0)//Pci(0x1F,0x2) => no node at offset 13: expected the name of a node at offset 13
-PciRoot(0x0)/Pci(0x1F,0x2)/ => no node at offset 27: expected the name of a node at offset 27
-PciRoot(0x0)/Pci 0x1F,0x2) => no node at offset 13: expected the name of a file at offset 13
-PciRoot[0x0]/Pci(0x1F,0x2) => no node at offset 0: expected the name of a file at offset 0
-PciRoot(x0)/Pci(0x1F,0x2) => no node at offset 0: expected a number up to 0xFFFFFFFF at offset 8
-PciRoot(0x0)/Pci(0x1F,0x2,0x0) => no node at offset 13: expected `)` at offset 25
-PciRoot(0x0)\\Pci(0x1F,0x2) => no node at offset 0: expected `/`, `,` or the end of the text at offset 1\
+PciRoot(0x0)Pci(0x1F,0x2) => invalid node at offset 0: expected `/`, `,` or the end of the text at offset 12
+PciRoot(0x0)//Pci(0x1F,0x2) => invalid node at offset 13: expected the name of a node at offset 13
+PciRoot(0x0)/Pci(0x1F,0x2)/ => invalid node at offset 27: expected the name of a node at offset 27
+PciRoot(0x0)/Pci 0x1F,0x2) => invalid node at offset 13: expected the name of a file at offset 13
+PciRoot[0x0]/Pci(0x1F,0x2) => invalid node at offset 0: expected the name of a file at offset 0
+PciRoot(x0)/Pci(0x1F,0x2) => invalid node at offset 0: expected a number up to 0xFFFFFFFF at offset 8
+PciRoot(0x0)/Pci(0x1F,0x2,0x0) => invalid node at offset 13: expected `)` at offset 25
+PciRoot(0x0)\\Pci(0x1F,0x2) => invalid node at offset 0: expected `/`, `,` or the end of the text at offset 1\
     2
-PcRoot(0x0)/Pci(0x1F,0x2) => no node at offset 0: expected the name of a node, such as `PciRoot(0x` at o\
+PcRoot(0x0)/Pci(0x1F,0x2) => invalid node at offset 0: expected the name of a node, such as `PciRoot(0x` at o\
     ffset 0
-PciRoot(0x0)/Pic(0x1F,0x2) => no node at offset 13: expected the name of a node, such as `Pci(0x` at off\
+PciRoot(0x0)/Pic(0x1F,0x2) => invalid node at offset 13: expected the name of a node, such as `Pci(0x` at off\
     set 13
-PciRoot(0x0)/Scssi(0x0,0x0) => no node at offset 13: expected the name of a node, such as `Scsi(0x` at o\
+PciRoot(0x0)/Scssi(0x0,0x0) => invalid node at offset 13: expected the name of a node, such as `Scsi(0x` at o\
     ffset 13
-PciRoot(0x0)/Stata(0x0,0x0,0x0) => no node at offset 13: expected the name of a node, such as `Sata(0x` \
+PciRoot(0x0)/Stata(0x0,0x0,0x0) => invalid node at offset 13: expected the name of a node, such as `Sata(0x` \
     at offset 13
-PciRoot(0x0)/NVM(0x1) => no node at offset 13: expected the name of a node, such as `NVMe(0x` at offset \
+PciRoot(0x0)/NVM(0x1) => invalid node at offset 13: expected the name of a node, such as `NVMe(0x` at offset \
     13
-UsbClas(0x46D,0xC31C,0x1,0x1,0x1) => no node at offset 0: expected the name of a node, such as `UsbClass\
+UsbClas(0x46D,0xC31C,0x1,0x1,0x1) => invalid node at offset 0: expected the name of a node, such as `UsbClass\
     (0x` at offset 0
-HD(1,GPT,12345678-9abc-def0-1234-56789abcdef) => no node at offset 0: expected 12 hexadecimal digits at \
+HD(1,GPT,12345678-9abc-def0-1234-56789abcdef) => invalid node at offset 0: expected 12 hexadecimal digits at \
     offset 33
-HD(1,GPT,12345678-9abc-def0-1234-56789abcdef01) => no node at offset 0: expected `,` at offset 45
-HD(1,GPT,12345678-9abc-def0-123456789abcdef0) => no node at offset 0: expected `-` at offset 32
-HD(1,GPT,1234567g-9abc-def0-1234-56789abcdef0) => no node at offset 0: expected 8 hexadecimal digits at \
+HD(1,GPT,12345678-9abc-def0-1234-56789abcdef01) => invalid node at offset 0: expected `,` at offset 45
+HD(1,GPT,12345678-9abc-def0-123456789abcdef0) => invalid node at offset 0: expected `-` at offset 32
+HD(1,GPT,1234567g-9abc-def0-1234-56789abcdef0) => invalid node at offset 0: expected 8 hexadecimal digits at \
     offset 9
-HD(1,GPT,12345678 9abc def0 1234 56789abcdef0) => no node at offset 0: expected `-` at offset 18
-HD(1,GPT) => no node at offset 0: expected `,` at offset 8
-HD(GPT,12345678-9abc-def0-1234-56789abcdef0) => no node at offset 0: expected a number up to 0xFFFFFFFF \
+HD(1,GPT,12345678 9abc def0 1234 56789abcdef0) => invalid node at offset 0: expected `-` at offset 18
+HD(1,GPT) => invalid node at offset 0: expected `,` at offset 8
+HD(GPT,12345678-9abc-def0-1234-56789abcdef0) => invalid node at offset 0: expected a number up to 0xFFFFFFFF \
     at offset 3
-HD(1,800,64000,12345678-9abc-def0-1234-56789abcdef0) => no node at offset 0: expected `GPT` or `MBR` at \
+HD(1,800,64000,12345678-9abc-def0-1234-56789abcdef0) => invalid node at offset 0: expected `GPT` or `MBR` at \
     offset 5
-HD(1,MBR,12345678,0x800,0x64000) => no node at offset 0: expected a number after `0x` at offset 9
-HD(1,MBR,0x123456789,0x800,0x64000) => no node at offset 0: expected `,` at offset 19
-HD(1,GPT,12345678-9abc-def0-1234-56789abcdef0,800h,0x64000) => no node at offset 0: expected `,` at offs\
+HD(1,MBR,12345678,0x800,0x64000) => invalid node at offset 0: expected a number after `0x` at offset 9
+HD(1,MBR,0x123456789,0x800,0x64000) => invalid node at offset 0: expected `,` at offset 19
+HD(1,GPT,12345678-9abc-def0-1234-56789abcdef0,800h,0x64000) => invalid node at offset 0: expected `,` at offs\
     et 49
-HD(1,GPT,12345678-9abc-def0-1234-56789abcdef0,0x800,-1) => no node at offset 0: expected a number up to \
+HD(1,GPT,12345678-9abc-def0-1234-56789abcdef0,0x800,-1) => invalid node at offset 0: expected a number up to \
     0xFFFFFFFFFFFFFFFF at offset 52
-HD(1,GPT,12345678-9abc-def0-1234-56789abcdef0/\\EFI\\a.efi => no node at offset 0: expected `,` at offse\
+HD(1,GPT,12345678-9abc-def0-1234-56789abcdef0/\\EFI\\a.efi => invalid node at offset 0: expected `,` at offse\
     t 45
-HD(1,GPT,12345678-9abc-def0-1234-56789abcdef0)\\EFI\\a.efi => no node at offset 0: expected `/`, `,` or \
+HD(1,GPT,12345678-9abc-def0-1234-56789abcdef0)\\EFI\\a.efi => invalid node at offset 0: expected `/`, `,` or \
     the end of the text at offset 46
-HD(1,GPT,12345678-9abc-def0-1234-56789abcdef0)/EFI/BOOT/a.efi => no node at offset 47: expected the name \
+HD(1,GPT,12345678-9abc-def0-1234-56789abcdef0)/EFI/BOOT/a.efi => invalid node at offset 47: expected the name \
     of a file at offset 47
-HD(1,GPT,12345678-9abc-def0-1234-56789abcdef0)/a.efi => no node at offset 47: expected the name of a fil\
+HD(1,GPT,12345678-9abc-def0-1234-56789abcdef0)/a.efi => invalid node at offset 47: expected the name of a fil\
     e at offset 47
-HD(1,GPT,12345678-9abc-def0-1234-56789abcdef0)/File(\\EFI\\a.efi => no node at offset 47: expected `)` a\
+HD(1,GPT,12345678-9abc-def0-1234-56789abcdef0)/File(\\EFI\\a.efi => invalid node at offset 47: expected `)` a\
     t offset 62
-MAC(52540012345,0x1) => no node at offset 0: expected an address of 12 hexadecimal digits, such as `5254\
+MAC(52540012345,0x1) => invalid node at offset 0: expected an address of 12 hexadecimal digits, such as `5254\
     00ABCDEF` at offset 4
-MAC(52540012345G,0x1) => no node at offset 0: expected an address of 12 hexadecimal digits, such as `525\
+MAC(52540012345G,0x1) => invalid node at offset 0: expected an address of 12 hexadecimal digits, such as `525\
     400ABCDEF` at offset 4
-MAC(52:54:00:12:34,0x1) => no node at offset 0: expected `:` at offset 18
-MAC(525400123456,0x1)/IPv4(192.168.0) => no node at offset 22: expected `.` at offset 36
-MAC(525400123456,0x1)/IPv4(192.168.0.256) => no node at offset 22: expected a number up to 0xFF at offse\
+MAC(52:54:00:12:34,0x1) => invalid node at offset 0: expected `:` at offset 18
+MAC(525400123456,0x1)/IPv4(192.168.0) => invalid node at offset 22: expected `.` at offset 36
+MAC(525400123456,0x1)/IPv4(192.168.0.256) => invalid node at offset 22: expected a number up to 0xFF at offse\
     t 37
-MAC(525400123456,0x1)/IPv4(192.168.0.1.5) => no node at offset 22: expected `,` at offset 38
-MAC(525400123456,0x1)/IPv4(192.168.0.1,TPC,DHCP) => no node at offset 22: expected `TCP`, `UDP` or a num\
+MAC(525400123456,0x1)/IPv4(192.168.0.1.5) => invalid node at offset 22: expected `,` at offset 38
+MAC(525400123456,0x1)/IPv4(192.168.0.1,TPC,DHCP) => invalid node at offset 22: expected `TCP`, `UDP` or a num\
     ber at offset 39
-MAC(525400123456,0x1)/IPv4(192.168.0.1,TCP,Dynamic) => no node at offset 22: expected `DHCP` or `Static` \
+MAC(525400123456,0x1)/IPv4(192.168.0.1,TCP,Dynamic) => invalid node at offset 22: expected `DHCP` or `Static` \
     at offset 43
-NVMe(0x1,00-25-38-5B-71-B0-03) => no node at offset 0: expected 16 hexadecimal digits in pairs, with das\
+NVMe(0x1,00-25-38-5B-71-B0-03) => invalid node at offset 0: expected 16 hexadecimal digits in pairs, with das\
     hes between them at offset 9
-NVMe(0x1,0025385B71B0031C) => no node at offset 0: expected 16 hexadecimal digits in pairs, with dashes \
+NVMe(0x1,0025385B71B0031C) => invalid node at offset 0: expected 16 hexadecimal digits in pairs, with dashes \
     between them at offset 9
-NVMe(0x1;00-25-38-5B-71-B0-03-1C) => no node at offset 0: expected `,` at offset 8
-Ata(0,0,0) => no node at offset 0: expected `Primary` or `Secondary` at offset 4
-Ata(Primary,Third,0) => no node at offset 0: expected `Master` or `Slave` at offset 12
-Uart(115200,8,N,3) => no node at offset 0: expected stop bits (D, 1, 1.5, 2 or x) and `)` at offset 16
-Uart(fast,8,N,1) => no node at offset 0: expected DEFAULT or a number up to 0xFFFFFFFFFFFFFFFF at offset \
+NVMe(0x1;00-25-38-5B-71-B0-03-1C) => invalid node at offset 0: expected `,` at offset 8
+Ata(0,0,0) => invalid node at offset 0: expected `Primary` or `Secondary` at offset 4
+Ata(Primary,Third,0) => invalid node at offset 0: expected `Master` or `Slave` at offset 12
+Uart(115200,8,N,3) => invalid node at offset 0: expected stop bits (D, 1, 1.5, 2 or x) and `)` at offset 16
+Uart(fast,8,N,1) => invalid node at offset 0: expected DEFAULT or a number up to 0xFFFFFFFFFFFFFFFF at offset \
     5
-BBS(Harddisk,Foo,0x0) => no node at offset 0: expected `Floppy`, `HD`, `CDROM`, `PCMCIA`, `USB`, `Networ\
+BBS(Harddisk,Foo,0x0) => invalid node at offset 0: expected `Floppy`, `HD`, `CDROM`, `PCMCIA`, `USB`, `Networ\
     k` or a number at offset 4
-UsbWwid(0x1234,0x5678,0,ABC) => no node at offset 0: expected `\"` at offset 24
-UsbWwid(0x1234,0x5678,0,\"ABC) => no node at offset 0: expected `\"` at offset 28
-AcpiEx(PNP0A0,0,0x0,,,) => no node at offset 0: expected an ID such as `PNP0A03`, or `0` at offset 7
-Acpi(PNPA03,0) => no node at offset 0: expected 4 hexadecimal digits at offset 8
-VenHw(12345678-9ABC-DEF0-1234-56789ABCDEF0,ABC) => no node at offset 0: expected `)` at offset 45
-VenHw(12345678-9ABC-DEF0-1234-56789ABCDEF0,XY) => no node at offset 0: expected 2 hexadecimal digits at \
+UsbWwid(0x1234,0x5678,0,ABC) => invalid node at offset 0: expected `\"` at offset 24
+UsbWwid(0x1234,0x5678,0,\"ABC) => invalid node at offset 0: expected `\"` at offset 28
+AcpiEx(PNP0A0,0,0x0,,,) => invalid node at offset 0: expected an ID such as `PNP0A03`, or `0` at offset 7
+Acpi(PNPA03,0) => invalid node at offset 0: expected 4 hexadecimal digits at offset 8
+VenHw(12345678-9ABC-DEF0-1234-56789ABCDEF0,ABC) => invalid node at offset 0: expected `)` at offset 45
+VenHw(12345678-9ABC-DEF0-1234-56789ABCDEF0,XY) => invalid node at offset 0: expected 2 hexadecimal digits at \
     offset 43
-SAS(0x1,0x0,0x0,SATA,Inside,Direct,0,0x0) => no node at offset 0: expected `Internal` or `External` at o\
+SAS(0x1,0x0,0x0,SATA,Inside,Direct,0,0x0) => invalid node at offset 0: expected `Internal` or `External` at o\
     ffset 21
-iSCSI(iqn.a,0x1,0x0000000000000000,None,None,CHAP,TCP) => no node at offset 0: expected `None`, `CHAP_BI\
+iSCSI(iqn.a,0x1,0x0000000000000000,None,None,CHAP,TCP) => invalid node at offset 0: expected `None`, `CHAP_BI\
     ` or `CHAP_UNI` at offset 45
-Wi-Fi(a name that is longer than thirty-two) => no node at offset 0: expected `)` at offset 38
-Dns(8.8.8) => no node at offset 0: expected `.` at offset 9
-CDROM(0x1,0x10,0xZ) => no node at offset 0: expected a number up to 0xFFFFFFFFFFFFFFFF at offset 15
-Sata(0x0,0x10000,0x0) => no node at offset 0: expected a number up to 0xFFFF at offset 9
-MAC(525400123456,0x1)/IPv4(192.168.0.100,0,DHCP) => no node at offset 22: expected `,` at offset 47
-MAC(525400123456,0x1)/IPv4(192.168.0.100,6) => no node at offset 22: expected `,` at offset 42
-IPv4(192.168.0.100:0<->192.168.0.1:0,0,0) => no node at offset 0: expected `,` at offset 18
-IPv6([::]:0<->[::]:0,0,0) => no node at offset 0: expected `<` at offset 10
-MAC(525400123456000000000000000000000000000000000000000000000000000,0x1) => no node at offset 0: expecte\
+Wi-Fi(a name that is longer than thirty-two) => invalid node at offset 0: expected `)` at offset 38
+Dns(8.8.8) => invalid node at offset 0: expected `.` at offset 9
+CDROM(0x1,0x10,0xZ) => invalid node at offset 0: expected a number up to 0xFFFFFFFFFFFFFFFF at offset 15
+Sata(0x0,0x10000,0x0) => invalid node at offset 0: expected a number up to 0xFFFF at offset 9
+MAC(525400123456,0x1)/IPv4(192.168.0.100,0,DHCP) => invalid node at offset 22: expected `,` at offset 47
+MAC(525400123456,0x1)/IPv4(192.168.0.100,6) => invalid node at offset 22: expected `,` at offset 42
+IPv4(192.168.0.100:0<->192.168.0.1:0,0,0) => invalid node at offset 0: expected `,` at offset 18
+IPv6([::]:0<->[::]:0,0,0) => invalid node at offset 0: expected `<` at offset 10
+MAC(525400123456000000000000000000000000000000000000000000000000000,0x1) => invalid node at offset 0: expecte\
     d `,` at offset 16
-BBS(HD) => no node at offset 0: expected `,` at offset 6
-UartFlowCtrl(0x1) => no node at offset 0: expected `None`, `Hardware` or `XonXoff` at offset 13
-SAS(0x5000C500A0B1C2D3,0x0,0x0,SATA,Internal,Direct,0x0,0x0) => no node at offset 0: expected `,` at off\
+BBS(HD) => invalid node at offset 0: expected `,` at offset 6
+UartFlowCtrl(0x1) => invalid node at offset 0: expected `None`, `Hardware` or `XonXoff` at offset 13
+SAS(0x5000C500A0B1C2D3,0x0,0x0,SATA,Internal,Direct,0x0,0x0) => invalid node at offset 0: expected `,` at off\
     set 53
-SasEx(0x5000C500A0B1C2D3,0x0,0x1,NoTopology,0,0,0) => no node at offset 0: expected 16 hexadecimal digit\
+SasEx(0x5000C500A0B1C2D3,0x0,0x1,NoTopology,0,0,0) => invalid node at offset 0: expected 16 hexadecimal digit\
     s at offset 25
-AcpiExp(ACPI0003,0,CPU0) => no node at offset 0: expected an ID such as `PNP0A03`, or `0` at offset 8
-AcpiEx(@@@0000,@@@0000,0x0,VMBus,,) => no node at offset 0: expected an ID such as `PNP0A03`, or `0` at \
+AcpiExp(ACPI0003,0,CPU0) => invalid node at offset 0: expected an ID such as `PNP0A03`, or `0` at offset 8
+AcpiEx(@@@0000,@@@0000,0x0,VMBus,,) => invalid node at offset 0: expected an ID such as `PNP0A03`, or `0` at \
     offset 7
-HD(Part1,Sig12345678-0000-0000-0000-000000000000) => no node at offset 0: expected a number up to 0xFFFF\
+HD(Part1,Sig12345678-0000-0000-0000-000000000000) => invalid node at offset 0: expected a number up to 0xFFFF\
     FFFF at offset 3
-HD(1,800,64000,12345678-9abc-def0-1234-56789abcdef0) => no node at offset 0: expected `GPT` or `MBR` at \
+HD(1,800,64000,12345678-9abc-def0-1234-56789abcdef0) => invalid node at offset 0: expected `GPT` or `MBR` at \
     offset 5
-HD(1,800,64000,12345678) => no node at offset 0: expected `GPT` or `MBR` at offset 5
+HD(1,800,64000,12345678) => invalid node at offset 0: expected `GPT` or `MBR` at offset 5
 /VenHw(e61d73b9-a384-4acc-aeab-82e828f3628b)/SCSI(0,0)/HD(0x01,0,0,0x100000,0x100000) => no node at offs\
     et 55: expected `GPT` or `MBR` at offset 63
-HD(1,GPT,12345678-9abc-def0-1234-56789abcdef0)\\EFI\\BOOT\\BOOTX64.EFI => no node at offset 0: expected \
+HD(1,GPT,12345678-9abc-def0-1234-56789abcdef0)\\EFI\\BOOT\\BOOTX64.EFI => invalid node at offset 0: expected \
     `/`, `,` or the end of the text at offset 46
-UsbWwid(0x1234,0x5678,0) => no node at offset 0: expected `,` at offset 23
-UsbWwid(0x1234,0x5678,0,ABC123) => no node at offset 0: expected `\"` at offset 24
-WiFi(home) => no node at offset 0: expected the name of a node, such as `Wi-Fi(` at offset 0
-iSCSI(iqn.2001-05.com.example:disk,0x1,0x0,None,None,None,TCP) => no node at offset 0: expected 16 hexad\
+UsbWwid(0x1234,0x5678,0) => invalid node at offset 0: expected `,` at offset 23
+UsbWwid(0x1234,0x5678,0,ABC123) => invalid node at offset 0: expected `\"` at offset 24
+WiFi(home) => invalid node at offset 0: expected the name of a node, such as `Wi-Fi(` at offset 0
+iSCSI(iqn.2001-05.com.example:disk,0x1,0x0,None,None,None,TCP) => invalid node at offset 0: expected 16 hexad\
     ecimal digits at offset 39
-iSCSI(iqn.2001-05.com.example:disk) => no node at offset 0: expected 16 hexadecimal digits at offset 34
-iSCSI(iqn.2001-05.com.example:disk,0x1,0) => no node at offset 0: expected 16 hexadecimal digits at offs\
+iSCSI(iqn.2001-05.com.example:disk) => invalid node at offset 0: expected 16 hexadecimal digits at offset 34
+iSCSI(iqn.2001-05.com.example:disk,0x1,0) => invalid node at offset 0: expected 16 hexadecimal digits at offs\
     et 39
-Dns(2001:4860:4860::8888) => no node at offset 0: expected 4 hexadecimal digits at offset 19
-UnknownScsi(0,0) => no node at offset 0: expected the name of a node at offset 0
-UsbStorage(0x781,0x5583,0x6,0x50) => no node at offset 0: expected the name of a node at offset 0
-PciRoot(0)/Pci(1C.0) => no node at offset 11: expected `,` at offset 16
-Acpi(PNP0A03,0)/Pci(1|0) => no node at offset 16: expected `,` at offset 21
-Acpi(HWP0002,0) => no node at offset 0: expected an ID such as `PNP0A03`, or `0x` and 8 digits at offset \
+Dns(2001:4860:4860::8888) => invalid node at offset 0: expected 4 hexadecimal digits at offset 19
+UnknownScsi(0,0) => invalid node at offset 0: expected the name of a node at offset 0
+UsbStorage(0x781,0x5583,0x6,0x50) => invalid node at offset 0: expected the name of a node at offset 0
+PciRoot(0)/Pci(1C.0) => invalid node at offset 11: expected `,` at offset 16
+Acpi(PNP0A03,0)/Pci(1|0) => invalid node at offset 16: expected `,` at offset 21
+Acpi(HWP0002,0) => invalid node at offset 0: expected an ID such as `PNP0A03`, or `0x` and 8 digits at offset \
     5
 PciRoot(0x0)/Pci(0x1F,0x2)/Sata(0x0,0xFFFF,0x0)/HD(1,GPT,12345678-9abc-def0-1234-56789abcdef0,0x800,0x64\
-    000)//EFI/BOOT/BOOTX64.EFI => no node at offset 109: expected the name of a node at offset 109
-VendorHw(12345678-9ABC-DEF0-1234-56789ABCDEF0) => no node at offset 0: expected the name of a node at of\
+    000)//EFI/BOOT/BOOTX64.EFI => invalid node at offset 109: expected the name of a node at offset 109
+VendorHw(12345678-9ABC-DEF0-1234-56789ABCDEF0) => invalid node at offset 0: expected the name of a node at of\
     fset 0
-Infiniband(0x0,0,0x0,0x0,0x0) => no node at offset 0: expected 8 hexadecimal digits at offset 15
-HardwarePath(1,0201) => no node at offset 0: expected a form that describes the whole node, of at most 6\
+Infiniband(0x0,0,0x0,0x0,0x0) => invalid node at offset 0: expected 8 hexadecimal digits at offset 15
+HardwarePath(1,0201) => invalid node at offset 0: expected a form that describes the whole node, of at most 6\
     5,535 bytes at offset 20
-BbsPath(2,xy) => no node at offset 0: expected 2 hexadecimal digits at offset 10
-Boot0001* PciRoot(0) => no node at offset 0: expected the name of a node at offset 0
-NVDIMM(12345678-9ABC-DEF0-1234-56789ABCDEF0) => no node at offset 0: expected the name of a node at offs\
+BbsPath(2,xy) => invalid node at offset 0: expected 2 hexadecimal digits at offset 10
+Boot0001* PciRoot(0) => invalid node at offset 0: expected the name of a node at offset 0
+NVDIMM(12345678-9ABC-DEF0-1234-56789ABCDEF0) => invalid node at offset 0: expected the name of a node at offs\
     et 0
-NVDIMM(0x1) => no node at offset 0: expected the name of a node at offset 0
-HD(1,0x01,0,0x800,0x64000) => no node at offset 0: expected `GPT` or `MBR` at offset 5
-Acpi(0x1F,0x1) => no node at offset 0: expected an ID such as `PNP0A03`, or `0x` and 8 digits at offset \
+NVDIMM(0x1) => invalid node at offset 0: expected the name of a node at offset 0
+HD(1,0x01,0,0x800,0x64000) => invalid node at offset 0: expected `GPT` or `MBR` at offset 5
+Acpi(0x1F,0x1) => invalid node at offset 0: expected an ID such as `PNP0A03`, or `0x` and 8 digits at offset \
     5
-Dns() => no node at offset 0: expected an IP address at offset 4
-Dns(abc) => no node at offset 0: expected an IP address at offset 4
-IPv4(localhost) => no node at offset 0: expected an IP address at offset 5
-IPv6(fe80::1::2) => no node at offset 0: expected an IP address at offset 5
-MAC(52540012345,1) => no node at offset 0: expected an address of 12 hexadecimal digits, such as `525400\
+Dns() => invalid node at offset 0: expected an IP address at offset 4
+Dns(abc) => invalid node at offset 0: expected an IP address at offset 4
+IPv4(localhost) => invalid node at offset 0: expected an IP address at offset 5
+IPv6(fe80::1::2) => invalid node at offset 0: expected an IP address at offset 5
+MAC(52540012345,1) => invalid node at offset 0: expected an address of 12 hexadecimal digits, such as `525400\
     ABCDEF` at offset 4
-MAC() => no node at offset 0: expected an address of 12 hexadecimal digits, such as `525400ABCDEF` at of\
+MAC() => invalid node at offset 0: expected an address of 12 hexadecimal digits, such as `525400ABCDEF` at of\
     fset 4
-BBS(HDD,Drive,0x0) => no node at offset 0: expected `Floppy`, `HD`, `CDROM`, `PCMCIA`, `USB`, `Network` \
+BBS(HDD,Drive,0x0) => invalid node at offset 0: expected `Floppy`, `HD`, `CDROM`, `PCMCIA`, `USB`, `Network` \
     or a number at offset 4
-Ata() => no node at offset 0: expected `Primary` or `Secondary` at offset 4
-FvFile() => no node at offset 0: expected a GUID at offset 7
-VenHw(PciRoot) => no node at offset 0: expected a GUID at offset 6
-Pci() => no node at offset 0: expected a number after `0x` at offset 4
-Flie(\\EFI\\a.efi) => no node at offset 0: expected the name of a node, such as `File(` at offset 0
-FvVl(7CB8BDC9-F8EB-4F34-AAEA-3EE4AF6516A1) => no node at offset 0: expected the name of a node, such as \
+Ata() => invalid node at offset 0: expected `Primary` or `Secondary` at offset 4
+FvFile() => invalid node at offset 0: expected a GUID at offset 7
+VenHw(PciRoot) => invalid node at offset 0: expected a GUID at offset 6
+Pci() => invalid node at offset 0: expected a number after `0x` at offset 4
+Flie(\\EFI\\a.efi) => invalid node at offset 0: expected the name of a node, such as `File(` at offset 0
+FvVl(7CB8BDC9-F8EB-4F34-AAEA-3EE4AF6516A1) => invalid node at offset 0: expected the name of a node, such as \
     `FvVol(` at offset 0
-VenUtf88() => no node at offset 0: expected the name of a node, such as `VenUtf8()` at offset 0
-Pth(1,9,0102) => no node at offset 0: expected the name of a node, such as `Path(` at offset 0
-PciRoot(0)/ PicRoot(0) => no node at offset 11: expected the name of a node, such as `PciRoot(0x` at off\
+VenUtf88() => invalid node at offset 0: expected the name of a node, such as `VenUtf8()` at offset 0
+Pth(1,9,0102) => invalid node at offset 0: expected the name of a node, such as `Path(` at offset 0
+PciRoot(0)/ PicRoot(0) => invalid node at offset 11: expected the name of a node, such as `PciRoot(0x` at off\
     set 12
-HD(1,MBR,0x12345678)/\\\\EFI\\\\redhat\\\\shimx64.efi => no node at offset 21: expected the name of a fi\
+HD(1,MBR,0x12345678)/\\\\EFI\\\\redhat\\\\shimx64.efi => invalid node at offset 21: expected the name of a fi\
     le at offset 22
-File(\\\\EFI\\\\redhat\\\\shimx64.efi) => no node at offset 0: expected the name of a file at offset 5
-/PCI(0,3) => no node at offset 0: expected the name of a node at offset 0";
+File(\\\\EFI\\\\redhat\\\\shimx64.efi) => invalid node at offset 0: expected the name of a file at offset 5
+/PCI(0,3) => invalid node at offset 0: expected the name of a node at offset 0";
 
 /// Returns the message of the error for a text, or nothing if the text is read.
 pub(crate) fn fault_words(

@@ -126,7 +126,8 @@ fn refusal(alloc: Global, exact: bool, text: &str) -> Result<Option<String>, Fai
     } else {
         shown(alloc, DevicePathBuf::from_lenient_text(alloc, text))?.err()
     };
-    let is_first = unread.as_deref() == Some("a node is shorter than its header at offset 2");
+    let is_first = unread.as_deref()
+        == Some("device path node is shorter than its header at offset 2");
     let is_so = is_first && added == read && buffer == [0x7f, 0xff, 4, 0];
     Ok(if is_so { added } else { None })
 }
@@ -137,7 +138,7 @@ fn refused(rt: HostRuntime) -> Result<(), Fail> {
         let (place, texts) = split_row(line);
         for text in texts.split(" | ") {
             let want = format!(in rt.alloc();
-                "no node at offset {place}: expected the exact printed form at offset {place}"
+                "invalid node at offset {place}: expected the exact printed form at offset {place}"
             )?;
             assert_eq!(rt; refusal(rt.alloc(), true, text)?, Some(want), "{text}");
         }
@@ -147,7 +148,7 @@ fn refused(rt: HostRuntime) -> Result<(), Fail> {
         let (node, row) = split_row(row);
         let (byte, text) = split_row(row);
         let want = format!(in rt.alloc();
-            "no node at offset {node}: expected {expected} at offset {byte}"
+            "invalid node at offset {node}: expected {expected} at offset {byte}"
         )?;
         assert_eq!(rt; refusal(rt.alloc(), false, text)?, Some(want), "{text}");
     }
@@ -254,9 +255,9 @@ fn long_texts(rt: HostRuntime) -> Result<(), Fail> {
     }
     let longer = format!(in alloc; "Path(9,200,{digits}AB)")?;
     let want =
-        "no node at offset 0: expected a form that describes the whole node, of at most 65,535 bytes at \
+        "invalid node at offset 0: expected a form that describes the whole node, of at most 65,535 bytes at \
 offset 131076";
-    let exact = "no node at offset 0: expected the exact printed form at offset 0";
+    let exact = "invalid node at offset 0: expected the exact printed form at offset 0";
     assert_eq!(rt; refusal(alloc, true, &longer)?.as_deref(), Some(exact));
     assert_eq!(rt; refusal(alloc, false, &longer)?.as_deref(), Some(want));
 
@@ -277,7 +278,7 @@ offset 131076";
     let filed = format!(in alloc; "file({name})")?;
     assert!(rt; is_added(alloc, false, path.len(), &name, &path)?);
     assert!(rt; is_added(alloc, false, path.len(), &filed, &path)?);
-    let want = "no node at offset 0: expected the name of a file at offset 0";
+    let want = "invalid node at offset 0: expected the name of a file at offset 0";
     let longer = format!(in alloc; "{name}a")?;
     assert_eq!(rt; refusal(alloc, false, &longer)?.as_deref(), Some(want));
     Ok(())

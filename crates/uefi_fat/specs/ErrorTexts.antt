@@ -6,7 +6,7 @@ use Rattle.uefi_fat.specs.declared.long_names.FatNameError.TheVariants.{Empty, I
 
 -- the text of an error for a refused name
 abbrev pub fat_name_error_text : FatNameError → List ℕ
-fat_name_error_text Empty = codes "name is empty without spaces and dots"
-fat_name_error_text TooLong = codes "name has more than 255 characters"
+fat_name_error_text Empty = codes "name contains only spaces and dots"
+fat_name_error_text TooLong = codes "name is longer than 255 characters"
 fat_name_error_text (IllegalChar character) =
     codes "name contains an illegal character (value " ++ decimal character ++ codes ")"

@@ -25,7 +25,7 @@ pub enum FatNameError {
     /// The trimmed name is empty. So are those of `.` and `..`, which name folders.
     Empty,
 
-    /// The trimmed name has more than 255 characters.
+    /// The trimmed name is longer than 255 characters.
     TooLong,
 
     /// The trimmed name contains this character, the first that no name may contain.
@@ -39,8 +39,8 @@ impl Printed for FatNameError {
     #[tactic(auto, using(uefi_text::proofs::Puts::puts))]
     fn put<S: TextSink>(&self, sink: &mut S) {
         match self {
-            FatNameError::Empty => sink.put_str("name is empty without spaces and dots"),
-            FatNameError::TooLong => sink.put_str("name has more than 255 characters"),
+            FatNameError::Empty => sink.put_str("name contains only spaces and dots"),
+            FatNameError::TooLong => sink.put_str("name is longer than 255 characters"),
             FatNameError::IllegalChar(character) => {
                 let value = u64::from(u16::from(*character));
                 put_decimal(sink, "name contains an illegal character (value ", value);

@@ -162,20 +162,20 @@ fn errors_of_names_and_orders(rt: HostRuntime) -> Result<(), Fail> {
         says(
             alloc,
             &FatNameError::Empty,
-            "name is empty without spaces and dots"
+            "name contains only spaces and dots"
         )
     );
     assert!(rt;
         says(
             alloc,
             &FatNameError::TooLong,
-            "name has more than 255 characters"
+            "name is longer than 255 characters"
         )
     );
     assert!(rt; says(alloc, &FatNameError::IllegalChar(star), illegal));
-    assert!(rt; says(alloc, &OddLength, "an order has two bytes for each number"));
-    assert!(rt; says(alloc, &NotTwoBytes(3), "a number has two bytes, and not 3"));
-    assert!(rt; says(alloc, &OrderFull, "there is no room for another number"));
+    assert!(rt; says(alloc, &OddLength, "boot order has an odd number of bytes"));
+    assert!(rt; says(alloc, &NotTwoBytes(3), "expected 2 bytes, found 3"));
+    assert!(rt; says(alloc, &OrderFull, "boot order is full"));
     Ok(())
 }
 

@@ -32,8 +32,8 @@ impl fmt::Display for BuildError {
     fn fmt(&self, f: &mut fmt::Formatter<'_>) -> fmt::Result {
         f.write_str(match self {
             Self::BufferTooSmall => "buffer too small",
-            Self::NodeTooBig => "the node is longer than its header can state",
-            Self::EndNode => "an end node may not stand before the end of a device path",
+            Self::NodeTooBig => "device path node is longer than 65,535 bytes",
+            Self::EndNode => "end node is only allowed at the end of a device path",
         })
     }
 }
@@ -314,7 +314,7 @@ impl<'a> DevicePathBuilder<'a> {
     ///
     /// let mut bytes = Vec::new();
     /// let error = DevicePathBuilder::with_vec(&mut bytes).push_text("Pci(x)").unwrap_err();
-    /// assert_eq!(error.to_string(), "no node at offset 0");
+    /// assert_eq!(error.to_string(), "invalid node at offset 0");
     /// ```
     pub fn push_text(self, text: &str) -> Result<Self, Error> {
         self.add(&mut |room, length| sys::nard_device_path_push_text(room, text.as_bytes(), length))
@@ -442,7 +442,7 @@ impl<'a> DevicePathBuilder<'a> {
     /// let mut units = [0; 64];
     /// let words = DevicePathBuilder::lenient_text_fault("Pci(x)", &mut units)?;
     /// let words = String::from_utf16_lossy(words);
-    /// assert_eq!(words, "no node at offset 0: expected a number up to 0xFF at offset 4");
+    /// assert_eq!(words, "invalid node at offset 0: expected a number up to 0xFF at offset 4");
     /// # Ok::<(), nardcorbel::Error>(())
     /// ```
     pub fn lenient_text_fault<'b>(text: &str, buffer: &'b mut [u16]) -> Result<&'b [u16], Error> {
@@ -460,7 +460,7 @@ impl<'a> DevicePathBuilder<'a> {
     ///
     /// let (text, mut units) = ("Pci(x)".encode_utf16().collect::<Vec<u16>>(), [0; 64]);
     /// let words = String::from_utf16_lossy(DevicePathBuilder::lenient_units_fault(&text, &mut units)?);
-    /// assert_eq!(words, "no node at offset 0: expected a number up to 0xFF at offset 4");
+    /// assert_eq!(words, "invalid node at offset 0: expected a number up to 0xFF at offset 4");
     /// # Ok::<(), nardcorbel::Error>(())
     /// ```
     pub fn lenient_units_fault<'b>(

@@ -33,7 +33,7 @@ impl<'a> LoadOption<'a> {
     /// let entry = [1, 0, 0, 0, 4, 0, 0x62, 0, 0, 0, 0x7f, 0xff, 4, 0, 9];
     /// assert!(LoadOption::from_bytes(&entry).is_ok());
     /// let error = LoadOption::from_bytes(&entry[..5]).unwrap_err();
-    /// assert_eq!(error.to_string(), "the load option ends before its description at offset 5");
+    /// assert_eq!(error.to_string(), "load option ends before its description at offset 5");
     /// # Ok::<(), nardcorbel::Error>(())
     /// ```
     pub fn from_bytes(bytes: &'a [u8]) -> Result<Self, Error> {

@@ -63,9 +63,9 @@ pub enum NodeConversionError {
 impl fmt::Display for NodeConversionError {
     fn fmt(&self, f: &mut fmt::Formatter<'_>) -> fmt::Result {
         f.write_str(match self {
-            Self::DifferentType => "the node is of another type or sub-type",
-            Self::InvalidLength => "no node of this kind has this length",
-            Self::UnsupportedType => "no kind has this type and sub-type",
+            Self::DifferentType => "device path node has a different type or sub-type",
+            Self::InvalidLength => "device path node has an invalid length",
+            Self::UnsupportedType => "unknown device path node type",
         })
     }
 }

@@ -41,7 +41,7 @@ impl DevicePath {
     /// use nardcorbel::DevicePath;
     ///
     /// let error = DevicePath::from_bytes(&[1, 1, 3, 0]).unwrap_err();
-    /// assert_eq!(error.to_string(), "a node is shorter than its header at offset 2");
+    /// assert_eq!(error.to_string(), "device path node is shorter than its header at offset 2");
     /// ```
     pub fn from_bytes(bytes: &[u8]) -> Result<&Self, Error> {
         let mut length = 0;
