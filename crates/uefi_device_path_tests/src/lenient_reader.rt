@@ -202,7 +202,8 @@ Fibre(5,0): invalid node at offset 0: expected a form that describes the whole n
 PciRoot(12): invalid node at offset 0: expected a number after `0x` at offset 8
 pcieroot( ): invalid node at offset 0: expected a number after `0x` at offset 10
 NVMe(1,00-25-38-5B-71-B0-03-1C): invalid node at offset 0: expected the exact printed form at offset 5
-NVMe(0x1,00-25-38-5B-71-B0-03-1C)x: invalid node at offset 0: expected `/`, `,` or the end of the text at offset 33
+NVMe(0x1,00-25-38-5B-71-B0-03-1C)x: invalid node at offset 0: expected `/`, `,` or the end of \
+    the text at offset 33
 Pci(256,0): invalid node at offset 0: expected a number up to 0xFF at offset 4";
 
 #[test]

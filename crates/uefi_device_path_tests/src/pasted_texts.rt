@@ -323,8 +323,8 @@ pub(crate) const OMITTED: &str = "\
 const WRONG: &str = "\
 PciRoot(0x0)/Pci(0x1F,0x2 => invalid node at offset 13: expected `)` at offset 25
 PciRoot(0x0)/Pci(0x1F;0x2) => invalid node at offset 13: expected `,` at offset 21
-PciRoot(0x0)/Pci(0x1F,0x2)/Sata(0x0,0xFFFF,0x0)/HD(1,GTP,12345678-9abc-def0-1234-56789abcdef0) => no nod\
-    e at offset 48: expected `GPT` or `MBR` at offset 53
+PciRoot(0x0)/Pci(0x1F,0x2)/Sata(0x0,0xFFFF,0x0)/HD(1,GTP,12345678-9abc-def0-1234-56789abcdef0) => inval\
+    id node at offset 48: expected `GPT` or `MBR` at offset 53
 PciRoot(0x0)/Pci(1F,0x2) => invalid node at offset 13: expected `,` at offset 18
 PciRoot(0x0)/Pci(0x1G,0x2) => invalid node at offset 13: expected `,` at offset 20
 PciRoot(0x0)/Pci(0x100,0x2) => invalid node at offset 13: expected a number up to 0xFF at offset 17
@@ -374,8 +374,8 @@ HD(1,GPT,12345678-9abc-def0-1234-56789abcdef0/\\EFI\\a.efi => invalid node at of
     t 45
 HD(1,GPT,12345678-9abc-def0-1234-56789abcdef0)\\EFI\\a.efi => invalid node at offset 0: expected `/`, `,` or \
     the end of the text at offset 46
-HD(1,GPT,12345678-9abc-def0-1234-56789abcdef0)/EFI/BOOT/a.efi => invalid node at offset 47: expected the name \
-    of a file at offset 47
+HD(1,GPT,12345678-9abc-def0-1234-56789abcdef0)/EFI/BOOT/a.efi => invalid node at offset 47: expected \
+    the name of a file at offset 47
 HD(1,GPT,12345678-9abc-def0-1234-56789abcdef0)/a.efi => invalid node at offset 47: expected the name of a fil\
     e at offset 47
 HD(1,GPT,12345678-9abc-def0-1234-56789abcdef0)/File(\\EFI\\a.efi => invalid node at offset 47: expected `)` a\
@@ -391,8 +391,8 @@ MAC(525400123456,0x1)/IPv4(192.168.0.256) => invalid node at offset 22: expected
 MAC(525400123456,0x1)/IPv4(192.168.0.1.5) => invalid node at offset 22: expected `,` at offset 38
 MAC(525400123456,0x1)/IPv4(192.168.0.1,TPC,DHCP) => invalid node at offset 22: expected `TCP`, `UDP` or a num\
     ber at offset 39
-MAC(525400123456,0x1)/IPv4(192.168.0.1,TCP,Dynamic) => invalid node at offset 22: expected `DHCP` or `Static` \
-    at offset 43
+MAC(525400123456,0x1)/IPv4(192.168.0.1,TCP,Dynamic) => invalid node at offset 22: expected `DHCP` or \
+    `Static` at offset 43
 NVMe(0x1,00-25-38-5B-71-B0-03) => invalid node at offset 0: expected 16 hexadecimal digits in pairs, with das\
     hes between them at offset 9
 NVMe(0x1,0025385B71B0031C) => invalid node at offset 0: expected 16 hexadecimal digits in pairs, with dashes \
@@ -401,8 +401,8 @@ NVMe(0x1;00-25-38-5B-71-B0-03-1C) => invalid node at offset 0: expected `,` at o
 Ata(0,0,0) => invalid node at offset 0: expected `Primary` or `Secondary` at offset 4
 Ata(Primary,Third,0) => invalid node at offset 0: expected `Master` or `Slave` at offset 12
 Uart(115200,8,N,3) => invalid node at offset 0: expected stop bits (D, 1, 1.5, 2 or x) and `)` at offset 16
-Uart(fast,8,N,1) => invalid node at offset 0: expected DEFAULT or a number up to 0xFFFFFFFFFFFFFFFF at offset \
-    5
+Uart(fast,8,N,1) => invalid node at offset 0: expected DEFAULT or a number up to \
+    0xFFFFFFFFFFFFFFFF at offset 5
 BBS(Harddisk,Foo,0x0) => invalid node at offset 0: expected `Floppy`, `HD`, `CDROM`, `PCMCIA`, `USB`, `Networ\
     k` or a number at offset 4
 UsbWwid(0x1234,0x5678,0,ABC) => invalid node at offset 0: expected `\"` at offset 24
@@ -440,8 +440,8 @@ HD(Part1,Sig12345678-0000-0000-0000-000000000000) => invalid node at offset 0: e
 HD(1,800,64000,12345678-9abc-def0-1234-56789abcdef0) => invalid node at offset 0: expected `GPT` or `MBR` at \
     offset 5
 HD(1,800,64000,12345678) => invalid node at offset 0: expected `GPT` or `MBR` at offset 5
-/VenHw(e61d73b9-a384-4acc-aeab-82e828f3628b)/SCSI(0,0)/HD(0x01,0,0,0x100000,0x100000) => no node at offs\
-    et 55: expected `GPT` or `MBR` at offset 63
+/VenHw(e61d73b9-a384-4acc-aeab-82e828f3628b)/SCSI(0,0)/HD(0x01,0,0,0x100000,0x100000) => invalid \
+    node at offset 55: expected `GPT` or `MBR` at offset 63
 HD(1,GPT,12345678-9abc-def0-1234-56789abcdef0)\\EFI\\BOOT\\BOOTX64.EFI => invalid node at offset 0: expected \
     `/`, `,` or the end of the text at offset 46
 UsbWwid(0x1234,0x5678,0) => invalid node at offset 0: expected `,` at offset 23
@@ -457,8 +457,8 @@ UnknownScsi(0,0) => invalid node at offset 0: expected the name of a node at off
 UsbStorage(0x781,0x5583,0x6,0x50) => invalid node at offset 0: expected the name of a node at offset 0
 PciRoot(0)/Pci(1C.0) => invalid node at offset 11: expected `,` at offset 16
 Acpi(PNP0A03,0)/Pci(1|0) => invalid node at offset 16: expected `,` at offset 21
-Acpi(HWP0002,0) => invalid node at offset 0: expected an ID such as `PNP0A03`, or `0x` and 8 digits at offset \
-    5
+Acpi(HWP0002,0) => invalid node at offset 0: expected an ID such as `PNP0A03`, or `0x` and 8 digits \
+    at offset 5
 PciRoot(0x0)/Pci(0x1F,0x2)/Sata(0x0,0xFFFF,0x0)/HD(1,GPT,12345678-9abc-def0-1234-56789abcdef0,0x800,0x64\
     000)//EFI/BOOT/BOOTX64.EFI => invalid node at offset 109: expected the name of a node at offset 109
 VendorHw(12345678-9ABC-DEF0-1234-56789ABCDEF0) => invalid node at offset 0: expected the name of a node at of\
