@@ -7,13 +7,14 @@
  * A file is the variable Boot#### as Linux shows it in /sys/firmware/efi/efivars, or as another tool saved it,
  * without the four bytes of the variable's attributes in front. The file's name has its number. The entry is an
  * EFI_LOAD_OPTION (UEFI Specification 2.10, section 3.1.3), and the library reads each length in it. If it is malformed,
- * nard_load_option_read returns the reason and the offset, and the parts before the offset are printed first. Ends with 1 if
+ * nard_load_option_read returns a status and the offset, and the parts before the offset are printed first. Ends with 1 if
  * an entry is malformed.
  */
 #include <stdio.h>
 #include <string.h>
 
 #include "nardcorbel.h"
+#include "nardcorbel_nodes.h"
 
 /* More than firmware keeps of one variable, without its attributes. */
 enum { MOST_BYTES = 65536, MOST_UNITS = MOST_BYTES / 2, MOST_SHOWN = 4 * MOST_BYTES, MOST_UTF8 = 3 * MOST_SHOWN + 1 };
@@ -21,8 +22,8 @@ enum { MOST_BYTES = 65536, MOST_UNITS = MOST_BYTES / 2, MOST_SHOWN = 4 * MOST_BY
 /* The attributes of a load option, and the attributes of a variable that is stored, and visible at boot and at run time. */
 enum { ACTIVE = 1, FORCE_RECONNECT = 2, HIDDEN = 8, CATEGORY = 0x1f00, VARIABLE_ATTRIBUTES = 7 };
 
-/* The number of bytes before a description, and the type and sub-type of a node that names a file. */
-enum { HEAD = 6, MEDIA = 4, FILE_PATH = 4 };
+/* The number of bytes before a description. */
+enum { HEAD = 6 };
 
 struct entry {
     const uint8_t *bytes;
@@ -31,7 +32,7 @@ struct entry {
 
 /* A line of text, in units, in those that are shown of it, and in UTF-8, and what is shown of a device path. */
 static uint16_t units[MOST_UNITS], open_units[MOST_SHOWN], shown[MOST_SHOWN];
-static uint8_t utf8[MOST_UTF8];
+static char utf8[MOST_UTF8];
 
 static bool refuse(size_t offset, const char *why)
 {
@@ -39,12 +40,12 @@ static bool refuse(size_t offset, const char *why)
     return false;
 }
 
-/* Refuses the units of a file path node, for the unit at `place` where the reason is about one. */
-static bool refuse_units(size_t offset, uint32_t reason, size_t place)
+/* Refuses the units of a file path node, for the unit at `index` where the status is about one. */
+static bool refuse_units(size_t offset, nard_status status, size_t index)
 {
-    printf("  malformed at offset %zu: file path: %s", offset, nard_reason_text(reason));
-    if (reason == NARD_INVALID_CHAR || reason == NARD_INTERIOR_NUL)
-        printf(" at index %zu", place);
+    printf("  malformed at offset %zu: file path: %s", offset, nard_status_text(status));
+    if (status == NARD_INVALID_CHAR || status == NARD_INTERIOR_NUL)
+        printf(" at index %zu", index);
     printf("\n");
     return false;
 }
@@ -62,32 +63,32 @@ static void print_units(const uint16_t *from, size_t count)
     size_t length = 0;
     for (size_t i = 0; i < count; i++)
         open_units[i] = is_hidden(from[i]) ? '?' : from[i];
-    if (nard_utf8_from_units_lossy(open_units, count, utf8, sizeof utf8, &length) == NARD_OK)
+    if (nard_string_to_utf8_lossy(open_units, count, utf8, sizeof utf8, &length) == NARD_OK)
         fwrite(utf8, 1, length, stdout);
 }
 
 /* Prints the path of a file path node, whose units the bytes from `at` on are, and the verdict on it. */
 static bool print_path(struct entry entry, size_t at, size_t size)
 {
-    size_t count = 0, place = 0, start = 0;
-    uint16_t character = 0;
-    uint32_t reason = nard_units_from_bytes(entry.bytes + at, size, units, MOST_UNITS, &count);
-    if (reason != NARD_OK)
-        return refuse_units(at + size - 1, reason, 0);
-    reason = nard_string_with_nul(units, count, &place);
-    if (reason != NARD_OK)
-        return refuse_units(at + 2 * place, reason, place);
+    size_t count = 0, length = 0, fault = 0, start = 0;
+    nard_char16 character = 0;
+    nard_status status = nard_units_from_bytes(entry.bytes + at, size, units, MOST_UNITS, &count);
+    if (status != NARD_OK)
+        return refuse_units(at + size - 1, status, 0);
+    status = nard_string_check(units, count, &length, &fault);
+    if (status != NARD_OK)
+        return refuse_units(at + 2 * fault, status, fault);
 
     printf("  path: ");
     print_units(units, count);
-    reason = nard_path_verdict(units, count, &place, &character);
-    if (reason == NARD_ILLEGAL_CHAR)
-        printf(": refused: %s (value %u)\n", nard_reason_text(reason), (unsigned)character);
-    else if (reason != NARD_OK)
-        printf(": refused: %s\n", nard_reason_text(reason));
+    status = nard_path_check(units, count, NULL, NULL, &character);
+    if (status == NARD_ILLEGAL_CHAR)
+        printf(": refused: %s (value %u)\n", nard_status_text(status), (unsigned)character);
+    else if (status != NARD_OK)
+        printf(": refused: %s\n", nard_status_text(status));
     else
         printf(": accepted\n");
-    if (reason == NARD_OK && nard_path_file_name(units, place, &start)) {
+    if (status == NARD_OK && nard_path_file_name(units, length, &start)) {
         printf("  file: ");
         print_units(units + start, count - start);
         printf("\n");
@@ -98,13 +99,13 @@ static bool print_path(struct entry entry, size_t at, size_t size)
 /* Prints what the nodes say that name files, from the offset `at` on: all whole ones that begin before `end`. */
 static bool print_nodes(struct entry entry, size_t at, size_t end)
 {
-    struct nard_device_node node = {0, 0, 0, 0};
+    struct nard_device_node node;
     for (;;) {
-        uint32_t reason = nard_device_path_next_node(entry.bytes, end, &at, &node);
-        if (reason != NARD_OK && reason != NARD_END_OF_PATH)
+        nard_status status = nard_device_path_next_node(entry.bytes, end, &at, &node, NULL);
+        if (!nard_succeeded(status))
             return true;
-        bool names_file = reason == NARD_OK && node.device_type == MEDIA && node.sub_type == FILE_PATH;
-        if (names_file && !print_path(entry, node.start, node.length))
+        bool names_file = status == NARD_OK && node.node_type == NARD_FILE_PATH;
+        if (names_file && !print_path(entry, node.data_offset, node.data_size))
             return false;
     }
 }
@@ -123,9 +124,9 @@ static void print_description(struct entry entry, size_t length)
 static void print_device_paths(struct entry entry, size_t at, size_t end)
 {
     size_t size = 0, length = 0;
-    while (at <= end && nard_device_path_check(entry.bytes + at, end - at, &size) == NARD_OK) {
+    while (at <= end && nard_device_path_check(entry.bytes + at, end - at, &size, NULL) == NARD_OK) {
         /* No byte of a path prints more than four units. */
-        if (nard_device_path_text(entry.bytes + at, size, false, false, shown, MOST_SHOWN, &length) == NARD_OK) {
+        if (nard_device_path_format_utf16(entry.bytes + at, size, NARD_STYLE_UEFI, shown, MOST_SHOWN, &length, NULL) == NARD_OK) {
             printf("  device path: ");
             print_units(shown, length);
             printf("\n");
@@ -209,23 +210,23 @@ static void print_optional_data(const uint8_t *bytes, size_t size)
 /* Prints an entry whose bytes begin with its own attributes. */
 static bool print_entry(struct entry entry)
 {
-    struct nard_load_option option = {0, 0, 0, 0, 0, 0, 0, 0};
+    struct nard_load_option option;
     size_t fault = 0, length = 0;
-    uint32_t reason = nard_load_option_read(entry.bytes, entry.size, &option, &fault);
-    if (reason == NARD_OPTION_TOO_SHORT)
-        return refuse(fault, nard_reason_text(reason));
+    nard_status status = nard_load_option_read(entry.bytes, entry.size, &option, &fault);
+    if (status == NARD_OPTION_TOO_SHORT)
+        return refuse(fault, nard_status_text(status));
     print_attributes(entry.bytes);
-    if (nard_packed_until_nul(entry.bytes + HEAD, entry.size - HEAD, &length) != NARD_OK)
-        return refuse(fault, nard_reason_text(reason));
+    if (nard_packed_length(entry.bytes + HEAD, entry.size - HEAD, &length) != NARD_OK)
+        return refuse(fault, nard_status_text(status));
     /* All other faults are after the description, or in the length of the list after it. */
-    size_t list = HEAD + 2 * (length + 1), end = reason == NARD_OK ? option.optional_start : fault;
+    size_t list = HEAD + 2 * (length + 1), end = status == NARD_OK ? list + option.path_list_size : fault;
     print_description(entry, length);
     print_device_paths(entry, list, end);
     if (!print_nodes(entry, list, end))
         return false;
-    if (reason != NARD_OK)
-        return refuse(fault, nard_reason_text(reason));
-    print_optional_data(entry.bytes + option.optional_start, option.optional_length);
+    if (status != NARD_OK)
+        return refuse(fault, nard_status_text(status));
+    print_optional_data(option.optional_data, option.optional_data_size);
     return true;
 }
 
@@ -234,10 +235,8 @@ static bool read_name(const char *path, uint16_t *number)
 {
     const char *slash = strrchr(path, '/');
     const char *name = slash == NULL ? path : slash + 1;
-    size_t length = 0;
-    uint8_t kind = 0;
-    return nard_string_from_utf8((const uint8_t *)name, strcspn(name, "-"), units, MOST_UNITS, &length) == NARD_OK
-        && nard_boot_name_read(units, length + 1, &kind, number) == NARD_OK && kind == NARD_BOOT;
+    uint32_t kind = NARD_DRIVER;
+    return nard_boot_name_read(name, strcspn(name, "-"), &kind, number) == NARD_OK && kind == NARD_BOOT;
 }
 
 static bool print_file(const char *path)

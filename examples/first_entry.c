@@ -4,19 +4,17 @@
 
 int main(void)
 {
-    nard_byte entry[4096] = {0}, line[16384] = {0};
-    nard_unit text[4096] = {0};
-    struct nard_load_option option = {0};
-    nard_size size = fread(entry, 1, sizeof entry, stdin), length = 0;
+    uint8_t entry[4096];
+    char text[16384];
+    struct nard_load_option option;
+    size_t size = fread(entry, 1, sizeof entry, stdin), fault = 0;
 
-    nard_result status = nard_load_option_read(entry, size, &option, &length);
+    nard_status status = nard_load_option_read(entry, size, &option, &fault);
     if (status == NARD_OK)
-        status = nard_device_path_text(entry + option.list_start, option.path_length, false, false, text, 4096, &length);
+        status = nard_device_path_format(option.path, option.path_size, NARD_STYLE_UEFI, text, sizeof text, NULL, NULL);
     if (status == NARD_OK)
-        status = nard_utf8_from_units_lossy(text, length, line, sizeof line, &length);
-    if (status == NARD_OK)
-        puts((const char *)line);
+        puts(text);
     else
-        printf("byte %zu: %s\n", length, nard_reason_text(status));
+        printf("byte %zu: %s\n", fault, nard_status_text(status));
     return status == NARD_OK ? 0 : 1;
 }

@@ -1,110 +1,125 @@
 //! Calls the library from Rust, as a firmware program does that is built only with `rustc`: the functions of
 //! `include/nardcorbel.h`, each in a safe wrapper of a few lines.
 //!
-//! Build, at the top of the repository: `rustc examples/paths.rs -L crates/nardcorbel/out -l static=nardcorbel`.
+//! Build, at the top of the repository: `rustc examples/paths.rs -L crates/nardcorbel/out/firmware/x86_64-linux-gnu -l static=nardcorbel`.
 
 use std::ops::Range;
+use std::ptr;
 
 /// The declarations of `include/nardcorbel.h` that this program calls.
 mod header {
     extern "C" {
         pub fn nard_string_from_utf8(
-            bytes: *const u8,
-            byte_count: usize,
+            text: *const u8,
+            text_size: usize,
             buffer: *mut u16,
-            room: usize,
-            place: *mut usize,
+            capacity: usize,
+            length: *mut usize,
+            fault: *mut usize,
         ) -> u32;
-        pub fn nard_path_verdict(
-            units: *const u16,
-            count: usize,
-            place: *mut usize,
+        pub fn nard_path_check(
+            path: *const u16,
+            path_length: usize,
+            length: *mut usize,
+            fault: *mut usize,
             character: *mut u16,
         ) -> u32;
         pub fn nard_path_equal(
             first: *const u16,
-            first_count: usize,
+            first_length: usize,
             second: *const u16,
-            second_count: usize,
+            second_length: usize,
         ) -> bool;
         pub fn nard_path_next_component(
-            text: *const u16,
-            length: usize,
+            path: *const u16,
+            path_length: usize,
             place: *mut usize,
             start: *mut usize,
             component_length: *mut usize,
         ) -> bool;
         pub fn nard_path_parent_length(
-            text: *const u16,
-            length: usize,
+            path: *const u16,
+            path_length: usize,
             parent_length: *mut usize,
         ) -> bool;
         pub fn nard_path_push(
             buffer: *mut u16,
-            room: usize,
-            path: *const u16,
-            count: usize,
-            place: *mut usize,
+            capacity: usize,
+            path_length: usize,
+            other: *const u16,
+            other_length: usize,
+            length: *mut usize,
+            fault: *mut usize,
         ) -> u32;
         pub fn nard_path_join(
             path: *const u16,
-            count: usize,
+            path_length: usize,
             other: *const u16,
-            other_count: usize,
+            other_length: usize,
             buffer: *mut u16,
-            room: usize,
-            place: *mut usize,
+            capacity: usize,
+            length: *mut usize,
+            fault: *mut usize,
         ) -> u32;
         pub fn nard_path_parent(
             path: *const u16,
-            count: usize,
+            path_length: usize,
             buffer: *mut u16,
-            room: usize,
-            place: *mut usize,
+            capacity: usize,
+            length: *mut usize,
+            fault: *mut usize,
         ) -> u32;
         pub fn nard_path_normalize(
             path: *const u16,
-            count: usize,
+            path_length: usize,
             buffer: *mut u16,
-            room: usize,
-            place: *mut usize,
+            capacity: usize,
+            length: *mut usize,
+            fault: *mut usize,
             character: *mut u16,
         ) -> u32;
     }
 }
 
-/// Why a call refuses: the number of `enum nard_reason`.
-struct Reason(u32);
+/// Why a call fails: the number of its `nard_status`.
+struct Status(u32);
 
 /// Writes a text and a NUL into a buffer, and returns the string.
-fn string_in<'a>(text: &str, buffer: &'a mut [u16]) -> Result<&'a [u16], Reason> {
-    let mut place = 0;
-    // SAFETY: both slices are passed with their lengths, and neither overlaps `place`.
-    let reason = unsafe {
+fn string_in<'a>(text: &str, buffer: &'a mut [u16]) -> Result<&'a [u16], Status> {
+    let mut len = 0;
+    // SAFETY: both slices are passed with their lengths, and neither overlaps `len`.
+    let status = unsafe {
         header::nard_string_from_utf8(
             text.as_ptr(),
             text.len(),
             buffer.as_mut_ptr(),
             buffer.len(),
-            &mut place,
+            &mut len,
+            ptr::null_mut(),
         )
     };
-    match reason {
-        0 => Ok(&buffer[..place + 1]),
-        _ => Err(Reason(reason)),
+    match status {
+        0 => Ok(&buffer[..len + 1]),
+        _ => Err(Status(status)),
     }
 }
 
 /// The text of a string whose path names a file.
-fn valid_text(string: &[u16]) -> Result<&[u16], Reason> {
-    let (mut place, mut character) = (0, 0);
+fn valid_text(string: &[u16]) -> Result<&[u16], Status> {
+    let mut len = 0;
     // SAFETY: the slice is passed with its length.
-    let reason = unsafe {
-        header::nard_path_verdict(string.as_ptr(), string.len(), &mut place, &mut character)
+    let status = unsafe {
+        header::nard_path_check(
+            string.as_ptr(),
+            string.len(),
+            &mut len,
+            ptr::null_mut(),
+            ptr::null_mut(),
+        )
     };
-    match reason {
-        0 => Ok(&string[..place]),
-        _ => Err(Reason(reason)),
+    match status {
+        0 => Ok(&string[..len]),
+        _ => Err(Status(status)),
     }
 }
 
@@ -149,9 +164,9 @@ impl<'a> Iterator for Components<'a> {
 
 /// Writes the path of two strings to a buffer. If the buffer is too small, returns the number of units of the path.
 fn join<'a>(first: &[u16], second: &[u16], buffer: &'a mut [u16]) -> Result<&'a [u16], usize> {
-    let mut place = 0;
+    let mut len = 0;
     // SAFETY: each slice is passed with its length, and nothing overlaps.
-    let reason = unsafe {
+    let status = unsafe {
         header::nard_path_join(
             first.as_ptr(),
             first.len(),
@@ -159,70 +174,76 @@ fn join<'a>(first: &[u16], second: &[u16], buffer: &'a mut [u16]) -> Result<&'a 
             second.len(),
             buffer.as_mut_ptr(),
             buffer.len(),
-            &mut place,
+            &mut len,
+            ptr::null_mut(),
         )
     };
-    match reason {
-        0 => Ok(&buffer[..place]),
-        _ => Err(place),
+    match status {
+        0 => Ok(&buffer[..len]),
+        _ => Err(len),
     }
 }
 
-/// Pushes a string onto the path at the start of a buffer. If the buffer is too small, returns the number of units of both.
-fn push<'a>(buffer: &'a mut [u16], path: &[u16]) -> Result<&'a [u16], usize> {
-    let mut place = 0;
+/// Pushes a string onto the path in the first `path_len` units of a buffer. If the buffer is too small, returns the number of units
+/// of both.
+fn push<'a>(buffer: &'a mut [u16], path_len: usize, path: &[u16]) -> Result<&'a [u16], usize> {
+    let mut len = 0;
     // SAFETY: each slice is passed with its length, and nothing overlaps.
-    let reason = unsafe {
+    let status = unsafe {
         header::nard_path_push(
             buffer.as_mut_ptr(),
             buffer.len(),
+            path_len,
             path.as_ptr(),
             path.len(),
-            &mut place,
+            &mut len,
+            ptr::null_mut(),
         )
     };
-    match reason {
-        0 => Ok(&buffer[..place]),
-        _ => Err(place),
+    match status {
+        0 => Ok(&buffer[..len]),
+        _ => Err(len),
     }
 }
 
 /// Writes the parent of a string's path to a buffer, with each slash replaced, and returns its number of units, if there is one.
-fn parent_in<'a>(path: &[u16], buffer: &'a mut [u16]) -> (Result<&'a [u16], Reason>, usize) {
-    let mut place = 0;
+fn parent_in<'a>(path: &[u16], buffer: &'a mut [u16]) -> (Result<&'a [u16], Status>, usize) {
+    let mut len = 0;
     // SAFETY: each slice is passed with its length, and nothing overlaps.
-    let reason = unsafe {
+    let status = unsafe {
         header::nard_path_parent(
             path.as_ptr(),
             path.len(),
             buffer.as_mut_ptr(),
             buffer.len(),
-            &mut place,
+            &mut len,
+            ptr::null_mut(),
         )
     };
-    match reason {
-        0 => (Ok(&buffer[..place]), place),
-        _ => (Err(Reason(reason)), place),
+    match status {
+        0 => (Ok(&buffer[..len]), len),
+        _ => (Err(Status(status)), len),
     }
 }
 
-/// Writes the normal path of a string's path to a buffer; or returns why there is none, with the place and the character.
-fn normal_in<'a>(path: &[u16], buffer: &'a mut [u16]) -> Result<&'a [u16], (Reason, usize, u16)> {
-    let (mut place, mut character) = (0, 0);
+/// Writes the normal path of a string's path to a buffer; or returns why there is none, with the number of units that it has if the buffer is too small, and the character.
+fn normal_in<'a>(path: &[u16], buffer: &'a mut [u16]) -> Result<&'a [u16], (Status, usize, u16)> {
+    let (mut len, mut character) = (0, 0);
     // SAFETY: each slice is passed with its length, and nothing overlaps.
-    let reason = unsafe {
+    let status = unsafe {
         header::nard_path_normalize(
             path.as_ptr(),
             path.len(),
             buffer.as_mut_ptr(),
             buffer.len(),
-            &mut place,
+            &mut len,
+            ptr::null_mut(),
             &mut character,
         )
     };
-    match reason {
-        0 => Ok(&buffer[..place]),
-        _ => Err((Reason(reason), place, character)),
+    match status {
+        0 => Ok(&buffer[..len]),
+        _ => Err((Status(status), len, character)),
     }
 }
 
@@ -230,7 +251,7 @@ fn shown(text: &[u16]) -> String {
     String::from_utf16_lossy(text)
 }
 
-fn print_path(text: &str) -> Result<(), Reason> {
+fn print_path(text: &str) -> Result<(), Status> {
     let mut buffer = [0; 64];
     let string = string_in(text, &mut buffer)?;
     let path = valid_text(string)?;
@@ -273,40 +294,46 @@ fn print_places(text: &str) {
     }
 }
 
-fn print_joined(first: &str, second: &str) -> Result<(), Reason> {
+fn print_joined(first: &str, second: &str) -> Result<(), Status> {
     let (mut one, mut two) = ([0; 16], [0; 16]);
     let (first, second) = (string_in(first, &mut one)?, string_in(second, &mut two)?);
     let mut buffer = [0; 12];
-    match join(first, second, &mut buffer) {
-        Ok(path) => println!("joined {}", shown(path)),
-        Err(len) => println!("joined they have {len} units, which is too many"),
-    }
-    match push(&mut buffer, second) {
+    let len = match join(first, second, &mut buffer) {
+        Ok(path) => {
+            println!("joined {}", shown(path));
+            path.len()
+        }
+        Err(len) => {
+            println!("joined they have {len} units, which is too many");
+            0
+        }
+    };
+    match push(&mut buffer, len, second) {
         Ok(path) => println!("  and once more {}", shown(path)),
         Err(len) => println!("  and once more {len} units, which is too many"),
     }
     Ok(())
 }
 
-fn print_parent(text: &str) -> Result<(), Reason> {
+fn print_parent(text: &str) -> Result<(), Status> {
     let mut one = [0; 16];
     let path = string_in(text, &mut one)?;
     let mut buffer = [0; 9];
     match parent_in(path, &mut buffer) {
         (Ok(parent), len) => println!("{text} has the parent {}, {len} units", shown(parent)),
-        (Err(Reason(number)), len) => println!("{text} has none: {number}, {len} units"),
+        (Err(Status(number)), len) => println!("{text} has none: {number}, {len} units"),
     }
     Ok(())
 }
 
-fn print_normal(text: &str) -> Result<(), Reason> {
+fn print_normal(text: &str) -> Result<(), Status> {
     let mut one = [0; 24];
     let path = string_in(text, &mut one)?;
     let mut buffer = [u16::from(b'!'); 8];
     match normal_in(path, &mut buffer) {
         Ok(normal) => println!("{text} leads to {}", shown(normal)),
-        Err((Reason(number), place, character)) => {
-            println!("{text} leads to none: {number} at {place}, {character}")
+        Err((Status(number), len, character)) => {
+            println!("{text} leads to none: {number}, {len} units, {character}")
         }
     }
     println!("  {}", shown(&buffer).replace('\0', "|"));
@@ -327,7 +354,7 @@ fn main() {
         &long,
     ];
     for text in texts {
-        if let Err(Reason(number)) = print_path(text) {
+        if let Err(Status(number)) = print_path(text) {
             println!("{text:?} is refused: {number}");
         }
     }
@@ -344,7 +371,7 @@ fn main() {
         ("\\efi\\boot", "abc"),
     ];
     for (first, second) in pairs {
-        if let Err(Reason(number)) = print_joined(first, second) {
+        if let Err(Status(number)) = print_joined(first, second) {
             println!("{first:?} and {second:?} are refused: {number}");
         }
     }
@@ -355,7 +382,7 @@ fn main() {
         "kernel",
         "\\efi\\boot2\\x",
     ] {
-        if let Err(Reason(number)) = print_parent(text) {
+        if let Err(Status(number)) = print_parent(text) {
             println!("{text:?} is refused: {number}");
         }
     }
@@ -370,7 +397,7 @@ fn main() {
         "",
         "a\\\\b",
     ] {
-        if let Err(Reason(number)) = print_normal(text) {
+        if let Err(Status(number)) = print_normal(text) {
             println!("{text:?} is refused: {number}");
         }
     }

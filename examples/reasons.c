@@ -1,5 +1,5 @@
 /*
- * Compares the EFI_STATUS and the text of each reason with what they should be. Ends with 1 if one differs.
+ * Compares the EFI_STATUS, the text and the success of each status code with what they should be. Exits with status 1 if one differs.
  */
 #include <stdio.h>
 #include <string.h>
@@ -13,38 +13,33 @@
 
 #include "nardcorbel.h"
 
-enum { REASONS = 33, TOO_SMALL = 4 };
+enum { BUFFER_TOO_SMALL = 4, NO_PARENT = 11, LAST = 32, END = 256, CHAR_REPLACED = 257, CODES = 300 };
 
-static uint64_t status_of(nard_result reason)
+static uint64_t efi_status_of(int code)
 {
-    /* A path without a parent, the end of a path, and the end of an order. */
-    if (reason == 11 || reason == 22 || reason == 30)
+    if (code == NO_PARENT || code == END)
         return EFI_NOT_FOUND;
-    if (reason == TOO_SMALL)
+    if (code == BUFFER_TOO_SMALL)
         return EFI_BUFFER_TOO_SMALL;
-    /* A character that became '_' is no error. */
-    return reason == 0 || reason == 25 ? EFI_SUCCESS : EFI_INVALID_PARAMETER;
+    return code == 0 || code == CHAR_REPLACED ? EFI_SUCCESS : EFI_INVALID_PARAMETER;
+}
+
+static bool is_code(int code)
+{
+    return code <= LAST ? code != 25 && code != 30 : code == END || code == CHAR_REPLACED;
 }
 
 int main(void)
 {
     int wrong = 0;
-    for (nard_result reason = 0; reason <= REASONS; reason++) {
-        if (NARD_EFI_STATUS(reason) != status_of(reason)) {
-            printf("WRONG: the status of reason %u\n", (unsigned)reason);
-            wrong = 1;
-        }
-        if ((strcmp(nard_reason_text(reason), "unknown reason") == 0) != (reason == REASONS)) {
-            printf("WRONG: the text of reason %u\n", (unsigned)reason);
+    for (int code = 0; code < CODES; code++) {
+        nard_status status = (nard_status)code;
+        bool is_known = strcmp(nard_status_text(status), "unknown status") != 0;
+        if (is_known != is_code(code) || (is_known && nard_to_efi_status(status) != efi_status_of(code)) ||
+            (is_known && nard_succeeded(status) != (code == 0 || END <= code))) {
+            printf("WRONG: status %d\n", code);
             wrong = 1;
         }
     }
-    nard_result once = NARD_NOT_UTF8;
-    if (NARD_EFI_STATUS(once++) != EFI_INVALID_PARAMETER || once != NARD_NOT_UTF8 + 1) {
-        printf("WRONG: a status whose reason is evaluated more than once\n");
-        wrong = 1;
-    }
-    if (strcmp(nard_reason_text(UINT32_MAX), "unknown reason") != 0)
-        wrong = 1;
-    return wrong;
+    return wrong || strcmp(nard_status_text(NARD_OK), "success") != 0;
 }

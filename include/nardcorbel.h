@@ -1,66 +1,102 @@
 /*
- * nardcorbel: strings, paths, device paths and load options as UEFI firmware stores them.
+ * nardcorbel: strings, paths, device paths and boot entries for UEFI firmware.
  *
- * The library reads and writes memory that the caller provides. No call allocates, keeps a pointer, or calls other code. Every
- * call of the archive is proved to do what its contract says if its caller follows the rules below. The contracts are in
- * crates/nardcorbel/CALLING.md; the comments here describe them in words. The `static inline` functions of this header are C: they
- * are tested, not proved.
+ * The library parses, prints, compares and builds the data that firmware stores in its variables. It accepts exactly what the UEFI
+ * Specification allows and rejects everything else with a status code and the offset of the first invalid byte. It allocates no
+ * memory, keeps no state, calls no other code, and needs no C library.
  *
- * Words
- *   unit    a code unit of UCS-2, two bytes
- *   text    units without a NUL and without a surrogate (0xd800 to 0xdfff)
- *   string  a text and its NUL. Units "begin with a string" if a NUL comes before any surrogate; what follows the NUL is ignored.
- *   path    a string of components with separators, '\', between them. One separator at its start is ignored.
+ *     #include <nardcorbel.h>
  *
- * Rules for the caller
- *   - A pointer with a count may be null if the count is 0. No other pointer may be null.
- *   - Pointers to units, sizes and structs are aligned for their type. Bytes, and so device paths, may have any address. The
- *     name in a node may begin at an odd address: nard_units_from_bytes copies it to an even one.
- *   - The memory has as many elements as the count or the room says, at most PTRDIFF_MAX bytes.
- *   - Memory that a call reads is initialized. This is all of an input, up to its count, even after a NUL, because searches test many
- *     units at once. Memory that a call only writes, a buffer or a number such as *length, need not be initialized.
- *   - A nard_bool is 0 or 1.
- *   - The stack has 12,000 bytes for a call and the functions that it calls.
- *   - While a call runs, no interrupt, event or other processor writes the call's arguments or reads memory that it writes.
- *   - Memory that a call writes overlaps no other argument. Memory that it only reads may overlap.
+ *     // Prints where a boot entry points, for example HD(1,GPT,...,0x800,0x100000)/\EFI\debian\shimx64.efi
+ *     void print_entry(const uint8_t *entry, size_t size)
+ *     {
+ *         struct nard_load_option option;
+ *         char text[512];
+ *         nard_status status = nard_load_option_read(entry, size, &option, NULL);
+ *         if (status == NARD_OK)
+ *             status = nard_device_path_format(option.path, option.path_size, NARD_STYLE_UEFI, text, sizeof text, NULL, NULL);
+ *         puts(status == NARD_OK ? text : nard_status_text(status));
+ *     }
+ *
+ * Which call for which job
+ *   boot entries      nard_load_option_read, _next_path, _write; nard_boot_name_read, nard_boot_order_read
+ *   device paths      nard_device_path_check, _size, _next_node, _file_path_utf16, _is_expansion, _strip_prefix
+ *   nodes             nard_node_number, nard_node_format, and the types and fields of nardcorbel_nodes.h
+ *   text of paths     nard_device_path_format, _parse, _push_text, _text_extent, _explain
+ *   building paths    nard_device_path_init, _push, _append, _push_text
+ *   file paths        nard_path_check, _normalize, _push, _join, _parent, _next_component, _equal, _compare, _matches
+ *   strings           nard_string_check, _length, _equal, _compare, _matches, _from_utf8, _to_utf8
+ *   FAT file names    nard_fat_name_check, _equal, _is_short; nard_fat_from_string, nard_string_from_fat
+ *
+ * Text
+ *   Text is UTF-8 in `char` and UTF-16 in nard_char16. Calls on strings, file paths and file names use UTF-16, as firmware stores
+ *   them. Calls on the text of device paths use UTF-8; where both exist, the call for UTF-16 has the suffix _utf16.
+ *
+ *   A text is passed as a pointer and the number of its elements. For UTF-16 the text ends earlier if it contains a NUL. Pass
+ *   NARD_NUL_TERMINATED as the number if a NUL ends the text. A "string" is a UTF-16 text without surrogates (0xd800 to 0xdfff);
+ *   where a call asks for a NUL-terminated string, the NUL must be among the elements that you pass.
  *
  * Results
- *   - Most calls return a reason: NARD_OK, or why they refuse the input. nard_reason_text returns the reason in words.
- *   - A call that writes a text sets *length to the number of units without the NUL. It needs room for one more unit. If there
- *     is less room, the call returns NARD_BUFFER_TOO_SMALL, and *length is the length of the text. No call writes units after
- *     the NUL.
- *   - If a call refuses its input, *length is the place of the fault, and the buffer is unchanged.
- *   - If a call differs from these rules, its comment says so.
+ *   - Most calls return a nard_status. NARD_OK is success, and so are the codes from NARD_END on, which carry news: test with
+ *     nard_succeeded. nard_status_text gives the code in words.
+ *   - *length (in elements, without the NUL) or *size (in bytes) receives the length of the complete result, if the call succeeds
+ *     and if it returns NARD_BUFFER_TOO_SMALL. To find out the length, pass a capacity of 0. A text needs a capacity of one more
+ *     element, for its NUL.
+ *   - *fault receives the index of the first invalid element of the input, or the offset of the first invalid byte, if the input is
+ *     invalid there.
+ *   - Everything else is unchanged. In particular, a call that fails leaves the buffer, *length, *size and *fault as they were,
+ *     except as said here. Elements after the result are never changed.
+ *   - length, size, fault and character may be null if you don't want these results.
  *
- * Two kinds of archive
- *   - libnardcorbel.a, for programs on Linux: ELF for x86-64-v2 or aarch64. It may use the red zone, so firmware must not link it.
- *   - libnardcorbel_firmware.a and nardcorbel_firmware.lib, for firmware: ELF and COFF, for any x86-64 and aarch64 processor, without
- *     a red zone, and with only general registers.
+ * Rules for the caller
+ *   - An input pointer may be null if its number of elements is 0, and so may a buffer if its capacity is 0.
+ *   - Pointers to UTF-16 text, numbers and structs are aligned for their type. Bytes, and so device paths and load options, may have
+ *     any address. A file name in a node may begin at an odd address: nard_units_from_bytes copies it to an even one.
+ *   - Inputs are initialized up to their number of elements, even after a NUL, because searches test many elements at once. The
+ *     number is at most PTRDIFF_MAX bytes, unless it is NARD_NUL_TERMINATED.
+ *   - A capacity is the number of elements that the buffer has, never NARD_NUL_TERMINATED.
+ *   - Memory that a call writes overlaps no other argument. Memory that it only reads may overlap.
+ *   - Calls keep no state, so any number of threads may call them at once. While a call runs, nothing else writes its arguments or
+ *     reads what it writes: no other thread, interrupt, or device.
+ *   - The stack has 12,000 bytes for a call and the functions that it calls.
+ *
+ * Versions
+ *   While the major version is 0, a new minor version (0.8 to 0.9) may change names, types and behavior. The soname, and a symbol to
+ *   which each object refers, change with it, so an object does not link or run with a library of another interface. A new patch
+ *   version keeps sources and binaries working. New status codes may be added at any time.
+ *
+ * Platforms
+ *   libnardcorbel.a and libnardcorbel.so are for Linux on x86-64 and aarch64. libnardcorbel_firmware.a (ELF) and
+ *   nardcorbel_firmware.lib (COFF) are for firmware on both: they use general registers only and no red zone. For other processors
+ *   with 64 bits, build the source form with clang.
+ *
+ * What is proved
+ *   Each call is proved to do what its contract says (crates/nardcorbel/CALLING.md): it accesses no memory outside its arguments,
+ *   always returns, and gives the documented result for every input. The `static inline` functions below, and the code that turns a
+ *   null pointer or NARD_NUL_TERMINATED into plain arguments, are tested, not proved.
  */
 #ifndef NARDCORBEL_H
 #define NARDCORBEL_H
 
 #if (defined(__SIZEOF_POINTER__) && __SIZEOF_POINTER__ != 8) || (defined(_WIN32) && !defined(_WIN64))
-#error "nardcorbel is for x86-64 and aarch64 with pointers of 64 bits: not -m32, -mx32 or -mabi=ilp32"
+#error "nardcorbel is for 64-bit processors: not -m32, -mx32 or -mabi=ilp32"
 #endif
 
+/* Without these headers, define NARD_TYPES, and uint8_t to uint64_t, int32_t, size_t, bool and NULL, before you include this one. */
 #ifndef NARD_TYPES
 #include <stdbool.h>
 #include <stddef.h>
 #include <stdint.h>
-
-/*
- * The types of the calls. To use others of the same size and sign, define them and NARD_TYPES first: UINT8, CHAR16, UINTN,
- * BOOLEAN, UINT32 and INT32 under EDK II, or char16_t for a unit in C++.
- */
-typedef uint8_t nard_byte;
-typedef uint16_t nard_unit;
-typedef size_t nard_size;
-typedef bool nard_bool;
-typedef uint32_t nard_result; /* a reason */
-typedef int32_t nard_order;   /* -1, 0 or 1 for less, equal or greater, or NARD_NO_ORDER */
 #endif
-typedef unsigned long long nard_number; /* of 64 bits */
+
+/* An element of UTF-16 text. Define NARD_CHAR16 before to use another type of 16 bits, such as CHAR16, or char16_t in C++. */
+#ifndef NARD_CHAR16
+#define NARD_CHAR16 uint16_t
+#endif
+typedef NARD_CHAR16 nard_char16;
+
+/* The number of elements of a text that ends with a NUL. */
+#define NARD_NUL_TERMINATED ((size_t)-1)
 
 #ifndef NARD_CALL
 /* The calling convention: System V in ELF for x86-64, otherwise the platform's own, whatever the compiler's options say. */
@@ -74,7 +110,7 @@ typedef unsigned long long nard_number; /* of 64 bits */
 #endif
 
 #ifndef NARD_MUST_USE
-/* The compiler warns if a program ignores a reason. To disable the warning, define this as nothing first. */
+/* The compiler warns if a program ignores a status. To disable the warning, define this as nothing first. */
 #if defined(__GNUC__)
 #define NARD_MUST_USE __attribute__((warn_unused_result))
 #else
@@ -88,7 +124,7 @@ typedef unsigned long long nard_number; /* of 64 bits */
 #define NARD_VERSION "0.8.0-dev"
 
 /*
- * Refers to nard_interface_0_8 without a byte of code, so that an object does not link with an archive of another interface. The
+ * Refers to nard_interface_0_8 without a byte of code, so that an object does not link with a library of another interface. The
  * reference is in a section of debug information, because GNU ld accepts one to a shared library only there. To leave it out, define
  * this as nothing first.
  */
@@ -107,861 +143,797 @@ typedef unsigned long long nard_number; /* of 64 bits */
 #endif
 #endif
 #endif
+NARD_INTERFACE
 
 #ifdef __cplusplus
 extern "C" {
 #endif
 
-/* Why a call refuses its input: the name NARD_.., its number, and the text of nard_reason_text. */
-#define NARD_REASONS(REASON) \
-    REASON(OK, 0, "nothing is wrong") \
-    REASON(NO_NUL, 1, "not null-terminated") \
-    REASON(INVALID_CHAR, 2, "invalid character") \
-    REASON(INTERIOR_NUL, 3, "interior null character") \
-    REASON(BUFFER_TOO_SMALL, 4, "buffer too small") \
-    REASON(NOT_UTF8, 5, "not UTF-8") \
-    REASON(ODD_BYTES, 6, "odd number of bytes") \
-    REASON(PATH_EMPTY, 7, "path is empty") \
-    REASON(EMPTY_COMPONENT, 8, "path contains an empty component") \
-    REASON(ILLEGAL_CHAR, 9, "path contains an illegal character") \
-    REASON(CLIMBS_ABOVE_ROOT, 10, "path climbs above the root") \
-    REASON(NO_PARENT, 11, "path has no parent") \
-    REASON(NO_END_NODE, 12, "device path has no end node") \
-    REASON(TRUNCATED_HEADER, 13, "device path ends within a node header") \
-    REASON(UNKNOWN_END, 14, "end node has an unknown sub-type") \
-    REASON(LENGTH_BELOW_HEADER, 15, "device path node is shorter than its header") \
-    REASON(END_WITH_DATA, 16, "end node has data") \
-    REASON(NODE_BEYOND_END, 17, "device path node extends past the end of the data") \
-    REASON(OPTION_TOO_SHORT, 18, "load option ends before its description") \
-    REASON(DESCRIPTION_WITHOUT_END, 19, "description is not null-terminated") \
-    REASON(LIST_BEYOND_END, 20, "file path list extends past the end of the load option") \
-    REASON(EMPTY_LIST, 21, "file path list is empty") \
-    REASON(END_OF_PATH, 22, "the device path ends here") /* nothing is wrong */ \
-    REASON(NAME_EMPTY, 23, "name contains only spaces and dots") \
-    REASON(NAME_TOO_LONG, 24, "name is longer than 255 characters") \
-    REASON(CHAR_REPLACED, 25, "a character became '_'") /* nothing is wrong */ \
-    REASON(NODE_OF_END, 26, "end node is only allowed at the end of a device path") \
-    REASON(NODE_TOO_LONG, 27, "device path node is longer than 65,535 bytes") \
-    REASON(LIST_TOO_LONG, 28, "file path list is longer than 65,535 bytes") \
-    REASON(NOT_A_NAME, 29, "no load option has the name or the kind") \
-    REASON(END_OF_ORDER, 30, "the order ends here") /* nothing is wrong */ \
-    REASON(NO_NODE, 31, "no node") \
-    REASON(NO_FIELD, 32, "no such field") /* 33 is not used */
+/* ---- Status codes ---- */
 
-enum nard_reason {
+/* The name of each code, its number, and its text. */
+#define NARD_STATUS_CODES(CODE) \
+    CODE(OK, 0, "success") \
+    CODE(NO_NUL, 1, "not null-terminated") \
+    CODE(INVALID_CHAR, 2, "invalid character") \
+    CODE(INTERIOR_NUL, 3, "interior null character") \
+    CODE(BUFFER_TOO_SMALL, 4, "buffer too small") \
+    CODE(NOT_UTF8, 5, "invalid UTF-8") \
+    CODE(ODD_BYTES, 6, "odd number of bytes") \
+    CODE(PATH_EMPTY, 7, "path is empty") \
+    CODE(EMPTY_COMPONENT, 8, "path contains an empty component") \
+    CODE(ILLEGAL_CHAR, 9, "path contains an illegal character") \
+    CODE(CLIMBS_ABOVE_ROOT, 10, "path climbs above the root") \
+    CODE(NO_PARENT, 11, "path has no parent") \
+    CODE(NO_END_NODE, 12, "device path has no end node") \
+    CODE(TRUNCATED_HEADER, 13, "device path ends within a node header") \
+    CODE(UNKNOWN_END, 14, "end node has an unknown sub-type") \
+    CODE(LENGTH_BELOW_HEADER, 15, "device path node is shorter than its header") \
+    CODE(END_WITH_DATA, 16, "end node has data") \
+    CODE(NODE_BEYOND_END, 17, "device path node extends past the end of the data") \
+    CODE(OPTION_TOO_SHORT, 18, "load option ends before its description") \
+    CODE(DESCRIPTION_WITHOUT_END, 19, "description is not null-terminated") \
+    CODE(LIST_BEYOND_END, 20, "file path list extends past the end of the load option") \
+    CODE(EMPTY_LIST, 21, "file path list is empty") \
+    CODE(UNKNOWN_STYLE, 22, "unknown text style") \
+    CODE(NAME_EMPTY, 23, "name contains only spaces and dots") \
+    CODE(NAME_TOO_LONG, 24, "name is longer than 255 characters") \
+    CODE(NODE_OF_END, 26, "end node is only allowed at the end of a device path") \
+    CODE(NODE_TOO_LONG, 27, "device path node is longer than 65,535 bytes") \
+    CODE(LIST_TOO_LONG, 28, "file path list is longer than 65,535 bytes") \
+    CODE(NOT_A_NAME, 29, "not the name of a load option") \
+    CODE(NO_NODE, 31, "not a device path") \
+    CODE(NO_FIELD, 32, "device path node has no such field") \
+    CODE(END, 256, "no more items") \
+    CODE(CHAR_REPLACED, 257, "a character was replaced by '_'")
+
+typedef enum nard_status {
 #define NARD_AS_CONSTANT(name, number, text) NARD_##name = number,
-    NARD_REASONS(NARD_AS_CONSTANT)
+    NARD_STATUS_CODES(NARD_AS_CONSTANT)
 #undef NARD_AS_CONSTANT
-};
+} nard_status;
 
-/* The order if one of the two is not a string: the least nard_order. */
-#define NARD_NO_ORDER (-2147483647 - 1)
-
-/* Returns a reason in words. */
-static inline const char *nard_reason_text(nard_result reason)
+/* Returns whether a call succeeded: NARD_OK, or a code that carries news, such as NARD_END. */
+static inline bool nard_succeeded(nard_status status)
 {
-    switch (reason) {
+    return status == NARD_OK || status >= NARD_END;
+}
+
+/* Returns a status in words. */
+static inline const char *nard_status_text(nard_status status)
+{
+    switch (status) {
 #define NARD_AS_CASE(name, number, text) \
-    case number: \
+    case NARD_##name: \
         return text;
-        NARD_REASONS(NARD_AS_CASE)
+        NARD_STATUS_CODES(NARD_AS_CASE)
 #undef NARD_AS_CASE
-    default:
-        return "unknown reason";
     }
+    return "unknown status";
 }
 
 /*
- * The EFI_STATUS for a reason, in programs that have EFI_SUCCESS and the other status codes: EFI_NOT_FOUND if there is no parent or
- * nothing more to read, and EFI_SUCCESS for NARD_CHAR_REPLACED, as the text was written.
+ * Returns the EFI_STATUS for a status: EFI_NOT_FOUND if a path has no parent or there are no more items, and EFI_SUCCESS for
+ * NARD_CHAR_REPLACED, because the text was written.
  */
-#define NARD_EFI_STATUS(reason) nard_efi_status(reason, EFI_SUCCESS, EFI_BUFFER_TOO_SMALL, EFI_NOT_FOUND, EFI_INVALID_PARAMETER)
-
-static inline nard_size nard_efi_status(nard_result reason, nard_size success, nard_size too_small, nard_size not_found, nard_size invalid)
+static inline uint64_t nard_to_efi_status(nard_status status)
 {
-    switch (reason) {
+    const uint64_t error = (uint64_t)1 << 63;
+
+    switch (status) {
     case NARD_OK:
     case NARD_CHAR_REPLACED:
-        return success;
+        return 0;
     case NARD_BUFFER_TOO_SMALL:
-        return too_small;
+        return error | 5;
     case NARD_NO_PARENT:
-    case NARD_END_OF_PATH:
-    case NARD_END_OF_ORDER:
-        return not_found;
+    case NARD_END:
+        return error | 14;
     default:
-        return invalid;
+        return error | 2; /* EFI_INVALID_PARAMETER */
     }
 }
 
 /* ---- Strings ---- */
 
 /*
- * Checks that the units are exactly one string.
+ * Checks that `text` is exactly one NUL-terminated string.
  *
- * Returns
- *   NARD_OK            *length is the length of the text
- *   NARD_NO_NUL        there is neither a NUL nor a surrogate; *length is count
- *   NARD_INVALID_CHAR  a surrogate comes first, at *length
- *   NARD_INTERIOR_NUL  a NUL comes first, at *length, but is not the last unit
- */
-nard_result NARD_CALL nard_string_with_nul(const nard_unit *units, nard_size count, nard_size *length);
-
-/*
- * Checks that the units begin with a string. What follows the first NUL is ignored, but must be initialized.
- *
- * Returns
- *   NARD_OK            *length is the length of the text
- *   NARD_NO_NUL        there is neither a NUL nor a surrogate; *length is count
- *   NARD_INVALID_CHAR  a surrogate comes first, at *length
- */
-nard_result NARD_CALL nard_string_until_nul(const nard_unit *units, nard_size count, nard_size *length);
-
-/* Returns whether both begin with a string, and the texts are equal. */
-nard_bool NARD_CALL nard_string_equal(const nard_unit *first, nard_size first_count,
-                                      const nard_unit *second, nard_size second_count);
-
-/*
- * Compares two strings, unit by unit. Returns -1, 0 or 1, or NARD_NO_ORDER, which is also below 0, if one of them does not
- * begin with a string.
- */
-nard_order NARD_CALL nard_string_order(const nard_unit *first, nard_size first_count,
-                                       const nard_unit *second, nard_size second_count);
-
-/* Returns whether the units begin with a string whose text is ASCII. */
-nard_bool NARD_CALL nard_string_is_ascii(const nard_unit *units, nard_size count);
-
-/*
- * Compares two strings without case. Returns as nard_string_equal and nard_string_order. As in the firmware's Unicode collation
- * (UEFI Specification 2.10, section 21.1), `a` to `z`, and U+00E0 to U+00FE except U+00F7, count as their capitals.
- */
-nard_bool NARD_CALL nard_string_equal_ignore_case(const nard_unit *first, nard_size first_count,
-                                                  const nard_unit *second, nard_size second_count);
-nard_order NARD_CALL nard_string_order_ignore_case(const nard_unit *first, nard_size first_count,
-                                                   const nard_unit *second, nard_size second_count);
-
-/*
- * Changes the string at the start of a buffer to upper or to lower case, as the collation's StrUpr and StrLwr do. Returns as
- * nard_string_until_nul; if the result is not NARD_OK, the buffer is unchanged.
- */
-nard_result NARD_CALL nard_string_make_uppercase(nard_unit *buffer, nard_size room, nard_size *length);
-nard_result NARD_CALL nard_string_make_lowercase(nard_unit *buffer, nard_size room, nard_size *length);
-
-/*
- * Returns whether both begin with a string, and the pattern matches the whole text of `units` without case, as MetaiMatch does:
- * `*` matches any text, `?` one unit, `[a-z]` one unit of a set. The call checks that both are strings, and then matches them by
- * CountedReader::matches, which is proved to read fewer than (p + 1) * (t + 1) units of each for a pattern of p units and a text of t.
- */
-nard_bool NARD_CALL nard_string_matches(const nard_unit *units, nard_size count,
-                                        const nard_unit *pattern, nard_size pattern_count);
-
-/* ---- Units that may contain surrogates, as in the firmware's Unicode collation and in names on FAT volumes ---- */
-
-/*
- * Compares or matches units that may contain surrogates. The text of units is the units before their first NUL, or all units if
- * there is no NUL. These calls refuse no unit, so they implement StriColl, MetaiMatch, StrUpr, StrLwr and StrToFat of
- * EFI_UNICODE_COLLATION_PROTOCOL (section 21.1); nard_string_from_fat implements FatToStr.
- */
-nard_bool NARD_CALL nard_units_equal_ignore_case(const nard_unit *first, nard_size first_count,
-                                                 const nard_unit *second, nard_size second_count);
-nard_order NARD_CALL nard_units_order_ignore_case(const nard_unit *first, nard_size first_count,
-                                                  const nard_unit *second, nard_size second_count);
-nard_bool NARD_CALL nard_units_matches(const nard_unit *units, nard_size count,
-                                       const nard_unit *pattern, nard_size pattern_count);
-
-/* Changes a text to upper or to lower case, and returns its length. Units after the text are unchanged. */
-nard_size NARD_CALL nard_units_make_uppercase(nard_unit *buffer, nard_size room);
-nard_size NARD_CALL nard_units_make_lowercase(nard_unit *buffer, nard_size room);
-
-/*
- * Writes a text in the characters of 8.3 names, as nard_fat_from_string writes a string. A surrogate becomes '_'.
- * Returns NARD_OK, or NARD_CHAR_REPLACED if a '_' replaces another unit.
- */
-nard_result NARD_CALL nard_fat_from_units(const nard_unit *units, nard_size count, nard_byte *bytes, nard_size room,
-                                          nard_size *length);
-
-/* ---- Packed units and UTF-8 ---- */
-
-/*
- * Copies the units that bytes encode, the low byte first, to the start of a buffer. The bytes may begin at any address.
- *
- *   *count   out: half of byte_count, rounded down, whatever the call returns
- *
- * Returns
- *   NARD_OK                the units were written; the rest of the buffer is unchanged
- *   NARD_ODD_BYTES         byte_count is odd; the buffer is unchanged
- *   NARD_BUFFER_TOO_SMALL  byte_count is even and room < *count; the buffer is unchanged
- */
-nard_result NARD_CALL nard_units_from_bytes(const nard_byte *bytes, nard_size byte_count,
-                                            nard_unit *buffer, nard_size room, nard_size *count);
-
-/*
- * Counts the units before the first NUL in bytes that encode units. The units may be surrogates; an odd byte at the end is ignored.
- *
- * Returns
- *   NARD_OK      *count is the number of units before the NUL
- *   NARD_NO_NUL  there is no NUL; *count is half of byte_count, rounded down
- */
-nard_result NARD_CALL nard_packed_until_nul(const nard_byte *bytes, nard_size byte_count, nard_size *count);
-
-/*
- * Converts a text from UTF-8 to a string.
+ *   *length   receives the number of characters before the NUL
  *
  * Returns
  *   NARD_OK
- *   NARD_NOT_UTF8                           the first *length bytes are UTF-8, and the next are not; the buffer is unchanged
- *   NARD_INVALID_CHAR, NARD_INTERIOR_NUL    a character is above U+FFFF, or is a NUL, whichever comes first; *length is the
- *                                           number of characters before it, and the buffer is unchanged
- *   NARD_BUFFER_TOO_SMALL                   room <= *length; the buffer is unchanged
+ *   NARD_NO_NUL        there is no NUL, and no surrogate; *fault is text_length
+ *   NARD_INVALID_CHAR  a surrogate comes first, at *fault
+ *   NARD_INTERIOR_NUL  a NUL comes first, at *fault, but is not the last element
  */
-nard_result NARD_CALL nard_string_from_utf8(const nard_byte *bytes, nard_size byte_count,
-                                            nard_unit *buffer, nard_size room, nard_size *length);
+NARD_MUST_USE nard_status NARD_CALL nard_string_check(const nard_char16 *text, size_t text_length, size_t *length, size_t *fault);
 
 /*
- * Converts the string that units begin with to UTF-8 with a NUL.
+ * Returns the length of the NUL-terminated string at the start of `text`. What follows the first NUL is ignored.
  *
  * Returns
- *   NARD_OK                            *length is the number of bytes before the NUL
- *   NARD_NO_NUL, NARD_INVALID_CHAR     as nard_string_until_nul, with its *length; the bytes are unchanged
- *   NARD_BUFFER_TOO_SMALL              room <= *length; the bytes are unchanged
+ *   NARD_OK            *length is the number of characters before the NUL
+ *   NARD_NO_NUL        there is no NUL, and no surrogate; *fault is text_length
+ *   NARD_INVALID_CHAR  a surrogate comes first, at *fault
  */
-nard_result NARD_CALL nard_utf8_from_string(const nard_unit *units, nard_size count,
-                                            nard_byte *bytes, nard_size room, nard_size *length);
+NARD_MUST_USE nard_status NARD_CALL nard_string_length(const nard_char16 *text, size_t text_length, size_t *length, size_t *fault);
+
+/* Returns whether two texts are the same. They may contain surrogates, as in all calls from here to nard_string_make_lowercase. */
+bool NARD_CALL nard_string_equal(const nard_char16 *first, size_t first_length, const nard_char16 *second, size_t second_length);
+
+/* Compares two texts, element by element. Returns -1, 0 or 1 if the first is less than, equal to, or greater than the second. */
+int32_t NARD_CALL nard_string_compare(const nard_char16 *first, size_t first_length,
+                                      const nard_char16 *second, size_t second_length);
+
+/* Returns whether a text is ASCII. */
+bool NARD_CALL nard_string_is_ascii(const nard_char16 *text, size_t text_length);
 
 /*
- * Converts the units before the first NUL, or all units if there is no NUL, to UTF-8 with a NUL. Each pair of surrogates becomes
- * one character, and each surrogate without a partner becomes U+FFFD, so the call refuses no units.
- *
- * The text may contain control characters, such as ESC, and characters that change the direction of a text. Replace them
- * before you show a description or a name to a person, as examples/boot_entry.c does.
- *
- * Returns
- *   NARD_OK                 *length is the number of bytes before the NUL
- *   NARD_BUFFER_TOO_SMALL   room <= *length; the bytes are unchanged
+ * Compares two texts without case, as the firmware's Unicode collation does in StriColl (UEFI Specification 2.10, section 21.1): `a`
+ * to `z`, and U+00E0 to U+00FE except U+00F7, count as their capitals.
  */
-nard_result NARD_CALL nard_utf8_from_units_lossy(const nard_unit *units, nard_size count,
-                                                 nard_byte *bytes, nard_size room, nard_size *length);
+bool NARD_CALL nard_string_equal_ignore_case(const nard_char16 *first, size_t first_length,
+                                             const nard_char16 *second, size_t second_length);
+int32_t NARD_CALL nard_string_compare_ignore_case(const nard_char16 *first, size_t first_length,
+                                                  const nard_char16 *second, size_t second_length);
+
+/* Changes a text to upper or lower case, as StrUpr and StrLwr do, and returns its length. The rest of the buffer is unchanged. */
+size_t NARD_CALL nard_string_make_uppercase(nard_char16 *buffer, size_t capacity);
+size_t NARD_CALL nard_string_make_lowercase(nard_char16 *buffer, size_t capacity);
 
 /*
- * Returns whether the units begin with a string, the bytes are UTF-8, and either the string's text or the text of the bytes up to
- * their first NUL is a prefix of the other.
+ * Returns whether a pattern matches a whole text without case, as MetaiMatch does: `*` matches any text, `?` one element, and
+ * `[a-z]` one element of a set. A pattern of p elements reads fewer than (p + 1) * (t + 1) elements of a text of t.
  */
-nard_bool NARD_CALL nard_string_equal_until_nul(const nard_unit *units, nard_size count,
-                                                const nard_byte *bytes, nard_size byte_count);
+bool NARD_CALL nard_string_matches(const nard_char16 *text, size_t text_length,
+                                   const nard_char16 *pattern, size_t pattern_length);
 
-/* Returns whether the bytes are UTF-8, and no character is above U+00FF. */
-nard_bool NARD_CALL nard_utf8_is_latin1(const nard_byte *bytes, nard_size byte_count);
-
-/* ---- Paths ---- */
+/* ---- Conversions ---- */
 
 /*
- * Checks that the units begin with a string that is a path to a file. A slash is not a separator: to replace slashes, call
- * nard_path_join with an empty second path first.
- *
- *   *place      out: the index where the component at fault begins; the length of the text if the call returns NARD_OK; as
- *               nard_string_until_nul if the units do not begin with a string
- *   *character  out: the character that is not allowed, or 0
- *
- * Returns
- *   NARD_OK
- *   NARD_NO_NUL, NARD_INVALID_CHAR   as nard_string_until_nul
- *   NARD_PATH_EMPTY                  the text is empty
- *   NARD_EMPTY_COMPONENT, NARD_ILLEGAL_CHAR, NARD_CLIMBS_ABOVE_ROOT
- *                                    the fault of the first component with a fault
- */
-nard_result NARD_CALL nard_path_verdict(const nard_unit *units, nard_size count, nard_size *place, nard_unit *character);
-
-/* Returns whether both begin with a string, and are equal as paths. */
-nard_bool NARD_CALL nard_path_equal(const nard_unit *first, nard_size first_count,
-                                    const nard_unit *second, nard_size second_count);
-
-/* Compares two paths without one separator at their start, as nard_string_order does. */
-nard_order NARD_CALL nard_path_order(const nard_unit *first, nard_size first_count,
-                                     const nard_unit *second, nard_size second_count);
-
-/* Returns whether both begin with a string, and are equal as paths without case. */
-nard_bool NARD_CALL nard_path_equal_ignore_case(const nard_unit *first, nard_size first_count,
-                                                const nard_unit *second, nard_size second_count);
-
-/*
- * Returns whether the pattern has as many components as the path, and each matches the component at its place: `*` stops at '\'.
- */
-nard_bool NARD_CALL nard_path_matches(const nard_unit *path, nard_size count,
-                                      const nard_unit *pattern, nard_size pattern_count);
-
-/*
- * Finds the next component of a text without its NUL.
- *
- *   *place             in and out: where to look; 0 at first
- *   *start             out: where the component begins
- *   *component_length  out: the number of its units
- *
- * Returns true, or false after the last component; then all three are unchanged.
- */
-nard_bool NARD_CALL nard_path_next_component(const nard_unit *text, nard_size length,
-                                             nard_size *place, nard_size *start, nard_size *component_length);
-
-/*
- * Finds the last component of a text without its NUL. *start is where it begins. Returns false, and leaves *start unchanged, if
- * there is no component.
- */
-nard_bool NARD_CALL nard_path_file_name(const nard_unit *text, nard_size length, nard_size *start);
-
-/*
- * Finds the parent of a path: the first *parent_length units of a text without its NUL are a path of all components but the last.
- * Returns false, and leaves *parent_length unchanged, if there is at most one component. nard_path_parent writes the parent
- * without a separator at its start.
- */
-nard_bool NARD_CALL nard_path_parent_length(const nard_unit *text, nard_size length, nard_size *parent_length);
-
-/*
- * Adds a path to the path in a buffer. Slashes of the added path become separators. If the first path is not empty and does not
- * end in a separator, one is added between the two. An empty path adds nothing.
- *
- * Returns
- *   NARD_OK                          the buffer begins with the path of both
- *   NARD_NO_NUL, NARD_INVALID_CHAR   the buffer, or else `path`, does not begin with a string: as nard_string_until_nul
- *   NARD_BUFFER_TOO_SMALL            room <= *length; the buffer is unchanged
- */
-nard_result NARD_CALL nard_path_push(nard_unit *buffer, nard_size room, const nard_unit *path, nard_size count, nard_size *length);
-
-/*
- * Writes `path`, with its slashes replaced, and `other` added, to a buffer. Returns as nard_path_push, and checks `path` before
- * `other`.
- */
-nard_result NARD_CALL nard_path_join(const nard_unit *path, nard_size count, const nard_unit *other, nard_size other_count,
-                                     nard_unit *buffer, nard_size room, nard_size *length);
-
-/*
- * Writes the parent of a path to a buffer: all components but the last, with slashes replaced, without a separator at the start.
- * Empty components are omitted. If an empty component comes right before the last component, the parent ends with a separator: the
- * parent of `a\\b\\c` is `a\b\`.
+ * Copies the UTF-16 elements that bytes encode, the low byte first, to the start of a buffer. The bytes may begin at any address. No
+ * NUL is added.
  *
  * Returns
  *   NARD_OK
- *   NARD_NO_NUL, NARD_INVALID_CHAR   as nard_string_until_nul
- *   NARD_NO_PARENT                   the path has at most one component; *length is unchanged
- *   NARD_BUFFER_TOO_SMALL            room <= *length; the buffer is unchanged
+ *   NARD_ODD_BYTES          bytes_size is odd
+ *   NARD_BUFFER_TOO_SMALL   capacity < *length
  */
-nard_result NARD_CALL nard_path_parent(const nard_unit *path, nard_size count, nard_unit *buffer, nard_size room, nard_size *length);
+NARD_MUST_USE nard_status NARD_CALL nard_units_from_bytes(const uint8_t *bytes, size_t bytes_size,
+                                                          nard_char16 *buffer, size_t capacity, size_t *length);
 
 /*
- * Writes the normal form of a path to a buffer, with slashes replaced: without `.`, and without each name that a `..` cancels. If
- * nothing is left, the normal path is a lone separator.
+ * Returns the length of the UTF-16 text in bytes, at any address, up to its NUL. An odd byte at the end is ignored.
  *
  * Returns
- *   NARD_OK                 *character is 0
- *   NARD_BUFFER_TOO_SMALL   room <= *length, and *character is 0; the buffer is unchanged
- *   NARD_NO_NUL, NARD_INVALID_CHAR
- *                           as nard_string_until_nul, with its *length, and *character is 0; the buffer is unchanged
- *   another reason          as nard_path_verdict of the path with its slashes replaced, with its *character; *length is the
- *                           length of the path's text; the buffer is unchanged
+ *   NARD_OK      *length is the number of elements before the NUL
+ *   NARD_NO_NUL  there is no NUL
  */
-nard_result NARD_CALL nard_path_normalize(const nard_unit *path, nard_size count, nard_unit *buffer, nard_size room,
-                                          nard_size *length, nard_unit *character);
+NARD_MUST_USE nard_status NARD_CALL nard_packed_length(const uint8_t *bytes, size_t bytes_size, size_t *length);
 
 /*
- * Writes the normal form of a path in UTF-8 to a buffer. First nard_string_from_utf8 writes the path as a string to the second
- * half of the buffer, from buffer[room / 2] on. Then nard_path_normalize writes its normal form to the first half. Each call needs
- * room only in its half: 2 * byte_count + 2 units are enough for any path.
+ * Converts UTF-8 to a NUL-terminated string.
  *
  * Returns
- *   NARD_OK                                                *character is 0
- *   NARD_NOT_UTF8, NARD_INVALID_CHAR, NARD_INTERIOR_NUL    as nard_string_from_utf8
- *   NARD_BUFFER_TOO_SMALL                                  as the first of the two calls whose half is too small
- *   another reason                                         as nard_path_normalize
- *
- * If the first call refuses, the whole buffer is unchanged. If the second call refuses, the first half is unchanged.
+ *   NARD_OK
+ *   NARD_NOT_UTF8                           the text is UTF-8 only up to the byte at *fault
+ *   NARD_INVALID_CHAR, NARD_INTERIOR_NUL    the character at index *fault is above U+FFFF, or a NUL
+ *   NARD_BUFFER_TOO_SMALL                   capacity <= *length
  */
-nard_result NARD_CALL nard_path_normalize_utf8(const nard_byte *bytes, nard_size byte_count, nard_unit *buffer, nard_size room,
-                                               nard_size *length, nard_unit *character);
+NARD_MUST_USE nard_status NARD_CALL nard_string_from_utf8(const char *text, size_t text_size,
+                                                          nard_char16 *buffer, size_t capacity, size_t *length, size_t *fault);
+
+/*
+ * Converts the NUL-terminated string at the start of `text` to UTF-8, with a NUL.
+ *
+ * Returns
+ *   NARD_OK
+ *   NARD_NO_NUL, NARD_INVALID_CHAR   as nard_string_length, with its *fault
+ *   NARD_BUFFER_TOO_SMALL            capacity <= *size
+ */
+NARD_MUST_USE nard_status NARD_CALL nard_string_to_utf8(const nard_char16 *text, size_t text_length,
+                                                        char *buffer, size_t capacity, size_t *size, size_t *fault);
+
+/*
+ * Converts a text to UTF-8, with a NUL, whatever it contains: each surrogate without a partner becomes U+FFFD.
+ *
+ * The result may contain control characters, such as ESC, and characters that change the direction of text. Replace them before you
+ * show a description or a file name to a person, as examples/boot_entry.c does.
+ *
+ * Returns
+ *   NARD_OK
+ *   NARD_BUFFER_TOO_SMALL   capacity <= *size
+ */
+NARD_MUST_USE nard_status NARD_CALL nard_string_to_utf8_lossy(const nard_char16 *text, size_t text_length,
+                                                              char *buffer, size_t capacity, size_t *size);
+
+/*
+ * Returns whether `text` begins with a NUL-terminated string, `utf8` is UTF-8, and one of the two texts, each up to its first NUL,
+ * is a prefix of the other.
+ */
+bool NARD_CALL nard_string_equal_until_nul(const nard_char16 *text, size_t text_length, const char *utf8, size_t utf8_size);
+
+/* Returns whether `text` is UTF-8 and has no character above U+00FF. */
+bool NARD_CALL nard_utf8_is_latin1(const char *text, size_t text_size);
+
+/* ---- File paths ---- */
+
+/*
+ * Checks that the NUL-terminated string at the start of `path` is the path of a file: components without illegal characters, with
+ * one `\` between each two, and at most one at the start. A `/` is illegal: nard_path_normalize accepts it.
+ *
+ *   *length      receives the length of the path
+ *   *character   receives the character that is not allowed, or 0
+ *
+ * Returns
+ *   NARD_OK
+ *   NARD_NO_NUL, NARD_INVALID_CHAR   as nard_string_length, with its *fault
+ *   NARD_PATH_EMPTY, NARD_EMPTY_COMPONENT, NARD_ILLEGAL_CHAR, NARD_CLIMBS_ABOVE_ROOT
+ *                                    the component that begins at *fault is the first that is wrong
+ */
+NARD_MUST_USE nard_status NARD_CALL nard_path_check(const nard_char16 *path, size_t path_length,
+                                                    size_t *length, size_t *fault, nard_char16 *character);
+
+/* Returns whether two paths are equal: one `\` at their start makes no difference. */
+bool NARD_CALL nard_path_equal(const nard_char16 *first, size_t first_length, const nard_char16 *second, size_t second_length);
+
+/* Compares two paths as nard_string_compare does, without one `\` at their start. */
+int32_t NARD_CALL nard_path_compare(const nard_char16 *first, size_t first_length,
+                                    const nard_char16 *second, size_t second_length);
+
+/* Returns whether two paths are equal without case: one `\` at their start makes no difference. */
+bool NARD_CALL nard_path_equal_ignore_case(const nard_char16 *first, size_t first_length,
+                                           const nard_char16 *second, size_t second_length);
+
+/*
+ * Returns whether both begin with a NUL-terminated string, both have the same number of components, and each component of the
+ * pattern matches that of the path, as in nard_string_matches. So `*` does not match a `\`.
+ */
+bool NARD_CALL nard_path_matches(const nard_char16 *path, size_t path_length, const nard_char16 *pattern, size_t pattern_length);
+
+/*
+ * Finds the next component of a path. The path is all of its path_length elements; a NUL is not special here.
+ *
+ *   *offset             in: 0 at first, then that of the previous call; out: where to continue
+ *   *start              receives the index at which the component begins
+ *   *component_length   receives its length
+ *
+ * Returns false after the last component; all three are then unchanged.
+ */
+bool NARD_CALL nard_path_next_component(const nard_char16 *path, size_t path_length,
+                                        size_t *offset, size_t *start, size_t *component_length);
+
+/*
+ * Finds the last component of a path of path_length elements, which begins at *start. Returns false if there is none; *start is then
+ * unchanged.
+ */
+bool NARD_CALL nard_path_file_name(const nard_char16 *path, size_t path_length, size_t *start);
+
+/*
+ * Finds the parent of a path of path_length elements: its first *parent_length elements are a path of all components but the last.
+ * Returns false if there is at most one component; *parent_length is then unchanged. nard_path_parent writes the parent without a
+ * `\` at its start.
+ */
+bool NARD_CALL nard_path_parent_length(const nard_char16 *path, size_t path_length, size_t *parent_length);
+
+/*
+ * Adds a path to the path in the first path_length elements of a buffer, and a NUL. Each `/` of the added path becomes `\`. If the
+ * first path is not empty and does not end with `\`, one is added between the two. An empty path adds nothing. The time depends on
+ * the length of `other` only; the elements before are not checked.
+ *
+ * Returns
+ *   NARD_OK                 *length is the length of both: the path_length of the next call
+ *   NARD_INVALID_CHAR       `other` contains a surrogate, at *fault
+ *   NARD_BUFFER_TOO_SMALL   capacity <= *length; or capacity < path_length, with *length unchanged
+ */
+NARD_MUST_USE nard_status NARD_CALL nard_path_push(nard_char16 *buffer, size_t capacity, size_t path_length,
+                                                   const nard_char16 *other, size_t other_length, size_t *length, size_t *fault);
+
+/*
+ * Writes a path with another added to it, as nard_path_push does, to a buffer. Both are NUL-terminated strings. Each `/` becomes `\`.
+ *
+ * Returns
+ *   NARD_OK
+ *   NARD_NO_NUL, NARD_INVALID_CHAR   as nard_string_length of `path`, or else of `other`, with its *fault
+ *   NARD_BUFFER_TOO_SMALL            capacity <= *length
+ */
+NARD_MUST_USE nard_status NARD_CALL nard_path_join(const nard_char16 *path, size_t path_length,
+                                                   const nard_char16 *other, size_t other_length,
+                                                   nard_char16 *buffer, size_t capacity, size_t *length, size_t *fault);
+
+/*
+ * Writes the parent of a path, a NUL-terminated string, to a buffer: all components but the last, with each `/` replaced, without a
+ * `\` at the start. Empty components are omitted. If an empty component comes right before the last one, the parent ends with `\`:
+ * the parent of `a\\b\\c` is `a\b\`.
+ *
+ * Returns
+ *   NARD_OK
+ *   NARD_NO_NUL, NARD_INVALID_CHAR   as nard_string_length, with its *fault
+ *   NARD_NO_PARENT                   the path has at most one component
+ *   NARD_BUFFER_TOO_SMALL            capacity <= *length
+ */
+NARD_MUST_USE nard_status NARD_CALL nard_path_parent(const nard_char16 *path, size_t path_length,
+                                                     nard_char16 *buffer, size_t capacity, size_t *length, size_t *fault);
+
+/*
+ * Writes the normal form of a path, a NUL-terminated string, to a buffer: with each `/` replaced, without `.`, and without each name
+ * that a `..` cancels. If nothing is left, the normal form is a lone `\`.
+ *
+ *   *character   receives the character that is not allowed, or 0
+ *
+ * Returns
+ *   NARD_OK
+ *   NARD_NO_NUL, NARD_INVALID_CHAR   as nard_string_length, with its *fault
+ *   NARD_PATH_EMPTY, NARD_EMPTY_COMPONENT, NARD_ILLEGAL_CHAR, NARD_CLIMBS_ABOVE_ROOT
+ *                                    as nard_path_check of the path with each `/` replaced, but *fault is unchanged
+ *   NARD_BUFFER_TOO_SMALL            capacity <= *length
+ */
+NARD_MUST_USE nard_status NARD_CALL nard_path_normalize(const nard_char16 *path, size_t path_length, nard_char16 *buffer,
+                                                        size_t capacity, size_t *length, size_t *fault, nard_char16 *character);
+
+/*
+ * Writes the normal form of a path in UTF-8 to a buffer, as UTF-16. A capacity of 2 * path_size + 2 is enough for every path: the call
+ * first writes the path to the second half of the buffer, from buffer[capacity / 2] on, as nard_string_from_utf8 does, and then its
+ * normal form to the first half, as nard_path_normalize does. If the first step fails, the whole buffer is unchanged, and if the
+ * second one fails, the first half is.
+ *
+ * Returns as nard_string_from_utf8 for the second half, and otherwise as nard_path_normalize for the first half.
+ */
+NARD_MUST_USE nard_status NARD_CALL nard_path_normalize_utf8(const char *path, size_t path_size, nard_char16 *buffer,
+                                                             size_t capacity, size_t *length, size_t *fault, nard_char16 *character);
 
 /* ---- Names on FAT volumes (section 13.3) ---- */
 
 /*
- * Checks that the units begin with a string that a file on a FAT volume can have as its name. Before the file system looks for a
- * file, it trims the name: it removes spaces at the start, and spaces and dots at the end.
+ * Checks that the NUL-terminated string at the start of `name` can be the name of a file on a FAT volume. The file system removes
+ * spaces at the start of a name, and spaces and dots at its end, before it looks for a file: the result is the trimmed name.
  *
- *   *length     out: as nard_string_until_nul
- *   *character  out: the character that is not allowed, or 0
- *
- * Returns
- *   NARD_OK
- *   NARD_NO_NUL, NARD_INVALID_CHAR   as nard_string_until_nul
- *   NARD_NAME_EMPTY                  the trimmed name is empty, as for "." and "..", which name folders
- *   NARD_NAME_TOO_LONG               the trimmed name has more than 255 units
- *   NARD_ILLEGAL_CHAR                a unit of the trimmed name is below U+0020, or one of " * / : < > ? \ |
- */
-nard_result NARD_CALL nard_fat_name_check(const nard_unit *units, nard_size count, nard_size *length, nard_unit *character);
-
-/* Returns whether both begin with a string, and the strings name one file: the trimmed names are equal without case. */
-nard_bool NARD_CALL nard_fat_name_equal(const nard_unit *first, nard_size first_count,
-                                        const nard_unit *second, nard_size second_count);
-
-/*
- * Returns whether the units begin with a string that is an 8.3 name as a directory entry stores it: 1 to 8 characters, and
- * optionally a dot and 1 to 3 more, all of them capital letters, digits or marks that 8.3 names allow.
- */
-nard_bool NARD_CALL nard_fat_name_is_short(const nard_unit *units, nard_size count);
-
-/*
- * Writes the string that units begin with in the 8-bit characters of 8.3 names, as the collation's StrToFat does. It skips spaces
- * and dots, and writes any other unit in upper case, or as '_' if 8.3 names do not allow it. It writes no NUL.
- *
- * Returns
- *   NARD_OK                          *length bytes were written, as many as fit; the others are unchanged
- *   NARD_CHAR_REPLACED               as NARD_OK, and at least one byte is '_' for another character
- *   NARD_NO_NUL, NARD_INVALID_CHAR   as nard_string_until_nul; the bytes are unchanged
- */
-nard_result NARD_CALL nard_fat_from_string(const nard_unit *units, nard_size count, nard_byte *bytes, nard_size room,
-                                           nard_size *length);
-
-/*
- * Writes a unit for each byte before the first NUL, or for all bytes if there is no NUL, and adds a NUL, as the collation's
- * FatToStr does.
+ *   *length      receives the length of the name
+ *   *character   receives the character that is not allowed, or 0
  *
  * Returns
  *   NARD_OK
- *   NARD_BUFFER_TOO_SMALL   room <= *length; the buffer is unchanged
+ *   NARD_NO_NUL, NARD_INVALID_CHAR   as nard_string_length, with its *fault
+ *   NARD_NAME_EMPTY                  the trimmed name is empty, as for "." and "..", which name directories
+ *   NARD_NAME_TOO_LONG               the trimmed name has more than 255 characters
+ *   NARD_ILLEGAL_CHAR                a character of the trimmed name is below U+0020, or one of " * / : < > ? \ |
  */
-nard_result NARD_CALL nard_string_from_fat(const nard_byte *bytes, nard_size byte_count, nard_unit *buffer, nard_size room,
-                                           nard_size *length);
+NARD_MUST_USE nard_status NARD_CALL nard_fat_name_check(const nard_char16 *name, size_t name_length,
+                                                        size_t *length, size_t *fault, nard_char16 *character);
 
-/* ---- Device paths and load options (UEFI Specification 2.10, chapter 10 and section 3.1.3) ---- */
-
-/*
- * Checks that bytes begin with a device path, and does not read beyond it.
- *
- * Returns
- *   NARD_OK         *length is the size of the path in bytes, with its end node
- *   another reason  the fault of the first malformed node; *length is the offset of the bytes at fault. Faults are tested in this
- *                   order: NARD_NO_END_NODE, NARD_TRUNCATED_HEADER, NARD_UNKNOWN_END, NARD_LENGTH_BELOW_HEADER,
- *                   NARD_END_WITH_DATA, NARD_NODE_BEYOND_END
- */
-nard_result NARD_CALL nard_device_path_check(const nard_byte *bytes, nard_size byte_count, nard_size *length);
+/* Returns whether both begin with a NUL-terminated string, and both name the same file: the trimmed names are equal without case. */
+bool NARD_CALL nard_fat_name_equal(const nard_char16 *first, size_t first_length,
+                                   const nard_char16 *second, size_t second_length);
 
 /*
- * Finds the size of a device path of unknown length, without reading beyond the path.
- *
- *   byte_count   the number of bytes that may be read: 4 at first, then *needed of the previous call
- *   *offset      in and out: where a node begins, 0 at first; then where the next node begins
- *
- * Returns
- *   NARD_OK           *needed <= byte_count: the path is whole, and has *needed bytes with its end node
- *                     *needed > byte_count: the call needs *needed bytes to continue; no path that begins with these bytes is shorter
- *   NARD_NO_END_NODE  *offset is more than byte_count; *needed and *offset are unchanged
- *   another reason    as nard_device_path_check, because no path begins with these bytes, whatever follows them; *needed is
- *                     unchanged
+ * Returns whether `name` begins with a NUL-terminated string that is an 8.3 name as a directory entry stores it: 1 to 8 characters,
+ * and optionally a dot and 1 to 3 more, all of them capital letters, digits or marks that 8.3 names allow.
  */
-nard_result NARD_CALL nard_device_path_needs(const nard_byte *bytes, nard_size byte_count, nard_size *offset,
-                                             nard_size *needed);
+bool NARD_CALL nard_fat_name_is_short(const nard_char16 *name, size_t name_length);
 
 /*
- * Finds the size of a device path of unknown length, for example one from the firmware.
+ * Writes a text in the 8-bit characters of 8.3 names, as StrToFat does. Spaces and dots are skipped. Any other element is written in
+ * upper case, or as '_' if 8.3 names do not allow it. No NUL is written.
  *
- *   limit   the call refuses a path of more bytes
+ * Returns NARD_OK, or NARD_CHAR_REPLACED if a '_' replaces another character. *size is the number of bytes written: as many as fit.
+ */
+NARD_MUST_USE nard_status NARD_CALL nard_fat_from_string(const nard_char16 *text, size_t text_length,
+                                                         uint8_t *buffer, size_t capacity, size_t *size);
+
+/*
+ * Writes an element for each byte before the first NUL, or for all bytes if there is none, and a NUL, as FatToStr does.
  *
  * Returns
- *   NARD_OK          *length is the size of the path in bytes, with its end node
- *   another reason   as nard_device_path_check of the first `limit` bytes, with its *length
- *
- * The call reads no byte beyond a well-formed path, and none from `limit` on. The caller has to know that these bytes can be read,
- * because bytes that are not a path may state any length. This function is C, so it is tested and not proved.
+ *   NARD_OK
+ *   NARD_BUFFER_TOO_SMALL   capacity <= *length
  */
-static inline NARD_MUST_USE nard_result nard_device_path_size(const nard_byte *path, nard_size limit, nard_size *length)
+NARD_MUST_USE nard_status NARD_CALL nard_string_from_fat(const uint8_t *bytes, size_t bytes_size,
+                                                         nard_char16 *buffer, size_t capacity, size_t *length);
+
+/* ---- Device paths (UEFI Specification 2.10, chapter 10) ---- */
+
+/*
+ * Checks that bytes begin with a device path. Bytes after its end node are not read.
+ *
+ *   *size   receives the size of the path, with its end node
+ *
+ * Returns
+ *   NARD_OK
+ *   an error   of the first invalid node, at *fault. Errors are tested in this order: NARD_NO_END_NODE, NARD_TRUNCATED_HEADER,
+ *              NARD_UNKNOWN_END, NARD_LENGTH_BELOW_HEADER, NARD_END_WITH_DATA, NARD_NODE_BEYOND_END
+ */
+NARD_MUST_USE nard_status NARD_CALL nard_device_path_check(const uint8_t *path, size_t path_size, size_t *size, size_t *fault);
+
+/*
+ * Finds the size of a device path of unknown size, step by step, without reading beyond the path. nard_device_path_size takes all
+ * steps.
+ *
+ *   path_size   the number of bytes that may be read: 4 at first, then *needed of the previous call
+ *   *offset     in: 0 at first, then that of the previous call; out: where to continue
+ *   *needed     receives the size of the path if *needed <= path_size. Otherwise no path that begins with these bytes is shorter,
+ *               and the next call needs so many.
+ *
+ * Returns
+ *   NARD_OK
+ *   an error   as nard_device_path_check, at *fault: no path begins with these bytes. For an *offset beyond path_size the error is
+ *              NARD_NO_END_NODE, at *offset.
+ */
+NARD_MUST_USE nard_status NARD_CALL nard_device_path_needs(const uint8_t *path, size_t path_size,
+                                                           size_t *offset, size_t *needed, size_t *fault);
+
+/*
+ * Finds the size of a device path of unknown size, for example one from the firmware.
+ *
+ *   limit   the largest size that you accept. The call does not read beyond a valid path, nor beyond the limit. You must know that
+ *           these bytes can be read, because invalid bytes may state any size.
+ *   *size   receives the size of the path, with its end node
+ *
+ * Returns as nard_device_path_check of the first `limit` bytes, with its *fault. This function is C: it is tested, not proved.
+ */
+static inline NARD_MUST_USE nard_status nard_device_path_size(const uint8_t *path, size_t limit, size_t *size, size_t *fault)
 {
-    nard_size offset = 0, count, needed = 4;
+    size_t offset = 0, count, needed = 4;
+
     do {
         count = needed;
         if (count > limit)
-            return nard_device_path_check(path, limit, length);
-        nard_result reason = nard_device_path_needs(path, count, &offset, &needed);
-        if (reason != NARD_OK) {
-            *length = offset;
-            return reason;
-        }
+            return nard_device_path_check(path, limit, size, fault);
+        nard_status status = nard_device_path_needs(path, count, &offset, &needed, fault);
+        if (status != NARD_OK)
+            return status;
     } while (needed > count);
-    *length = needed;
+    if (size != NULL)
+        *size = needed;
     return NARD_OK;
 }
 
 /* A node of a device path. */
 struct nard_device_node {
-    nard_byte device_type; /* the type, and the sub-type within it */
-    nard_byte sub_type;
-    nard_size start;       /* the offset of the data */
-    nard_size length;      /* the size of the data in bytes */
+    uint32_t node_type; /* the type * 256 + the sub-type: an enum nard_node_type of nardcorbel_nodes.h */
+    size_t data_offset; /* the offset of the data in the path */
+    size_t data_size;
 };
 
 /*
- * Reads the node at an offset.
+ * Reads the next node of a device path. To go through a list of paths, continue after NARD_END.
  *
- *   *offset   in and out: where the node begins, 0 at first; then where the next node begins
- *   *node     out: the node if the call returns NARD_OK; otherwise unchanged
+ *   *offset   in: the offset of the node, 0 at first; out: the offset after it
+ *   *node     receives the node, unless the call returns NARD_END
  *
  * Returns
- *   NARD_OK           a node, which may be one that ends an instance (type 0x7f, sub-type 1)
- *   NARD_END_OF_PATH  the node ends the path; the next path of a list begins at *offset
- *   NARD_NO_END_NODE  *offset is byte_count or more, and unchanged
- *   another reason    as nard_device_path_check; *offset is the offset of the bytes at fault
+ *   NARD_OK    this may be a node that ends an instance (NARD_END_INSTANCE)
+ *   NARD_END   the node ends the path
+ *   an error   as nard_device_path_check, at *fault; *offset is unchanged. For an *offset of path_size or more the error is
+ *              NARD_NO_END_NODE, at *offset.
  */
-nard_result NARD_CALL nard_device_path_next_node(const nard_byte *bytes, nard_size byte_count,
-                                                 nard_size *offset, struct nard_device_node *node);
+NARD_MUST_USE nard_status NARD_CALL nard_device_path_next_node(const uint8_t *path, size_t path_size,
+                                                               size_t *offset, struct nard_device_node *node, size_t *fault);
 
 /*
- * Reads a number from the data of a node, the low byte first: `width` bytes, 1, 2, 4 or 8, from `place` on. The macros of
- * nardcorbel_nodes.h give the place and the width of each field. Returns NARD_OK, or NARD_NO_FIELD if the data ends before the
- * field does or no field has this width; *number is then unchanged.
+ * Reads a number from the data of a node.
+ *
+ *   field   an enum nard_node_field of nardcorbel_nodes.h: the offset in the data * 256 + the number of bytes, 1, 2, 4 or 8
+ *
+ * Returns NARD_OK, or NARD_NO_FIELD if the data ends before the number does, or if the field is no number.
  */
-nard_result NARD_CALL nard_node_number(const nard_byte *content, nard_size byte_count, nard_size place, nard_size width,
-                                       nard_number *number);
+NARD_MUST_USE nard_status NARD_CALL nard_node_number(const uint8_t *data, size_t data_size, uint32_t field, uint64_t *number);
 
 /*
- * Writes the file path of a device path to a buffer: the names of all nodes that name files, with slashes replaced and one
- * separator between two names. The call checks the device path first, then the names, then the room.
+ * Writes the file path of a device path, as UTF-16: the names of all nodes that name files, with each `/` replaced and one `\` between
+ * two names. The result is not checked: call nard_path_check before you open the file.
  *
  * Returns
  *   NARD_OK
+ *   an error                as nard_device_path_check, at *fault
  *   NARD_ODD_BYTES, NARD_NO_NUL, NARD_INVALID_CHAR, NARD_INTERIOR_NUL
- *                           the data of the file node, at the offset *length, is not a string; the buffer is unchanged
- *   NARD_BUFFER_TOO_SMALL   room <= *length; the buffer is unchanged
- *   another reason          as nard_device_path_check; the buffer is unchanged
+ *                           the data of a file node, at *fault, is not a NUL-terminated string
+ *   NARD_BUFFER_TOO_SMALL   capacity <= *length
  */
-nard_result NARD_CALL nard_device_path_file_path(const nard_byte *bytes, nard_size byte_count,
-                                                 nard_unit *buffer, nard_size room, nard_size *length);
+NARD_MUST_USE nard_status NARD_CALL nard_device_path_file_path_utf16(const uint8_t *path, size_t path_size, nard_char16 *buffer,
+                                                                     size_t capacity, size_t *length, size_t *fault);
+
+/* ---- The text of device paths (section 10.6.1) ---- */
 
 /*
- * The room, in units, that is always enough for the text of a device path or a node of this many bytes and its NUL. The three calls
- * below never return NARD_BUFFER_TOO_SMALL for a buffer of this room or more, so a caller need not ask for the length first. The calls
- * for a path are then twice as fast, because they make the text once.
+ * How a text is printed and read.
+ *
+ *   style                | printed by _format                         | read by _parse, _push_text, _text_extent, _explain
+ *   NARD_STYLE_UEFI      | as the UEFI Specification defines it       | exactly what _format prints without flags
+ *   NARD_STYLE_TYPED     | -                                          | as people type it, see nard_device_path_parse
+ *   NARD_STYLE_LIBEFIVAR | as libefivar and efibootmgr do             | as libefivar and efibootmgr print it
+ *
+ * To NARD_STYLE_UEFI you can add flags for _format, such as NARD_STYLE_UEFI | NARD_DISPLAY_ONLY. Other combinations are rejected as
+ * NARD_UNKNOWN_STYLE, before anything else is checked.
  */
-#define NARD_DEVICE_PATH_TEXT_ROOM(byte_count) (4 * (byte_count))
-
-/*
- * Formats a device path as text. The text is UTF-16 with a NUL (section 10.6.1), for example
- *     PciRoot(0x0)/Pci(0x1F,0x2)/Sata(0x0,0xFFFF,0x0)/HD(1,GPT,...)
- * Control characters, and characters that change the direction of a text, are escaped. A buffer of
- * NARD_DEVICE_PATH_TEXT_ROOM(byte_count) units always has enough room.
- *
- *   display_only      shorter forms that cannot be read back
- *   allow_shortcuts   short names such as VenPcAnsi()
- *
- * Returns
- *   NARD_OK
- *   NARD_BUFFER_TOO_SMALL   room <= *length; the buffer is unchanged
- *   another reason          as nard_device_path_check; the buffer is unchanged
- */
-nard_result NARD_CALL nard_device_path_text(const nard_byte *bytes, nard_size byte_count,
-                                            nard_bool display_only, nard_bool allow_shortcuts,
-                                            nard_unit *buffer, nard_size room, nard_size *length);
-
-/*
- * Formats a device path as libefivar and efibootmgr do, for scripts that read their output. The text is that of
- * nard_device_path_text, but with File(..) around file names, the numbers of a partition in lower case, and the identifier of an NVMe
- * node from its first byte on. For example
- *     HD(1,GPT,03020100-0504-0706-0809-0a0b0c0d0e0f,0x800,0x100000)/File(\EFI\debian\shimx64.efi)
- *
- * Returns as nard_device_path_text does. A buffer of NARD_DEVICE_PATH_TEXT_ROOM(byte_count) units always has enough room.
- */
-nard_result NARD_CALL nard_device_path_libefivar_text(const nard_byte *bytes, nard_size byte_count,
-                                                      nard_unit *buffer, nard_size room, nard_size *length);
-
-/*
- * Formats one node as text. The text is as nard_device_path_text formats a path, for example
- *     Pci(0x1F,0x2)
- * The call does not read beyond the node. For a node of a path, pass the bytes from the node's offset on. A node that ends the path
- * is Path(127,255), and a node that ends an instance Path(127,1). A buffer of NARD_DEVICE_PATH_TEXT_ROOM units always has enough
- * room: the macro's byte_count is the number of the node's bytes, or any larger number.
- *
- *   display_only, allow_shortcuts   as nard_device_path_text
- *
- * Returns
- *   NARD_OK
- *   NARD_BUFFER_TOO_SMALL   room <= *length; the buffer is unchanged
- *   another reason          as nard_device_path_check, of the first node; the buffer is unchanged
- */
-nard_result NARD_CALL nard_node_text(const nard_byte *bytes, nard_size byte_count,
-                                     nard_bool display_only, nard_bool allow_shortcuts,
-                                     nard_unit *buffer, nard_size room, nard_size *length);
-
-/* The offsets and lengths of the parts of a load option. */
-struct nard_load_option {
-    nard_size attributes;         /* 32 bits; bit 0 is LOAD_OPTION_ACTIVE */
-    nard_size description_start;
-    nard_size description_length; /* in units, without the NUL */
-    nard_size list_start;         /* the file path list: device paths, one after the other */
-    nard_size list_length;
-    nard_size path_length;        /* of the first device path, its end node included */
-    nard_size optional_start;     /* the optional data */
-    nard_size optional_length;
+enum nard_text_style {
+    NARD_STYLE_UEFI = 0,
+    NARD_STYLE_TYPED = 1,
+    NARD_STYLE_LIBEFIVAR = 2,
+    NARD_DISPLAY_ONLY = 16,   /* shorter forms that cannot be read back */
+    NARD_ALLOW_SHORTCUTS = 32 /* short names such as VenPcAnsi() */
 };
 
 /*
- * Reads a load option, the value of a variable Boot####. The description may contain surrogates.
- *
- *   *option   out: its parts if the call returns NARD_OK; otherwise unchanged
- *   *offset   out: byte_count, or the offset of the bytes at fault
- *
- * Returns NARD_OK, or the first of these that holds
- *   NARD_OPTION_TOO_SHORT         there are fewer than 6 bytes; *offset is byte_count
- *   NARD_DESCRIPTION_WITHOUT_END  *offset is the end of the last whole unit
- *   NARD_LIST_BEYOND_END          *offset is 4, where the length of the list is
- *   NARD_EMPTY_LIST               *offset is where the list begins
- *   another reason                as nard_device_path_check, for the first malformed node of the list
+ * The capacity, in elements, that is always enough for the UTF-16 text of a device path or a node of this size. With this capacity or
+ * more the calls for UTF-16 never return NARD_BUFFER_TOO_SMALL, and format a path twice as fast, because they make the text once.
  */
-nard_result NARD_CALL nard_load_option_read(const nard_byte *bytes, nard_size byte_count,
-                                            struct nard_load_option *option, nard_size *offset);
-
-/* ---- Writing device paths and load options ---- */
+#define NARD_DEVICE_PATH_TEXT_CAPACITY(path_size) (4 * (path_size))
 
 /*
- * Writes a device path without nodes to the start of a buffer: only its end node, 4 bytes. nard_device_path_push adds nodes.
- * Returns NARD_OK, or NARD_BUFFER_TOO_SMALL if room < 4, and then leaves the buffer unchanged; *length is 4.
- */
-nard_result NARD_CALL nard_device_path_begin(nard_byte *buffer, nard_size room, nard_size *length);
-
-/*
- * Adds a node to the device path that a buffer begins with, before its end.
+ * Formats a device path as text, for example
+ *     PciRoot(0x0)/Pci(0x1F,0x2)/Sata(0x0,0xFFFF,0x0)/HD(1,GPT,...)
+ * or in the style of libefivar
+ *     HD(1,GPT,03020100-0504-0706-0809-0a0b0c0d0e0f,0x800,0x100000)/File(\EFI\debian\shimx64.efi)
+ * Control characters, and characters that change the direction of text, are escaped, so that you can show the text on a terminal.
+ * Bytes after the end node are ignored.
  *
- * Returns NARD_OK, or the first of these that holds
- *   as nard_device_path_check of the buffer, with its *length
- *   NARD_NODE_OF_END        the node is of type End, and either not of sub-type 1 or with data; *length is unchanged
- *   NARD_NODE_TOO_LONG      there are more than 65,531 bytes of data; *length is unchanged
- *   NARD_BUFFER_TOO_SMALL   room < *length, the size that the path would have
- * If the call returns NARD_OK, *length is the new size of the path, and the bytes after it are unchanged. Otherwise the buffer is
- * unchanged.
- */
-nard_result NARD_CALL nard_device_path_push(nard_byte *buffer, nard_size room, nard_byte device_type, nard_byte sub_type,
-                                            const nard_byte *content, nard_size byte_count, nard_size *length);
-
-/*
- * Adds a node to the device path in the first path_length bytes of a buffer, before its end. path_length is the *length of the
- * call before, so that the call need not search for the end node. Unlike nard_device_path_push, it does not check what is before the
- * end node; if the bytes are a path, the result is that of nard_device_path_push.
+ *   style   an enum nard_text_style, with its flags
  *
- * Returns NARD_OK, or the first of these that holds
- *   NARD_NO_END_NODE        room < path_length, or the first path_length bytes do not end with an end node; *length is path_length
- *   NARD_NODE_OF_END        the node is of type End, and either not of sub-type 1 or with data; *length is unchanged
- *   NARD_NODE_TOO_LONG      there are more than 65,531 bytes of data; *length is unchanged
- *   NARD_BUFFER_TOO_SMALL   room < *length, the size that the path would have
- * If the call returns NARD_OK, *length is the new size of the path, and the bytes after it are unchanged. Otherwise the buffer is
- * unchanged.
+ * Returns
+ *   NARD_OK
+ *   NARD_UNKNOWN_STYLE
+ *   an error                as nard_device_path_check, at *fault
+ *   NARD_BUFFER_TOO_SMALL   capacity <= *size or *length
  */
-nard_result NARD_CALL nard_device_path_push_at(nard_byte *buffer, nard_size room, nard_size path_length, nard_byte device_type,
-                                               nard_byte sub_type, const nard_byte *content, nard_size byte_count,
-                                               nard_size *length);
+NARD_MUST_USE nard_status NARD_CALL nard_device_path_format(const uint8_t *path, size_t path_size, uint32_t style,
+                                                            char *buffer, size_t capacity, size_t *size, size_t *fault);
+NARD_MUST_USE nard_status NARD_CALL nard_device_path_format_utf16(const uint8_t *path, size_t path_size, uint32_t style,
+                                                                  nard_char16 *buffer, size_t capacity, size_t *length, size_t *fault);
 
 /*
- * Adds the nodes of the device path that bytes begin with to the path that a buffer begins with, before its end.
+ * Formats the node at the start of bytes as text, as nard_device_path_format formats it in a path, for example
+ *     Pci(0x1F,0x2)
+ * The call does not read beyond the node. For a node of a path, pass the bytes from its header on. A node that ends the path is
+ * Path(127,255), and a node that ends an instance Path(127,1). NARD_STYLE_LIBEFIVAR is for whole paths only.
  *
- * Returns NARD_OK, or the first of these that holds
- *   as nard_device_path_check of the buffer, and then of the bytes, with its *length
- *   NARD_BUFFER_TOO_SMALL   room < *length, the size that the path would have
- * If the call returns NARD_OK, *length is the new size of the path, and the bytes after it are unchanged. Otherwise the buffer is
- * unchanged.
+ * Returns as nard_device_path_format. The error is that of the node; a style of libefivar is rejected after it.
  */
-nard_result NARD_CALL nard_device_path_append(nard_byte *buffer, nard_size room, const nard_byte *bytes, nard_size byte_count,
-                                              nard_size *length);
+NARD_MUST_USE nard_status NARD_CALL nard_node_format(const uint8_t *node, size_t node_size, uint32_t style,
+                                                     char *buffer, size_t capacity, size_t *size, size_t *fault);
+NARD_MUST_USE nard_status NARD_CALL nard_node_format_utf16(const uint8_t *node, size_t node_size, uint32_t style,
+                                                           nard_char16 *buffer, size_t capacity, size_t *length, size_t *fault);
 
 /*
- * Adds the nodes of a text to the device path that a buffer begins with, before its end. The text is UTF-8, as
- * nard_device_path_text writes it without display_only and allow_shortcuts, for example
- *     PciRoot(0x0)/Pci(0x1F,0x2)/Sata(0x0,0xFFFF,0x0)
- * A comma ends an instance.
+ * Writes the device path of a text to the start of a buffer. A comma in the text ends an instance.
  *
- * Returns NARD_OK, or the first of these that holds
- *   as nard_device_path_check of the buffer, with its *length
- *   NARD_NOT_UTF8           the first *length bytes are UTF-8, and the next are not
- *   NARD_NO_NODE            a node should begin at byte *length of the text, but does not
- *   NARD_BUFFER_TOO_SMALL   room < *length, the size that the path would have, or SIZE_MAX if the size is larger
- * If the call returns NARD_OK, *length is the new size of the path, and the bytes after it are unchanged. Otherwise the buffer is
- * unchanged.
- */
-nard_result NARD_CALL nard_device_path_push_text(nard_byte *buffer, nard_size room, const nard_byte *bytes, nard_size byte_count,
-                                                 nard_size *length);
-
-/*
- * Adds the nodes of a text, as people write it, to the device path that a buffer begins with, before its end. The text is UTF-8, in
- * the forms of the UEFI Specification, for example
+ *   style   NARD_STYLE_UEFI, NARD_STYLE_TYPED or NARD_STYLE_LIBEFIVAR
+ *   *size   receives the size of the path, at most SIZE_MAX
+ *
+ * Returns
+ *   NARD_OK
+ *   NARD_UNKNOWN_STYLE
+ *   NARD_NOT_UTF8           the text is UTF-8 only up to the byte at *fault
+ *   NARD_INVALID_CHAR       of UTF-16: the surrogate at *fault has no partner
+ *   NARD_NO_NODE            the text is not a device path: the byte, number, digits or name at *fault are wrong, or the text ends
+ *                           too early, at *fault. nard_device_path_explain says what is expected there.
+ *   NARD_BUFFER_TOO_SMALL   capacity < *size
+ *
+ * In NARD_STYLE_TYPED, the text is as people type it, for example
  *     pciroot(0)/pci(31, 2)/HD(1,GPT,12345678-9abc-def0-1234-56789abcdef0,0x800,0x100000)/File(\EFI\boot\bootx64.efi)
- *
  *   - Case does not matter, except in texts such as file names.
- *   - A number is hexadecimal after 0x and otherwise decimal, and may begin with zeros. Numbers at the end of a call may be left
- *     out, but not all of them.
- *   - Blanks and line ends are ignored in calls and around nodes. A blank at the end of a name that has its first backslash, and
- *     no blank before it, belongs to the name.
- *   - A file name may be in File(..). It may lack its first backslash if all of this holds: it contains another backslash; before
- *     that one it contains no blank, no mark and nothing else that a short name on a FAT volume excludes; it contains no `)`, `:`,
- *     " or '; and it does not follow a comma, which ends an instance. So a line such as "loader \EFI\a.efi" is rejected.
+ *   - A number is hexadecimal after 0x and otherwise decimal, and may begin with zeros. Numbers at the end of a node may be omitted,
+ *     but not all of them.
+ *   - Blanks and line ends are ignored in nodes and around them. A blank at the end of a name that begins with a backslash, and has no
+ *     blank before it, belongs to the name.
+ *   - A file name may be in File(..). It may lack its first backslash if it contains another one, contains no `)`, `:`, " or ', does
+ *     not follow a comma, and has before its first backslash no blank, no mark and nothing else that a short name on a FAT volume
+ *     excludes. So a line such as "loader \EFI\a.efi" is rejected.
  *   - A name must not begin with two backslashes, as in JSON.
- *   - Other programs' forms are read, such as MAC(52:54:00:ab:cd:ef), IPv6(fe80::1) and BBS(HD,Drive). A field that such a text
+ *   - Other programs' forms are accepted, such as MAC(52:54:00:ab:cd:ef), IPv6(fe80::1) and BBS(HD,Drive). A field that such a text
  *     omits has the value that the drivers of EDK II write: a prefix length of 64 for IPv6, and otherwise 0.
- *   - Quotation marks around the whole text, either " or ', are ignored, and so is one / before the first node, unless GRUB wrote
- *     it, as in /PCI(0,3): GRUB prints the function first. Offsets still count from the start of the text.
+ *   - Quotation marks around the whole text, either " or ', are ignored, and so is one / before the first node, unless GRUB wrote it,
+ *     as in /PCI(0,3): GRUB prints the function first. *fault still counts from the start of the text.
+ *   - Numbers without 0x are rejected where other programs print hexadecimal numbers without 0x, as in Fibre(5006,0).
+ * A text that is read in NARD_STYLE_UEFI is read as the same path in NARD_STYLE_TYPED, unless a name in it begins with two
+ * backslashes.
  *
- * A text that nard_device_path_push_text reads is read as the same nodes, unless a name in it begins with two backslashes.
- *
- * The call refuses numbers without 0x where other programs print hexadecimal numbers without 0x, as in Fibre(5006,0). efibootmgr's
- * text of an NVMe node is the specification's text of another node: use nard_device_path_push_libefivar_text to read efibootmgr's
- * output.
- *
- * Returns NARD_OK, or the first of these that holds
- *   as nard_device_path_check of the buffer, with its *length
- *   NARD_NOT_UTF8           the first *length bytes are UTF-8, and the next are not
- *   NARD_NO_NODE            a node can't be read; *length is the offset of the first wrong byte, or of the wrong number, digits or
- *                           name, or byte_count if the text ends too early
- *   NARD_BUFFER_TOO_SMALL   room < *length, the size that the path would have, or SIZE_MAX if the size is larger
- * If the call returns NARD_OK, *length is the new size of the path, and the bytes after it are unchanged. Otherwise the buffer is
- * unchanged.
- */
-nard_result NARD_CALL nard_device_path_push_lenient_text(nard_byte *buffer, nard_size room, const nard_byte *bytes,
-                                                         nard_size byte_count, nard_size *length);
-
-/*
- * Adds the nodes of a text, as libefivar and efibootmgr print it, to the device path that a buffer begins with, before its end. The
- * text is UTF-8, for example
+ * In NARD_STYLE_LIBEFIVAR, the text is as libefivar and efibootmgr print it, for example
  *     PciRoot(0x0)/Pci(0x1d,0x0)/NVMe(0x1,00-25-38-5B-71-B0-03-1C)/HD(1,GPT,12345678-9abc-def0-1234-56789abcdef0,0x800,0x64000)
- * libefivar prints the identifier of an NVMe node from its first byte on, and Ata with three numbers. The call rejects
+ * libefivar prints the identifier of an NVMe node from its first byte on, and Ata with three numbers. These are rejected:
  *   - Fibre, SAS and UsbClass, which omit what distinguishes two nodes, and iSCSI, whose numbers have another form;
  *   - PciRoot and PcieRoot whose number does not begin with 0x, because libefivar may print a text in its place;
  *   - AcpiEx, IPv4 and IPv6 with addresses, and HD without a signature, which omit bytes.
- * It reads all other nodes as nard_device_path_push_lenient_text does, and has the same arguments and results. If
- * nard_device_path_push_text reads the text of a path as that path, this call reads what nard_device_path_libefivar_text writes of
- * it as that path too, or rejects it.
+ * All other nodes are read as in NARD_STYLE_TYPED. If a path's text in NARD_STYLE_UEFI is read as that path, its text in
+ * NARD_STYLE_LIBEFIVAR is read as that path too, or rejected.
  */
-nard_result NARD_CALL nard_device_path_push_libefivar_text(nard_byte *buffer, nard_size room, const nard_byte *bytes,
-                                                           nard_size byte_count, nard_size *length);
+NARD_MUST_USE nard_status NARD_CALL nard_device_path_parse(const char *text, size_t text_size, uint32_t style,
+                                                           uint8_t *buffer, size_t capacity, size_t *size, size_t *fault);
+NARD_MUST_USE nard_status NARD_CALL nard_device_path_parse_utf16(const nard_char16 *text, size_t text_length, uint32_t style,
+                                                                 uint8_t *buffer, size_t capacity, size_t *size, size_t *fault);
 
 /*
- * Adds the nodes of a text in UTF-16, as nard_device_path_text writes it without display_only and allow_shortcuts, to the device path
- * that a buffer begins with, before its end. The text is the units before their first NUL, or all of them if there is none. It is
- * read as nard_device_path_push_text reads the same text in UTF-8.
- *
- * Returns NARD_OK, or the first of these that holds
- *   as nard_device_path_check of the buffer, with its *length
- *   NARD_INVALID_CHAR       a surrogate without a partner is at index *length
- *   NARD_NO_NODE            a node should begin at unit *length of the text, but does not
- *   NARD_BUFFER_TOO_SMALL   room < *length, the size that the path would have, or SIZE_MAX if the size is larger
- * If the call returns NARD_OK, *length is the new size of the path, and the bytes after it are unchanged. Otherwise the buffer is
- * unchanged.
- */
-nard_result NARD_CALL nard_device_path_push_units(nard_byte *buffer, nard_size room, const nard_unit *units, nard_size count,
-                                                  nard_size *length);
-
-/*
- * Adds the nodes of a text in UTF-16, as people write it, to the device path that a buffer begins with, before its end. The text is
- * the units before their first NUL, or all of them if there is none. It is read as nard_device_path_push_lenient_text reads the same
- * text in UTF-8.
- *
- * Returns NARD_OK, or the first of these that holds
- *   as nard_device_path_check of the buffer, with its *length
- *   NARD_INVALID_CHAR       a surrogate without a partner is at index *length
- *   NARD_NO_NODE            a node can't be read; *length is the index of the first wrong unit, or of the wrong number, digits or
- *                           name, or the length of the text if it ends too early
- *   NARD_BUFFER_TOO_SMALL   room < *length, the size that the path would have, or SIZE_MAX if the size is larger
- * If the call returns NARD_OK, *length is the new size of the path, and the bytes after it are unchanged. Otherwise the buffer is
- * unchanged.
- */
-nard_result NARD_CALL nard_device_path_push_lenient_units(nard_byte *buffer, nard_size room, const nard_unit *units, nard_size count,
-                                                          nard_size *length);
-
-/*
- * Finds the end of the path at the start of a text. Other data may follow the path: efibootmgr -v prints optional data directly
- * after it, for example
+ * Finds the end of the device path at the start of a text in UTF-8. Other data may follow the path: efibootmgr -v prints optional data
+ * directly after it, for example
  *     HD(1,GPT,12345678-9abc-def0-1234-56789abcdef0,0x800,0x100000)/File(\EFI\debian\shimx64.efi)RC
  * The path ends with the first File(..) that other data follow directly, if it can be read up to there: the call ends at the `)` that
- * closes it, so the name may contain pairs of parentheses. Otherwise the path is the whole text if nard_device_path_push_lenient_text
- * reads it, and the text before a byte where a node should end if that call stops there. The data need not be UTF-8. Data that begin
- * with / or , are read as part of the path, and usually rejected.
+ * closes it, so the name may contain pairs of parentheses. Otherwise the path is the whole text if nard_device_path_parse reads it,
+ * and the text before a byte where a node should end if that call stops there. The data need not be UTF-8. Data that begin with / or ,
+ * are read as part of the path, and usually rejected. There is no call for UTF-16: no program prints such lines in it.
  *
  * Returns
- *   NARD_OK        *length is the size of the path's text in bytes
- *   NARD_NO_NODE   the text does not begin with a path; *length is as from nard_device_path_push_lenient_text
+ *   NARD_OK              *size is the size of the path's text
+ *   NARD_UNKNOWN_STYLE
+ *   NARD_NO_NODE         the text does not begin with a path; *fault is as in nard_device_path_parse
  */
-nard_result NARD_CALL nard_lenient_text_extent(const nard_byte *bytes, nard_size byte_count, nard_size *length);
+NARD_MUST_USE nard_status NARD_CALL nard_device_path_text_extent(const char *text, size_t text_size, uint32_t style,
+                                                                 size_t *size, size_t *fault);
 
 /*
- * Finds the end of the path at the start of a text that libefivar or efibootmgr printed. The path is as
- * nard_device_path_push_libefivar_text reads it; the arguments and results are as for nard_lenient_text_extent.
- */
-nard_result NARD_CALL nard_libefivar_text_extent(const nard_byte *bytes, nard_size byte_count, nard_size *length);
-
-/*
- * Writes in words why a text is refused. The words say why nard_device_path_push_lenient_text returns NARD_NO_NODE, as UTF-16 with
- * a NUL, for example
+ * Writes in words why nard_device_path_parse rejects a text as NARD_NO_NODE, for example
  *     invalid node at offset 11: expected a number up to 0xFF at offset 20
- * If that call reads the text, the words are empty.
+ * If the text is a device path, the words are empty. For UTF-16, the words are UTF-16, and offsets count elements.
  *
- * Returns NARD_OK, or the first of these that holds
- *   NARD_NOT_UTF8           the first *length bytes are UTF-8, and the next are not
- *   NARD_BUFFER_TOO_SMALL   room <= *length, the length of the words in units without their NUL
- * If the call returns NARD_OK, the words and a NUL were written, *length is their length without it, and the rest of the buffer is
- * unchanged. Otherwise the buffer is unchanged.
+ * Returns
+ *   NARD_OK
+ *   NARD_UNKNOWN_STYLE
+ *   NARD_NOT_UTF8, NARD_INVALID_CHAR   as nard_device_path_parse
+ *   NARD_BUFFER_TOO_SMALL              capacity <= *size or *length
  */
-nard_result NARD_CALL nard_lenient_text_fault(const nard_byte *bytes, nard_size byte_count, nard_unit *buffer, nard_size room,
-                                              nard_size *length);
+NARD_MUST_USE nard_status NARD_CALL nard_device_path_explain(const char *text, size_t text_size, uint32_t style,
+                                                             char *buffer, size_t capacity, size_t *size, size_t *fault);
+NARD_MUST_USE nard_status NARD_CALL nard_device_path_explain_utf16(const nard_char16 *text, size_t text_length, uint32_t style,
+                                                                   nard_char16 *buffer, size_t capacity, size_t *length, size_t *fault);
+
+/* ---- Building device paths ---- */
 
 /*
- * Writes in words why a text of libefivar is refused. The words say why nard_device_path_push_libefivar_text returns NARD_NO_NODE, as
- * nard_lenient_text_fault says it for nard_device_path_push_lenient_text.
+ * Writes the empty device path, which is its end node, to a buffer. Then add to it.
+ *
+ *     status = nard_device_path_init(path, sizeof path, &size);
+ *     status = nard_device_path_push(path, sizeof path, size, NARD_PCI, (const uint8_t[]){2, 31}, 2, &size, &fault);
+ *
+ * Returns
+ *   NARD_OK                 *size is 4
+ *   NARD_BUFFER_TOO_SMALL   capacity < 4
  */
-nard_result NARD_CALL nard_libefivar_text_fault(const nard_byte *bytes, nard_size byte_count, nard_unit *buffer, nard_size room,
-                                                nard_size *length);
+NARD_MUST_USE nard_status NARD_CALL nard_device_path_init(uint8_t *buffer, size_t capacity, size_t *size);
 
 /*
- * Writes in words why a text in UTF-16 is refused. The words say why nard_device_path_push_lenient_units returns NARD_NO_NODE, as
- * nard_lenient_text_fault says it for a text in UTF-8. Offsets in the words count units.
+ * Adds to the device path in the first path_size bytes of a buffer, before its end node: a node, the nodes of another path, or the
+ * nodes of a text.
  *
- * Returns NARD_OK, or the first of these that holds
- *   NARD_INVALID_CHAR       a surrogate without a partner is at index *length
- *   NARD_BUFFER_TOO_SMALL   room <= *length, the length of the words in units without their NUL
- * If the call returns NARD_OK, the words and a NUL were written, *length is their length without it, and the rest of the buffer is
- * unchanged. Otherwise the buffer is unchanged.
+ *   path_size   the *size of the previous call. The time depends on what is added only: the bytes before the end node are not checked.
+ *   node_type   an enum nard_node_type: the type * 256 + the sub-type
+ *   *size       receives the size that the path then has
+ *
+ * Returns
+ *   NARD_OK
+ *   NARD_NO_END_NODE        the first path_size bytes do not end with an end node; *fault is path_size
+ *   NARD_BUFFER_TOO_SMALL   capacity < *size
+ *   of nard_device_path_push
+ *     NARD_NODE_OF_END      the node is an end node, and does not end an instance
+ *     NARD_NODE_TOO_LONG    data_size is more than 65,531
+ *   of nard_device_path_append
+ *     an error              as nard_device_path_check of `other`, at *fault
+ *   of nard_device_path_push_text
+ *     an error              as nard_device_path_parse
  */
-nard_result NARD_CALL nard_lenient_units_fault(const nard_unit *units, nard_size count, nard_unit *buffer, nard_size room,
-                                               nard_size *length);
-
-/*
- * Writes a load option of one device path, the value of a variable Boot####.
- *
- *   attributes    32 bits; higher bits are ignored
- *   description   a string
- *   bytes         begin with the device path
- *   optional      the optional data
- *
- * Returns NARD_OK, or the first of these that holds
- *   NARD_NO_NUL, NARD_INVALID_CHAR   as nard_string_until_nul of the description, with its *length
- *   as nard_device_path_check of the bytes, with its *length
- *   NARD_LIST_TOO_LONG               the device path has more than 65,535 bytes; *length is unchanged
- *   NARD_BUFFER_TOO_SMALL            room < *length, the size that the load option would have
- * If the call returns NARD_OK, *length is the size of the load option in bytes, and the bytes after it are unchanged. Otherwise the
- * buffer is unchanged.
- */
-nard_result NARD_CALL nard_load_option_write(nard_size attributes, const nard_unit *description, nard_size count,
-                                             const nard_byte *bytes, nard_size byte_count,
-                                             const nard_byte *optional, nard_size optional_count,
-                                             nard_byte *buffer, nard_size room, nard_size *length);
+NARD_MUST_USE nard_status NARD_CALL nard_device_path_push(uint8_t *buffer, size_t capacity, size_t path_size, uint32_t node_type,
+                                                          const uint8_t *data, size_t data_size, size_t *size, size_t *fault);
+NARD_MUST_USE nard_status NARD_CALL nard_device_path_append(uint8_t *buffer, size_t capacity, size_t path_size,
+                                                            const uint8_t *other, size_t other_size, size_t *size, size_t *fault);
+NARD_MUST_USE nard_status NARD_CALL nard_device_path_push_text(uint8_t *buffer, size_t capacity, size_t path_size,
+                                                               const char *text, size_t text_size, uint32_t style,
+                                                               size_t *size, size_t *fault);
+NARD_MUST_USE nard_status NARD_CALL nard_device_path_push_text_utf16(uint8_t *buffer, size_t capacity, size_t path_size,
+                                                                     const nard_char16 *text, size_t text_length, uint32_t style,
+                                                                     size_t *size, size_t *fault);
 
 /* ---- Comparing device paths ---- */
 
 /*
- * Returns whether both begin with a device path, and the first path begins with the nodes of the second. The other nodes begin at
- * *offset. If the call returns false, *offset is unchanged.
+ * Returns whether both begin with a valid device path, and the first begins with the nodes of the second. The remaining nodes begin at
+ * *offset, which is unchanged if the call returns false.
  */
-nard_bool NARD_CALL nard_device_path_strip_prefix(const nard_byte *bytes, nard_size byte_count,
-                                                  const nard_byte *prefix, nard_size prefix_count, nard_size *offset);
+bool NARD_CALL nard_device_path_strip_prefix(const uint8_t *path, size_t path_size,
+                                             const uint8_t *prefix, size_t prefix_size, size_t *offset);
 
 /*
- * Returns whether both begin with a device path, and the second is a short form of the first (section 3.1.2). The first path then
- * consists of any nodes, a node that the first node of the short form names, and the other nodes of the short form. HD(..) names a
- * partition by number and signature; a file name and a URI name an equal node.
+ * Returns whether both begin with a valid device path, and the first expands the second, a short form (section 3.1.2): it ends with a
+ * node that matches the short form's first node, followed by the rest of the short form. HD(..) matches a partition by number and
+ * signature; file names and URIs match if they are equal.
  */
-nard_bool NARD_CALL nard_device_path_is_expansion(const nard_byte *bytes, nard_size byte_count,
-                                                  const nard_byte *form, nard_size form_count);
+bool NARD_CALL nard_device_path_is_expansion(const uint8_t *path, size_t path_size, const uint8_t *form, size_t form_size);
 
-/* ---- Names and orders of load options (section 3.3) ---- */
+/* ---- Boot entries (sections 3.1.3 and 3.3) ---- */
 
-/* The kind of a load option, from the word that its name begins with. */
+/* The parts of a load option, by their offsets. nard_load_option_read gives pointers. */
+struct nard_load_option_parts {
+    uint32_t attributes;       /* bit 0 is LOAD_OPTION_ACTIVE */
+    size_t description_offset;
+    size_t description_length; /* in UTF-16 elements, without the NUL */
+    size_t path_list_offset;   /* the device paths, one after another */
+    size_t path_list_size;
+    size_t first_path_size;    /* of the first device path, with its end node */
+    size_t optional_data_offset;
+    size_t optional_data_size;
+};
+
+/*
+ * Finds the parts of a load option, the value of a variable such as Boot0001. The description may contain surrogates.
+ *
+ * Returns
+ *   NARD_OK
+ *   NARD_OPTION_TOO_SHORT, NARD_DESCRIPTION_WITHOUT_END, NARD_LIST_BEYOND_END, NARD_EMPTY_LIST
+ *              the load option is invalid at *fault
+ *   an error   as nard_device_path_check of a device path of the list, at *fault, counted from the start of the load option
+ */
+NARD_MUST_USE nard_status NARD_CALL nard_load_option_check(const uint8_t *option, size_t option_size,
+                                                           struct nard_load_option_parts *parts, size_t *fault);
+
+/* A load option. The pointers are into the memory that you passed. */
+struct nard_load_option {
+    uint32_t attributes;        /* bit 0 is LOAD_OPTION_ACTIVE */
+    const uint8_t *description; /* UTF-16, at any address, with a NUL */
+    size_t description_length;  /* in UTF-16 elements, without the NUL */
+    const uint8_t *path;        /* the first device path */
+    size_t path_size;           /* with its end node */
+    const uint8_t *path_list;   /* all device paths, one after another */
+    size_t path_list_size;
+    const uint8_t *optional_data;
+    size_t optional_data_size;
+};
+
+/* Reads a load option. Returns as nard_load_option_check. This function is C: it is tested, not proved. */
+static inline NARD_MUST_USE nard_status nard_load_option_read(const uint8_t *bytes, size_t size, struct nard_load_option *option,
+                                                              size_t *fault)
+{
+    struct nard_load_option_parts parts;
+    nard_status status = nard_load_option_check(bytes, size, &parts, fault);
+
+    if (status != NARD_OK)
+        return status;
+    option->attributes = parts.attributes;
+    option->description = bytes + parts.description_offset;
+    option->description_length = parts.description_length;
+    option->path = option->path_list = bytes + parts.path_list_offset;
+    option->path_size = parts.first_path_size;
+    option->path_list_size = parts.path_list_size;
+    option->optional_data = bytes + parts.optional_data_offset;
+    option->optional_data_size = parts.optional_data_size;
+    return NARD_OK;
+}
+
+/*
+ * Moves `path` and `path_size` of a load option that nard_load_option_read gave to the next device path of its list. Returns NARD_END
+ * after the last one; the option is then unchanged. This function is C: it is tested, not proved.
+ */
+static inline NARD_MUST_USE nard_status nard_load_option_next_path(struct nard_load_option *option)
+{
+    const uint8_t *next = option->path + option->path_size;
+    size_t left = option->path_list_size - (size_t)(next - option->path_list), size;
+
+    if (left == 0)
+        return NARD_END;
+    nard_status status = nard_device_path_check(next, left, &size, NULL);
+    if (status == NARD_OK) {
+        option->path = next;
+        option->path_size = size;
+    }
+    return status;
+}
+
+/*
+ * Writes a load option with one device path, the value of a variable such as Boot0001.
+ *
+ *   description    a NUL-terminated string
+ *   path           begins with the device path
+ *   *size          receives the size of the load option
+ *
+ * Returns
+ *   NARD_OK
+ *   NARD_NO_NUL, NARD_INVALID_CHAR   as nard_string_length of the description, with its *fault
+ *   an error                         as nard_device_path_check of the path, at *fault
+ *   NARD_LIST_TOO_LONG               the device path has more than 65,535 bytes
+ *   NARD_BUFFER_TOO_SMALL            capacity < *size
+ */
+NARD_MUST_USE nard_status NARD_CALL nard_load_option_write(uint32_t attributes, const nard_char16 *description,
+                                                           size_t description_length, const uint8_t *path, size_t path_size,
+                                                           const uint8_t *optional_data, size_t optional_data_size,
+                                                           uint8_t *buffer, size_t capacity, size_t *size, size_t *fault);
+
+/* The kind of a load option, from the word that the name of its variable begins with. */
 enum nard_boot_kind {
     NARD_BOOT = 0,             /* Boot####: a system or an application to start */
     NARD_DRIVER = 1,           /* Driver####: a driver to load before anything is booted */
@@ -971,607 +943,64 @@ enum nard_boot_kind {
 
 /*
  * Reads the name of a variable that contains a load option, such as Boot001F: the word of a kind, and a number in four upper-case
- * hexadecimal digits.
+ * hexadecimal digits. In UTF-16 the name is a NUL-terminated string.
  *
- *   *kind     out: NARD_BOOT, NARD_DRIVER, NARD_SYS_PREP or NARD_PLATFORM_RECOVERY
- *   *number   out: the number
- *
- * Returns
- *   NARD_OK
- *   NARD_NO_NUL, NARD_INVALID_CHAR   as nard_string_until_nul; *kind and *number are unchanged
- *   NARD_NOT_A_NAME                  the string is not a name of this form; *kind and *number are unchanged
- */
-nard_result NARD_CALL nard_boot_name_read(const nard_unit *units, nard_size count, nard_byte *kind, nard_unit *number);
-
-/*
- * Writes the name of the load option of a kind and a number to a buffer: at most 20 units and a NUL.
+ *   *kind     receives an enum nard_boot_kind
  *
  * Returns
  *   NARD_OK
- *   NARD_NOT_A_NAME         the kind is above 3; the buffer and *length are unchanged
- *   NARD_BUFFER_TOO_SMALL   room <= *length; the buffer is unchanged
+ *   NARD_NO_NUL, NARD_INVALID_CHAR   of UTF-16, as nard_string_length
+ *   NARD_NOT_A_NAME                  the text is not such a name
  */
-nard_result NARD_CALL nard_boot_name_write(nard_byte kind, nard_unit number, nard_unit *buffer, nard_size room,
-                                           nard_size *length);
+NARD_MUST_USE nard_status NARD_CALL nard_boot_name_read(const char *text, size_t text_size, uint32_t *kind, uint16_t *number);
+NARD_MUST_USE nard_status NARD_CALL nard_boot_name_read_utf16(const nard_char16 *text, size_t text_length,
+                                                              uint32_t *kind, uint16_t *number);
 
 /*
- * Reads a number of an order, the value of BootOrder, DriverOrder or SysPrepOrder.
- *
- *   place     the index of the number, 0 for the first
- *   *number   out: the number if the call returns NARD_OK; otherwise unchanged
+ * Writes the name of the variable for a kind of load option and a number: at most 20 characters and a NUL.
  *
  * Returns
  *   NARD_OK
- *   NARD_ODD_BYTES      byte_count is odd, whatever the place
- *   NARD_END_OF_ORDER   the order has at most `place` numbers
+ *   NARD_NOT_A_NAME         the kind is above 3
+ *   NARD_BUFFER_TOO_SMALL   capacity <= *length
  */
-nard_result NARD_CALL nard_boot_order_read(const nard_byte *bytes, nard_size byte_count, nard_size place, nard_unit *number);
+NARD_MUST_USE nard_status NARD_CALL nard_boot_name_write_utf16(uint32_t kind, uint16_t number,
+                                                               nard_char16 *buffer, size_t capacity, size_t *length);
 
 /*
- * Edits an order in units, as nard_units_from_bytes reads it and SetVariable takes it. The order is the first *count units of
- * `order`, or `room` units if that is less. All other numbers keep their order.
+ * Reads the number at an index of an order, the value of BootOrder, DriverOrder or SysPrepOrder.
  *
- *   *count   in and out: the number of units in the order; the units after the order are unchanged
- *
- * nard_boot_order_insert inserts a number at an index among the others, or moves it there if the order contains it. An index beyond
- * the end means the end. The call returns NARD_OK, or NARD_BUFFER_TOO_SMALL if the order does not contain the number and has no room
- * for it; the order and *count are then unchanged.
- *
- * The other two calls return whether the order contained the number. nard_boot_order_remove removes the number, and
- * nard_boot_order_move_to_front moves it to the front.
+ * Returns
+ *   NARD_OK
+ *   NARD_ODD_BYTES   order_size is odd, whatever the index
+ *   NARD_END         the order has at most `index` numbers
  */
-nard_result NARD_CALL nard_boot_order_insert(nard_unit *order, nard_size room, nard_size *count, nard_size place, nard_unit number);
-nard_bool NARD_CALL nard_boot_order_remove(nard_unit *order, nard_size room, nard_size *count, nard_unit number);
-nard_bool NARD_CALL nard_boot_order_move_to_front(nard_unit *order, nard_size room, nard_size *count, nard_unit number);
-
-/* Returns the version of the archive: major * 65536 + minor * 256 + patch. */
-nard_result NARD_CALL nard_version(void);
-
-/* Returns the same. The name changes with the interface, that is with the second number of the version; see NARD_INTERFACE. */
-nard_result NARD_CALL nard_interface_0_8(void);
-
-/* ---- Null pointers ---- */
+NARD_MUST_USE nard_status NARD_CALL nard_boot_order_read(const uint8_t *order, size_t order_size, size_t index, uint16_t *number);
 
 /*
- * The library takes no null pointer. The name of each call that takes a pointer with a count therefore means a function of this
- * header, which replaces a null pointer by a pointer to an element. No call reads or writes the element, because the count of a
- * null pointer is 0.
+ * Edits an order, as nard_units_from_bytes reads it and SetVariable takes it. The order is the first *count numbers of `order`, or
+ * `capacity` numbers if that is less. The remaining numbers keep their order. Numbers after the order are unchanged.
+ *
+ *   *count   in and out: how many numbers the order has
+ *
+ * nard_boot_order_insert inserts a number at an index, or moves it there if the order contains it. An index beyond the end means the
+ * end. It returns NARD_OK, or NARD_BUFFER_TOO_SMALL if the order is full and does not contain the number.
+ *
+ * nard_boot_order_remove removes a number, and nard_boot_order_move_to_front moves it to the front. Both return whether the order
+ * contained it.
  */
-static inline const nard_unit *nard_given_units(const nard_unit *units)
-{
-    static const nard_unit none = 0;
-    NARD_INTERFACE
-    return units ? units : &none;
-}
+NARD_MUST_USE nard_status NARD_CALL nard_boot_order_insert(uint16_t *order, size_t capacity, size_t *count,
+                                                           size_t index, uint16_t number);
+bool NARD_CALL nard_boot_order_remove(uint16_t *order, size_t capacity, size_t *count, uint16_t number);
+bool NARD_CALL nard_boot_order_move_to_front(uint16_t *order, size_t capacity, size_t *count, uint16_t number);
 
-static inline const nard_byte *nard_given_bytes(const nard_byte *bytes)
-{
-    static const nard_byte none = 0;
-    NARD_INTERFACE
-    return bytes ? bytes : &none;
-}
+/* ---- Versions ---- */
 
-static inline nard_unit *nard_given_unit_room(nard_unit *buffer)
-{
-    static nard_unit none;
-    NARD_INTERFACE
-    return buffer ? buffer : &none;
-}
+/* Returns the version of the library: major * 65536 + minor * 256 + patch. */
+uint32_t NARD_CALL nard_version(void);
 
-static inline nard_byte *nard_given_byte_room(nard_byte *buffer)
-{
-    static nard_byte none;
-    NARD_INTERFACE
-    return buffer ? buffer : &none;
-}
-
-/* Made from the prototypes. */
-static inline NARD_MUST_USE nard_result NARD_CALL nard_call_string_with_nul(const nard_unit *units, nard_size count,
-        nard_size *length)
-{
-    return nard_string_with_nul(nard_given_units(units), count, length);
-}
-#define nard_string_with_nul nard_call_string_with_nul
-
-static inline NARD_MUST_USE nard_result NARD_CALL nard_call_string_until_nul(const nard_unit *units, nard_size count,
-        nard_size *length)
-{
-    return nard_string_until_nul(nard_given_units(units), count, length);
-}
-#define nard_string_until_nul nard_call_string_until_nul
-
-static inline nard_bool NARD_CALL nard_call_string_equal(const nard_unit *first, nard_size first_count, const nard_unit *second,
-        nard_size second_count)
-{
-    return nard_string_equal(nard_given_units(first), first_count, nard_given_units(second), second_count);
-}
-#define nard_string_equal nard_call_string_equal
-
-static inline nard_order NARD_CALL nard_call_string_order(const nard_unit *first, nard_size first_count,
-        const nard_unit *second, nard_size second_count)
-{
-    return nard_string_order(nard_given_units(first), first_count, nard_given_units(second), second_count);
-}
-#define nard_string_order nard_call_string_order
-
-static inline nard_bool NARD_CALL nard_call_string_is_ascii(const nard_unit *units, nard_size count)
-{
-    return nard_string_is_ascii(nard_given_units(units), count);
-}
-#define nard_string_is_ascii nard_call_string_is_ascii
-
-static inline nard_bool NARD_CALL nard_call_string_equal_ignore_case(const nard_unit *first, nard_size first_count,
-        const nard_unit *second, nard_size second_count)
-{
-    return nard_string_equal_ignore_case(nard_given_units(first), first_count, nard_given_units(second), second_count);
-}
-#define nard_string_equal_ignore_case nard_call_string_equal_ignore_case
-
-static inline nard_order NARD_CALL nard_call_string_order_ignore_case(const nard_unit *first, nard_size first_count,
-        const nard_unit *second, nard_size second_count)
-{
-    return nard_string_order_ignore_case(nard_given_units(first), first_count, nard_given_units(second), second_count);
-}
-#define nard_string_order_ignore_case nard_call_string_order_ignore_case
-
-static inline NARD_MUST_USE nard_result NARD_CALL nard_call_string_make_uppercase(nard_unit *buffer, nard_size room,
-        nard_size *length)
-{
-    return nard_string_make_uppercase(nard_given_unit_room(buffer), room, length);
-}
-#define nard_string_make_uppercase nard_call_string_make_uppercase
-
-static inline NARD_MUST_USE nard_result NARD_CALL nard_call_string_make_lowercase(nard_unit *buffer, nard_size room,
-        nard_size *length)
-{
-    return nard_string_make_lowercase(nard_given_unit_room(buffer), room, length);
-}
-#define nard_string_make_lowercase nard_call_string_make_lowercase
-
-static inline nard_bool NARD_CALL nard_call_string_matches(const nard_unit *units, nard_size count, const nard_unit *pattern,
-        nard_size pattern_count)
-{
-    return nard_string_matches(nard_given_units(units), count, nard_given_units(pattern), pattern_count);
-}
-#define nard_string_matches nard_call_string_matches
-
-static inline nard_bool NARD_CALL nard_call_units_equal_ignore_case(const nard_unit *first, nard_size first_count,
-        const nard_unit *second, nard_size second_count)
-{
-    return nard_units_equal_ignore_case(nard_given_units(first), first_count, nard_given_units(second), second_count);
-}
-#define nard_units_equal_ignore_case nard_call_units_equal_ignore_case
-
-static inline nard_order NARD_CALL nard_call_units_order_ignore_case(const nard_unit *first, nard_size first_count,
-        const nard_unit *second, nard_size second_count)
-{
-    return nard_units_order_ignore_case(nard_given_units(first), first_count, nard_given_units(second), second_count);
-}
-#define nard_units_order_ignore_case nard_call_units_order_ignore_case
-
-static inline nard_bool NARD_CALL nard_call_units_matches(const nard_unit *units, nard_size count, const nard_unit *pattern,
-        nard_size pattern_count)
-{
-    return nard_units_matches(nard_given_units(units), count, nard_given_units(pattern), pattern_count);
-}
-#define nard_units_matches nard_call_units_matches
-
-static inline nard_size NARD_CALL nard_call_units_make_uppercase(nard_unit *buffer, nard_size room)
-{
-    return nard_units_make_uppercase(nard_given_unit_room(buffer), room);
-}
-#define nard_units_make_uppercase nard_call_units_make_uppercase
-
-static inline nard_size NARD_CALL nard_call_units_make_lowercase(nard_unit *buffer, nard_size room)
-{
-    return nard_units_make_lowercase(nard_given_unit_room(buffer), room);
-}
-#define nard_units_make_lowercase nard_call_units_make_lowercase
-
-static inline NARD_MUST_USE nard_result NARD_CALL nard_call_fat_from_units(const nard_unit *units, nard_size count,
-        nard_byte *bytes, nard_size room, nard_size *length)
-{
-    return nard_fat_from_units(nard_given_units(units), count, nard_given_byte_room(bytes), room, length);
-}
-#define nard_fat_from_units nard_call_fat_from_units
-
-static inline NARD_MUST_USE nard_result NARD_CALL nard_call_units_from_bytes(const nard_byte *bytes, nard_size byte_count,
-        nard_unit *buffer, nard_size room, nard_size *count)
-{
-    return nard_units_from_bytes(nard_given_bytes(bytes), byte_count, nard_given_unit_room(buffer), room, count);
-}
-#define nard_units_from_bytes nard_call_units_from_bytes
-
-static inline NARD_MUST_USE nard_result NARD_CALL nard_call_packed_until_nul(const nard_byte *bytes, nard_size byte_count,
-        nard_size *count)
-{
-    return nard_packed_until_nul(nard_given_bytes(bytes), byte_count, count);
-}
-#define nard_packed_until_nul nard_call_packed_until_nul
-
-static inline NARD_MUST_USE nard_result NARD_CALL nard_call_string_from_utf8(const nard_byte *bytes, nard_size byte_count,
-        nard_unit *buffer, nard_size room, nard_size *length)
-{
-    return nard_string_from_utf8(nard_given_bytes(bytes), byte_count, nard_given_unit_room(buffer), room, length);
-}
-#define nard_string_from_utf8 nard_call_string_from_utf8
-
-static inline NARD_MUST_USE nard_result NARD_CALL nard_call_utf8_from_string(const nard_unit *units, nard_size count,
-        nard_byte *bytes, nard_size room, nard_size *length)
-{
-    return nard_utf8_from_string(nard_given_units(units), count, nard_given_byte_room(bytes), room, length);
-}
-#define nard_utf8_from_string nard_call_utf8_from_string
-
-static inline NARD_MUST_USE nard_result NARD_CALL nard_call_utf8_from_units_lossy(const nard_unit *units, nard_size count,
-        nard_byte *bytes, nard_size room, nard_size *length)
-{
-    return nard_utf8_from_units_lossy(nard_given_units(units), count, nard_given_byte_room(bytes), room, length);
-}
-#define nard_utf8_from_units_lossy nard_call_utf8_from_units_lossy
-
-static inline nard_bool NARD_CALL nard_call_string_equal_until_nul(const nard_unit *units, nard_size count,
-        const nard_byte *bytes, nard_size byte_count)
-{
-    return nard_string_equal_until_nul(nard_given_units(units), count, nard_given_bytes(bytes), byte_count);
-}
-#define nard_string_equal_until_nul nard_call_string_equal_until_nul
-
-static inline nard_bool NARD_CALL nard_call_utf8_is_latin1(const nard_byte *bytes, nard_size byte_count)
-{
-    return nard_utf8_is_latin1(nard_given_bytes(bytes), byte_count);
-}
-#define nard_utf8_is_latin1 nard_call_utf8_is_latin1
-
-static inline NARD_MUST_USE nard_result NARD_CALL nard_call_path_verdict(const nard_unit *units, nard_size count,
-        nard_size *place, nard_unit *character)
-{
-    return nard_path_verdict(nard_given_units(units), count, place, character);
-}
-#define nard_path_verdict nard_call_path_verdict
-
-static inline nard_bool NARD_CALL nard_call_path_equal(const nard_unit *first, nard_size first_count, const nard_unit *second,
-        nard_size second_count)
-{
-    return nard_path_equal(nard_given_units(first), first_count, nard_given_units(second), second_count);
-}
-#define nard_path_equal nard_call_path_equal
-
-static inline nard_order NARD_CALL nard_call_path_order(const nard_unit *first, nard_size first_count, const nard_unit *second,
-        nard_size second_count)
-{
-    return nard_path_order(nard_given_units(first), first_count, nard_given_units(second), second_count);
-}
-#define nard_path_order nard_call_path_order
-
-static inline nard_bool NARD_CALL nard_call_path_equal_ignore_case(const nard_unit *first, nard_size first_count,
-        const nard_unit *second, nard_size second_count)
-{
-    return nard_path_equal_ignore_case(nard_given_units(first), first_count, nard_given_units(second), second_count);
-}
-#define nard_path_equal_ignore_case nard_call_path_equal_ignore_case
-
-static inline nard_bool NARD_CALL nard_call_path_matches(const nard_unit *path, nard_size count, const nard_unit *pattern,
-        nard_size pattern_count)
-{
-    return nard_path_matches(nard_given_units(path), count, nard_given_units(pattern), pattern_count);
-}
-#define nard_path_matches nard_call_path_matches
-
-static inline nard_bool NARD_CALL nard_call_path_next_component(const nard_unit *text, nard_size length, nard_size *place,
-        nard_size *start, nard_size *component_length)
-{
-    return nard_path_next_component(nard_given_units(text), length, place, start, component_length);
-}
-#define nard_path_next_component nard_call_path_next_component
-
-static inline nard_bool NARD_CALL nard_call_path_file_name(const nard_unit *text, nard_size length, nard_size *start)
-{
-    return nard_path_file_name(nard_given_units(text), length, start);
-}
-#define nard_path_file_name nard_call_path_file_name
-
-static inline nard_bool NARD_CALL nard_call_path_parent_length(const nard_unit *text, nard_size length,
-        nard_size *parent_length)
-{
-    return nard_path_parent_length(nard_given_units(text), length, parent_length);
-}
-#define nard_path_parent_length nard_call_path_parent_length
-
-static inline NARD_MUST_USE nard_result NARD_CALL nard_call_path_push(nard_unit *buffer, nard_size room, const nard_unit *path,
-        nard_size count, nard_size *length)
-{
-    return nard_path_push(nard_given_unit_room(buffer), room, nard_given_units(path), count, length);
-}
-#define nard_path_push nard_call_path_push
-
-static inline NARD_MUST_USE nard_result NARD_CALL nard_call_path_join(const nard_unit *path, nard_size count,
-        const nard_unit *other, nard_size other_count, nard_unit *buffer, nard_size room, nard_size *length)
-{
-    return nard_path_join(nard_given_units(path), count, nard_given_units(other), other_count, nard_given_unit_room(buffer), room, length);
-}
-#define nard_path_join nard_call_path_join
-
-static inline NARD_MUST_USE nard_result NARD_CALL nard_call_path_parent(const nard_unit *path, nard_size count,
-        nard_unit *buffer, nard_size room, nard_size *length)
-{
-    return nard_path_parent(nard_given_units(path), count, nard_given_unit_room(buffer), room, length);
-}
-#define nard_path_parent nard_call_path_parent
-
-static inline NARD_MUST_USE nard_result NARD_CALL nard_call_path_normalize(const nard_unit *path, nard_size count,
-        nard_unit *buffer, nard_size room, nard_size *length, nard_unit *character)
-{
-    return nard_path_normalize(nard_given_units(path), count, nard_given_unit_room(buffer), room, length, character);
-}
-#define nard_path_normalize nard_call_path_normalize
-
-static inline NARD_MUST_USE nard_result NARD_CALL nard_call_path_normalize_utf8(const nard_byte *bytes, nard_size byte_count,
-        nard_unit *buffer, nard_size room, nard_size *length, nard_unit *character)
-{
-    return nard_path_normalize_utf8(nard_given_bytes(bytes), byte_count, nard_given_unit_room(buffer), room, length, character);
-}
-#define nard_path_normalize_utf8 nard_call_path_normalize_utf8
-
-static inline NARD_MUST_USE nard_result NARD_CALL nard_call_fat_name_check(const nard_unit *units, nard_size count,
-        nard_size *length, nard_unit *character)
-{
-    return nard_fat_name_check(nard_given_units(units), count, length, character);
-}
-#define nard_fat_name_check nard_call_fat_name_check
-
-static inline nard_bool NARD_CALL nard_call_fat_name_equal(const nard_unit *first, nard_size first_count,
-        const nard_unit *second, nard_size second_count)
-{
-    return nard_fat_name_equal(nard_given_units(first), first_count, nard_given_units(second), second_count);
-}
-#define nard_fat_name_equal nard_call_fat_name_equal
-
-static inline nard_bool NARD_CALL nard_call_fat_name_is_short(const nard_unit *units, nard_size count)
-{
-    return nard_fat_name_is_short(nard_given_units(units), count);
-}
-#define nard_fat_name_is_short nard_call_fat_name_is_short
-
-static inline NARD_MUST_USE nard_result NARD_CALL nard_call_fat_from_string(const nard_unit *units, nard_size count,
-        nard_byte *bytes, nard_size room, nard_size *length)
-{
-    return nard_fat_from_string(nard_given_units(units), count, nard_given_byte_room(bytes), room, length);
-}
-#define nard_fat_from_string nard_call_fat_from_string
-
-static inline NARD_MUST_USE nard_result NARD_CALL nard_call_string_from_fat(const nard_byte *bytes, nard_size byte_count,
-        nard_unit *buffer, nard_size room, nard_size *length)
-{
-    return nard_string_from_fat(nard_given_bytes(bytes), byte_count, nard_given_unit_room(buffer), room, length);
-}
-#define nard_string_from_fat nard_call_string_from_fat
-
-static inline NARD_MUST_USE nard_result NARD_CALL nard_call_device_path_check(const nard_byte *bytes, nard_size byte_count,
-        nard_size *length)
-{
-    return nard_device_path_check(nard_given_bytes(bytes), byte_count, length);
-}
-#define nard_device_path_check nard_call_device_path_check
-
-static inline NARD_MUST_USE nard_result NARD_CALL nard_call_device_path_needs(const nard_byte *bytes, nard_size byte_count,
-        nard_size *offset, nard_size *needed)
-{
-    return nard_device_path_needs(nard_given_bytes(bytes), byte_count, offset, needed);
-}
-#define nard_device_path_needs nard_call_device_path_needs
-
-static inline NARD_MUST_USE nard_result NARD_CALL nard_call_device_path_next_node(const nard_byte *bytes, nard_size byte_count,
-        nard_size *offset, struct nard_device_node *node)
-{
-    return nard_device_path_next_node(nard_given_bytes(bytes), byte_count, offset, node);
-}
-#define nard_device_path_next_node nard_call_device_path_next_node
-
-static inline NARD_MUST_USE nard_result NARD_CALL nard_call_node_number(const nard_byte *content, nard_size byte_count,
-        nard_size place, nard_size width, nard_number *number)
-{
-    return nard_node_number(nard_given_bytes(content), byte_count, place, width, number);
-}
-#define nard_node_number nard_call_node_number
-
-static inline NARD_MUST_USE nard_result NARD_CALL nard_call_device_path_file_path(const nard_byte *bytes, nard_size byte_count,
-        nard_unit *buffer, nard_size room, nard_size *length)
-{
-    return nard_device_path_file_path(nard_given_bytes(bytes), byte_count, nard_given_unit_room(buffer), room, length);
-}
-#define nard_device_path_file_path nard_call_device_path_file_path
-
-static inline NARD_MUST_USE nard_result NARD_CALL nard_call_device_path_text(const nard_byte *bytes, nard_size byte_count,
-        nard_bool display_only, nard_bool allow_shortcuts, nard_unit *buffer, nard_size room, nard_size *length)
-{
-    return nard_device_path_text(nard_given_bytes(bytes), byte_count, display_only, allow_shortcuts, nard_given_unit_room(buffer), room, length);
-}
-#define nard_device_path_text nard_call_device_path_text
-
-static inline NARD_MUST_USE nard_result NARD_CALL nard_call_device_path_libefivar_text(const nard_byte *bytes,
-        nard_size byte_count, nard_unit *buffer, nard_size room, nard_size *length)
-{
-    return nard_device_path_libefivar_text(nard_given_bytes(bytes), byte_count, nard_given_unit_room(buffer), room, length);
-}
-#define nard_device_path_libefivar_text nard_call_device_path_libefivar_text
-
-static inline NARD_MUST_USE nard_result NARD_CALL nard_call_node_text(const nard_byte *bytes, nard_size byte_count,
-        nard_bool display_only, nard_bool allow_shortcuts, nard_unit *buffer, nard_size room, nard_size *length)
-{
-    return nard_node_text(nard_given_bytes(bytes), byte_count, display_only, allow_shortcuts, nard_given_unit_room(buffer), room, length);
-}
-#define nard_node_text nard_call_node_text
-
-static inline NARD_MUST_USE nard_result NARD_CALL nard_call_load_option_read(const nard_byte *bytes, nard_size byte_count,
-        struct nard_load_option *option, nard_size *offset)
-{
-    return nard_load_option_read(nard_given_bytes(bytes), byte_count, option, offset);
-}
-#define nard_load_option_read nard_call_load_option_read
-
-static inline NARD_MUST_USE nard_result NARD_CALL nard_call_device_path_begin(nard_byte *buffer, nard_size room,
-        nard_size *length)
-{
-    return nard_device_path_begin(nard_given_byte_room(buffer), room, length);
-}
-#define nard_device_path_begin nard_call_device_path_begin
-
-static inline NARD_MUST_USE nard_result NARD_CALL nard_call_device_path_push(nard_byte *buffer, nard_size room,
-        nard_byte device_type, nard_byte sub_type, const nard_byte *content, nard_size byte_count, nard_size *length)
-{
-    return nard_device_path_push(nard_given_byte_room(buffer), room, device_type, sub_type, nard_given_bytes(content), byte_count, length);
-}
-#define nard_device_path_push nard_call_device_path_push
-
-static inline NARD_MUST_USE nard_result NARD_CALL nard_call_device_path_push_at(nard_byte *buffer, nard_size room,
-        nard_size path_length, nard_byte device_type, nard_byte sub_type, const nard_byte *content, nard_size byte_count,
-        nard_size *length)
-{
-    return nard_device_path_push_at(nard_given_byte_room(buffer), room, path_length, device_type, sub_type, nard_given_bytes(content), byte_count, length);
-}
-#define nard_device_path_push_at nard_call_device_path_push_at
-
-static inline NARD_MUST_USE nard_result NARD_CALL nard_call_device_path_append(nard_byte *buffer, nard_size room,
-        const nard_byte *bytes, nard_size byte_count, nard_size *length)
-{
-    return nard_device_path_append(nard_given_byte_room(buffer), room, nard_given_bytes(bytes), byte_count, length);
-}
-#define nard_device_path_append nard_call_device_path_append
-
-static inline NARD_MUST_USE nard_result NARD_CALL nard_call_device_path_push_text(nard_byte *buffer, nard_size room,
-        const nard_byte *bytes, nard_size byte_count, nard_size *length)
-{
-    return nard_device_path_push_text(nard_given_byte_room(buffer), room, nard_given_bytes(bytes), byte_count, length);
-}
-#define nard_device_path_push_text nard_call_device_path_push_text
-
-static inline NARD_MUST_USE nard_result NARD_CALL nard_call_device_path_push_lenient_text(nard_byte *buffer, nard_size room,
-        const nard_byte *bytes, nard_size byte_count, nard_size *length)
-{
-    return nard_device_path_push_lenient_text(nard_given_byte_room(buffer), room, nard_given_bytes(bytes), byte_count, length);
-}
-#define nard_device_path_push_lenient_text nard_call_device_path_push_lenient_text
-
-static inline NARD_MUST_USE nard_result NARD_CALL nard_call_device_path_push_libefivar_text(nard_byte *buffer, nard_size room,
-        const nard_byte *bytes, nard_size byte_count, nard_size *length)
-{
-    return nard_device_path_push_libefivar_text(nard_given_byte_room(buffer), room, nard_given_bytes(bytes), byte_count, length);
-}
-#define nard_device_path_push_libefivar_text nard_call_device_path_push_libefivar_text
-
-static inline NARD_MUST_USE nard_result NARD_CALL nard_call_device_path_push_units(nard_byte *buffer, nard_size room,
-        const nard_unit *units, nard_size count, nard_size *length)
-{
-    return nard_device_path_push_units(nard_given_byte_room(buffer), room, nard_given_units(units), count, length);
-}
-#define nard_device_path_push_units nard_call_device_path_push_units
-
-static inline NARD_MUST_USE nard_result NARD_CALL nard_call_device_path_push_lenient_units(nard_byte *buffer, nard_size room,
-        const nard_unit *units, nard_size count, nard_size *length)
-{
-    return nard_device_path_push_lenient_units(nard_given_byte_room(buffer), room, nard_given_units(units), count, length);
-}
-#define nard_device_path_push_lenient_units nard_call_device_path_push_lenient_units
-
-static inline NARD_MUST_USE nard_result NARD_CALL nard_call_lenient_text_extent(const nard_byte *bytes, nard_size byte_count,
-        nard_size *length)
-{
-    return nard_lenient_text_extent(nard_given_bytes(bytes), byte_count, length);
-}
-#define nard_lenient_text_extent nard_call_lenient_text_extent
-
-static inline NARD_MUST_USE nard_result NARD_CALL nard_call_libefivar_text_extent(const nard_byte *bytes, nard_size byte_count,
-        nard_size *length)
-{
-    return nard_libefivar_text_extent(nard_given_bytes(bytes), byte_count, length);
-}
-#define nard_libefivar_text_extent nard_call_libefivar_text_extent
-
-static inline NARD_MUST_USE nard_result NARD_CALL nard_call_lenient_text_fault(const nard_byte *bytes, nard_size byte_count,
-        nard_unit *buffer, nard_size room, nard_size *length)
-{
-    return nard_lenient_text_fault(nard_given_bytes(bytes), byte_count, nard_given_unit_room(buffer), room, length);
-}
-#define nard_lenient_text_fault nard_call_lenient_text_fault
-
-static inline NARD_MUST_USE nard_result NARD_CALL nard_call_libefivar_text_fault(const nard_byte *bytes, nard_size byte_count,
-        nard_unit *buffer, nard_size room, nard_size *length)
-{
-    return nard_libefivar_text_fault(nard_given_bytes(bytes), byte_count, nard_given_unit_room(buffer), room, length);
-}
-#define nard_libefivar_text_fault nard_call_libefivar_text_fault
-
-static inline NARD_MUST_USE nard_result NARD_CALL nard_call_lenient_units_fault(const nard_unit *units, nard_size count,
-        nard_unit *buffer, nard_size room, nard_size *length)
-{
-    return nard_lenient_units_fault(nard_given_units(units), count, nard_given_unit_room(buffer), room, length);
-}
-#define nard_lenient_units_fault nard_call_lenient_units_fault
-
-static inline NARD_MUST_USE nard_result NARD_CALL nard_call_load_option_write(nard_size attributes,
-        const nard_unit *description, nard_size count, const nard_byte *bytes, nard_size byte_count, const nard_byte *optional,
-        nard_size optional_count, nard_byte *buffer, nard_size room, nard_size *length)
-{
-    return nard_load_option_write(attributes, nard_given_units(description), count, nard_given_bytes(bytes), byte_count, nard_given_bytes(optional), optional_count, nard_given_byte_room(buffer), room, length);
-}
-#define nard_load_option_write nard_call_load_option_write
-
-static inline nard_bool NARD_CALL nard_call_device_path_strip_prefix(const nard_byte *bytes, nard_size byte_count,
-        const nard_byte *prefix, nard_size prefix_count, nard_size *offset)
-{
-    return nard_device_path_strip_prefix(nard_given_bytes(bytes), byte_count, nard_given_bytes(prefix), prefix_count, offset);
-}
-#define nard_device_path_strip_prefix nard_call_device_path_strip_prefix
-
-static inline nard_bool NARD_CALL nard_call_device_path_is_expansion(const nard_byte *bytes, nard_size byte_count,
-        const nard_byte *form, nard_size form_count)
-{
-    return nard_device_path_is_expansion(nard_given_bytes(bytes), byte_count, nard_given_bytes(form), form_count);
-}
-#define nard_device_path_is_expansion nard_call_device_path_is_expansion
-
-static inline NARD_MUST_USE nard_result NARD_CALL nard_call_boot_name_read(const nard_unit *units, nard_size count,
-        nard_byte *kind, nard_unit *number)
-{
-    return nard_boot_name_read(nard_given_units(units), count, kind, number);
-}
-#define nard_boot_name_read nard_call_boot_name_read
-
-static inline NARD_MUST_USE nard_result NARD_CALL nard_call_boot_name_write(nard_byte kind, nard_unit number, nard_unit *buffer,
-        nard_size room, nard_size *length)
-{
-    return nard_boot_name_write(kind, number, nard_given_unit_room(buffer), room, length);
-}
-#define nard_boot_name_write nard_call_boot_name_write
-
-static inline NARD_MUST_USE nard_result NARD_CALL nard_call_boot_order_read(const nard_byte *bytes, nard_size byte_count,
-        nard_size place, nard_unit *number)
-{
-    return nard_boot_order_read(nard_given_bytes(bytes), byte_count, place, number);
-}
-#define nard_boot_order_read nard_call_boot_order_read
-
-static inline NARD_MUST_USE nard_result NARD_CALL nard_call_boot_order_insert(nard_unit *order, nard_size room,
-        nard_size *count, nard_size place, nard_unit number)
-{
-    return nard_boot_order_insert(nard_given_unit_room(order), room, count, place, number);
-}
-#define nard_boot_order_insert nard_call_boot_order_insert
-
-static inline nard_bool NARD_CALL nard_call_boot_order_remove(nard_unit *order, nard_size room, nard_size *count,
-        nard_unit number)
-{
-    return nard_boot_order_remove(nard_given_unit_room(order), room, count, number);
-}
-#define nard_boot_order_remove nard_call_boot_order_remove
-
-static inline nard_bool NARD_CALL nard_call_boot_order_move_to_front(nard_unit *order, nard_size room, nard_size *count,
-        nard_unit number)
-{
-    return nard_boot_order_move_to_front(nard_given_unit_room(order), room, count, number);
-}
-#define nard_boot_order_move_to_front nard_call_boot_order_move_to_front
+/* Returns the same. The name changes with the interface, that is with the minor version; see NARD_INTERFACE. */
+uint32_t NARD_CALL nard_interface_0_8(void);
 
 #ifdef __cplusplus
 }

@@ -22,14 +22,14 @@
 /* The owner of the variables (UEFI Specification 2.10, section 3.3). */
 #define GLOBAL "8be4df61-93ca-11d2-aa0d-00e098032b8c"
 
-/* More than firmware keeps of one variable, and what is shown of a device path: no byte of it prints more than four units. */
+/* More than firmware keeps of one variable, and room for the text of a device path in it. */
 enum { ATTRIBUTES = 4, MOST_BYTES = 65536, MOST_SHOWN = 4 * MOST_BYTES };
 
 /* LOAD_OPTION_ACTIVE; and how long `Boot` and four digits are, and how many of them there are. */
 enum { ACTIVE = 1, NAME = 8, MOST_ENTRIES = 65536 };
 
 static uint8_t bytes[ATTRIBUTES + MOST_BYTES];
-static uint16_t shown[MOST_SHOWN];
+static char shown[MOST_SHOWN];
 
 /* Reads a variable. Returns the number of bytes of its value, or -1 if it cannot be read or is too long. */
 static long read_variable(const char *folder, const char *name)
@@ -54,16 +54,17 @@ static bool is_hidden(uint16_t unit)
         || (0x2028 <= unit && unit < 0x202f) || (0x2066 <= unit && unit < 0x206a);
 }
 
-/* Prints the first units of `shown`: `?` for each that is hidden, and U+FFFD for a surrogate without a partner. */
-static void print_shown(size_t length)
+/* Prints a description: `?` for each unit that is hidden, and U+FFFD for a surrogate without a partner. */
+static void print_description(const uint8_t *description, size_t length)
 {
-    static uint8_t utf8[3 * MOST_SHOWN + 1];
-    size_t count = 0;
+    static uint16_t units[MOST_BYTES / 2];
+    if (nard_units_from_bytes(description, 2 * length, units, MOST_BYTES / 2, NULL) != NARD_OK)
+        return;
     for (size_t i = 0; i < length; i++)
-        if (is_hidden(shown[i]))
-            shown[i] = '?';
-    if (nard_utf8_from_units_lossy(shown, length, utf8, sizeof utf8, &count) == NARD_OK)
-        fwrite(utf8, 1, count, stdout);
+        if (is_hidden(units[i]))
+            units[i] = '?';
+    if (nard_string_to_utf8_lossy(units, length, shown, MOST_SHOWN, NULL) == NARD_OK)
+        fputs(shown, stdout);
 }
 
 /* Prints a variable that has numbers of entries, if it exists. */
@@ -82,39 +83,32 @@ static void print_numbers(const char *folder, const char *name)
 /* Prints the entry in a variable. Returns whether it is well-formed. */
 static bool print_entry(const char *folder, const char *name)
 {
-    struct nard_load_option option = {0, 0, 0, 0, 0, 0, 0, 0};
-    size_t place = 0, length = 0;
-    const uint8_t *entry = bytes + ATTRIBUTES;
+    struct nard_load_option option;
+    size_t fault = 0;
     long size = read_variable(folder, name);
     if (size < 0) {
         printf("%s  cannot be read\n", name);
         return false;
     }
-    uint32_t reason = nard_load_option_read(entry, (size_t)size, &option, &place);
-    if (reason != NARD_OK) {
-        printf("%s  malformed at offset %zu: %s\n", name, place, nard_reason_text(reason));
+    nard_status status = nard_load_option_read(bytes + ATTRIBUTES, (size_t)size, &option, &fault);
+    if (status != NARD_OK) {
+        printf("%s  malformed at offset %zu: %s\n", name, fault, nard_status_text(status));
         return false;
     }
     printf("%s%c ", name, option.attributes & ACTIVE ? '*' : ' ');
-    reason = nard_units_from_bytes(entry + option.description_start, 2 * option.description_length, shown, MOST_SHOWN, &length);
-    print_shown(reason == NARD_OK ? length : 0);
-    printf("\t");
-    reason = nard_device_path_text(entry + option.list_start, option.path_length, false, false, shown, MOST_SHOWN, &length);
-    if (reason == NARD_OK)
-        print_shown(length);
-    printf("\n");
-    return reason == NARD_OK;
+    print_description(option.description, option.description_length);
+    status = nard_device_path_format(option.path, option.path_size, NARD_STYLE_UEFI, shown, MOST_SHOWN, NULL, NULL);
+    printf("\t%s\n", status == NARD_OK ? shown : "");
+    return status == NARD_OK;
 }
 
 /* Returns whether a file is the variable of an entry: its name is Boot#### and the owner. */
 static bool is_entry(const char *file)
 {
-    uint16_t name[NAME + 1], number = 0;
-    size_t dash = strcspn(file, "-"), length = 0;
-    uint8_t kind = 0;
-    return strcmp(file + dash, "-" GLOBAL) == 0
-        && nard_string_from_utf8((const uint8_t *)file, dash, name, NAME + 1, &length) == NARD_OK
-        && nard_boot_name_read(name, length + 1, &kind, &number) == NARD_OK && kind == NARD_BOOT;
+    size_t dash = strcspn(file, "-");
+    uint32_t kind = 0;
+    uint16_t number = 0;
+    return strcmp(file + dash, "-" GLOBAL) == 0 && nard_boot_name_read(file, dash, &kind, &number) == NARD_OK && kind == NARD_BOOT;
 }
 
 static int by_name(const void *one, const void *other)

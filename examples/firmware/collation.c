@@ -60,11 +60,10 @@ static void make_text(uint16_t *text, const uint16_t *units)
  */
 static void make_signed(uint16_t *to, const uint16_t *text)
 {
-    size_t place = 0, length = length_of(text);
+    size_t length = length_of(text);
     for (size_t i = 0; i <= length; i++)
         to[i] = text[i];
-    if (nard_string_make_uppercase(to, length + 1, &place) != NARD_OK)
-        return;
+    nard_string_make_uppercase(to, length);
     for (size_t i = 0; i < length; i++)
         to[i] = 0x80 <= text[i] && text[i] <= 0xff ? (uint16_t)(to[i] | 0xff00) : text[i];
 }
@@ -124,10 +123,10 @@ static void compare_cases(bool is_upper)
     struct counts counts = {0};
     for (uint32_t unit = 0; unit <= 0xffff; unit++) {
         uint16_t ours[2] = {(uint16_t)unit, 0}, theirs[2] = {(uint16_t)unit, 0}, as_signed[2] = {0, 0};
-        size_t place = 0;
-        nard_result reason = is_upper ? nard_string_make_uppercase(ours, 2, &place) : nard_string_make_lowercase(ours, 2, &place);
-        if (reason != NARD_OK)
-            ours[0] = (uint16_t)unit;
+        if (is_upper)
+            nard_string_make_uppercase(ours, 1);
+        else
+            nard_string_make_lowercase(ours, 1);
         (is_upper ? firmware->StrUpr : firmware->StrLwr)(firmware, theirs);
         as_signed[0] = 0x80 <= unit && unit <= 0xff ? (uint16_t)(ours[0] | 0xff00) : ours[0];
         count(&counts, theirs[0], ours[0], as_signed[0], false, ours, theirs);
@@ -151,8 +150,8 @@ static void compare_pairs(void)
         make_text(second, units);
         make_signed(first_signed, first);
         make_signed(second_signed, second);
-        int ours = nard_string_order_ignore_case(first, MOST + 1, second, MOST + 1);
-        int ours_signed = nard_string_order_ignore_case(first_signed, MOST + 1, second_signed, MOST + 1);
+        int ours = nard_string_compare_ignore_case(first, MOST + 1, second, MOST + 1);
+        int ours_signed = nard_string_compare_ignore_case(first_signed, MOST + 1, second_signed, MOST + 1);
         count(&counts, sign_of(firmware->StriColl(firmware, first, second)), ours, ours_signed, false, first, second);
     }
     put_counts("pairs", &counts);
@@ -216,8 +215,8 @@ static void compare_bytes_of_names(void)
     struct counts counts = {0};
     for (size_t i = 0; i < CONVERSIONS; i++) {
         uint16_t text[MOST + 1], other[MOST + 1];
-        nard_byte ours[MOST] = {0}, theirs[MOST] = {0};
-        size_t place = 0, size = next_number(MOST + 1);
+        uint8_t ours[MOST] = {0}, theirs[MOST] = {0};
+        size_t size = next_number(MOST + 1);
         bool is_kept = false, is_same = true, is_replaced;
         make_text(text, units);
         for (size_t k = 0; k <= MOST; k++) {
@@ -226,14 +225,14 @@ static void compare_bytes_of_names(void)
         }
         is_replaced = firmware->StrToFat(firmware, text, size, (CHAR8 *)theirs) != FALSE;
         counts.compared++;
-        is_same = (nard_fat_from_string(text, MOST + 1, ours, size, &place) == NARD_CHAR_REPLACED) == is_replaced;
+        is_same = (nard_fat_from_string(text, MOST + 1, ours, size, NULL) == NARD_CHAR_REPLACED) == is_replaced;
         for (size_t k = 0; k < MOST; k++)
             is_same = is_same && ours[k] == theirs[k];
         if (is_same)
             continue;
         for (size_t k = 0; k < MOST; k++)
             ours[k] = 0;
-        is_same = is_kept && (nard_fat_from_string(other, MOST + 1, ours, size, &place) == NARD_CHAR_REPLACED) == is_replaced;
+        is_same = is_kept && (nard_fat_from_string(other, MOST + 1, ours, size, NULL) == NARD_CHAR_REPLACED) == is_replaced;
         for (size_t k = 0; k < MOST; k++)
             is_same = is_same && (ours[k] == theirs[k] || (ours[k] == '~' && theirs[k] == '\\'));
         if (is_same)
@@ -246,16 +245,16 @@ static void compare_bytes_of_names(void)
 
 static void compare_names_of_bytes(void)
 {
-    static const nard_byte bytes[] = {'A', '1', ' ', '.', '_', 0x80, 0xc9, 0xff, 0};
+    static const uint8_t bytes[] = {'A', '1', ' ', '.', '_', 0x80, 0xc9, 0xff, 0};
     struct counts counts = {0};
     for (size_t i = 0; i < CONVERSIONS; i++) {
-        nard_byte name[MOST];
+        uint8_t name[MOST];
         uint16_t ours[MOST + 1] = {0}, theirs[MOST + 1] = {0}, as_signed[MOST + 1] = {0};
-        size_t size = next_number(MOST + 1), place = 0;
+        size_t size = next_number(MOST + 1);
         bool is_same = true, is_signed = true;
         for (size_t k = 0; k < MOST; k++)
             name[k] = bytes[next_number(sizeof bytes)];
-        if (nard_string_from_fat(name, size, ours, MOST + 1, &place) != NARD_OK)
+        if (nard_string_from_fat(name, size, ours, MOST + 1, NULL) != NARD_OK)
             ours[0] = 0xffff;
         firmware->FatToStr(firmware, size, (CHAR8 *)name, theirs);
         for (size_t k = 0; k <= MOST; k++) {
@@ -300,9 +299,7 @@ static EFI_STATUS open_file(EFI_FILE_HANDLE root, EFI_FILE_HANDLE *file, const u
 static void try_name(struct counts *counts, EFI_FILE_HANDLE root, const uint16_t *name)
 {
     EFI_FILE_HANDLE file = NULL;
-    size_t place = 0;
-    uint16_t character = 0;
-    bool ours = nard_fat_name_check(name, length_of(name) + 1, &place, &character) == NARD_OK;
+    bool ours = nard_fat_name_check(name, length_of(name) + 1, NULL, NULL, NULL) == NARD_OK;
     bool theirs = open_file(root, &file, name, true) == EFI_SUCCESS;
     if (theirs)
         file->Delete(file);

@@ -4,12 +4,11 @@
 
 EFI_STATUS efi_main(EFI_HANDLE image, EFI_SYSTEM_TABLE *table)
 {
-    static const nard_unit path[] = u"\\EFI\\debian\\..\\BOOT\\.\\BOOTX64.EFI";
-    nard_unit normal[64] = {0}, character = 0;
-    nard_size length = 0;
-    nard_result reason = nard_path_normalize(path, sizeof path / sizeof *path, normal, 64, &length, &character);
+    static const nard_char16 path[] = u"\\EFI\\debian\\..\\BOOT\\.\\BOOTX64.EFI";
+    nard_char16 normal[64];
+    nard_status status = nard_path_normalize(path, NARD_NUL_TERMINATED, normal, 64, NULL, NULL, NULL);
     (void)image;
-    table->ConOut->OutputString(table->ConOut, reason == NARD_OK ? (CHAR16 *)normal : (CHAR16 *)u"refused");
+    table->ConOut->OutputString(table->ConOut, status == NARD_OK ? (CHAR16 *)normal : (CHAR16 *)u"invalid path");
     table->ConOut->OutputString(table->ConOut, (CHAR16 *)u"\r\n");
-    return NARD_EFI_STATUS(reason);
+    return nard_to_efi_status(status);
 }

@@ -40,7 +40,7 @@ void lines_put_name(uint16_t number)
 {
     uint16_t name[9] = {0};
     size_t length = 0;
-    if (nard_boot_name_write(NARD_BOOT, number, name, 9, &length) == NARD_OK)
+    if (nard_boot_name_write_utf16(NARD_BOOT, number, name, 9, &length) == NARD_OK)
         lines_put_units(name, length);
 }
 
@@ -56,8 +56,8 @@ static void put_fault(struct reader_fault fault)
 
 static bool has_long_name(const uint16_t *normal, size_t length)
 {
-    size_t place = 0, start = 0, count = 0;
-    while (nard_path_next_component(normal, length, &place, &start, &count))
+    size_t offset = 0, start = 0, count = 0;
+    while (nard_path_next_component(normal, length, &offset, &start, &count))
         if (LINES_MOST_NAME < count)
             return true;
     return false;
@@ -65,10 +65,10 @@ static bool has_long_name(const uint16_t *normal, size_t length)
 
 bool lines_normal(const struct reader *reader, uint16_t *normal, size_t *length, const char **reason, uint16_t *character)
 {
-    uint32_t refused =
-        nard_path_normalize(reader->path, reader->path_length + 1, normal, READER_MOST_UNITS, length, character);
-    *reason = refused != NARD_OK ? nard_reason_text(refused) : "a name is longer than file systems hold";
-    return refused == NARD_OK && !has_long_name(normal, *length);
+    nard_status status =
+        nard_path_normalize(reader->path, reader->path_length + 1, normal, READER_MOST_UNITS, length, NULL, character);
+    *reason = status != NARD_OK ? nard_status_text(status) : "a name is longer than file systems hold";
+    return status == NARD_OK && !has_long_name(normal, *length);
 }
 
 /* Returns whether firmware starts a path from a disk without an entry (section 3.5.1.1), ignoring case. */

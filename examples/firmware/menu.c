@@ -7,6 +7,7 @@
 #include <efi.h>
 
 #include "lines.h"
+#include "nardcorbel_nodes.h"
 
 _Static_assert(sizeof(CHAR16) == 2 && sizeof(UINTN) == sizeof(size_t), "the types of UEFI are not those of the reader");
 
@@ -64,9 +65,8 @@ static EFI_STATUS read_variable(const uint16_t *name, void *buffer, size_t room,
 static EFI_STATUS read_entry(uint16_t number, size_t *size)
 {
     uint16_t name[MOST_NAME];
-    size_t length = 0;
-    nard_result reason = nard_boot_name_write(NARD_BOOT, number, name, MOST_NAME, &length);
-    return reason == NARD_OK ? read_variable(name, variable, sizeof variable, size) : NARD_EFI_STATUS(reason);
+    nard_status status = nard_boot_name_write_utf16(NARD_BOOT, number, name, MOST_NAME, NULL);
+    return status == NARD_OK ? read_variable(name, variable, sizeof variable, size) : nard_to_efi_status(status);
 }
 
 /* The device path of a handle, and how many bytes it has, which the firmware says. */
@@ -87,8 +87,8 @@ static bool lies_on_disk(EFI_HANDLE handle, const struct reader *of)
     const uint8_t *node = of->bytes + of->disk;
     size_t size = 0, length = 0, data = of->disk_size - NODE_HEADER;
     const uint8_t *path = path_of(handle, &size);
-    return path != NULL && nard_device_path_begin(disk, MOST_TARGET, &length) == NARD_OK &&
-           nard_device_path_push(disk, MOST_TARGET, node[0], node[1], node + NODE_HEADER, data, &length) == NARD_OK &&
+    return path != NULL && nard_device_path_init(disk, MOST_TARGET, &length) == NARD_OK &&
+           nard_device_path_push(disk, MOST_TARGET, length, NARD_HARD_DRIVE, node + NODE_HEADER, data, &length, NULL) == NARD_OK &&
            nard_device_path_is_expansion(path, size, disk, length);
 }
 
@@ -142,12 +142,13 @@ static bool write_target(uint8_t *target, EFI_HANDLE volume, const uint16_t *nor
 {
     static uint16_t whole[MOST_TARGET / 2];
     static const uint16_t root[2] = {'\\', 0};
-    size_t size = 0, place = 0, end = 0;
+    size_t size = 0, whole_length = 0, end = 0;
     const uint8_t *path = path_of(volume, &size);
-    return path != NULL && nard_path_join(root, 2, normal, length + 1, whole, MOST_TARGET / 2, &place) == NARD_OK &&
-           nard_device_path_begin(target, MOST_TARGET, &end) == NARD_OK &&
-           nard_device_path_append(target, MOST_TARGET, path, size, &end) == NARD_OK &&
-           nard_device_path_push(target, MOST_TARGET, MEDIA, FILE_PATH, (const uint8_t *)whole, 2 * (place + 1), &end) == NARD_OK;
+    return path != NULL && nard_path_join(root, 2, normal, length + 1, whole, MOST_TARGET / 2, &whole_length, NULL) == NARD_OK &&
+           nard_device_path_init(target, MOST_TARGET, &end) == NARD_OK &&
+           nard_device_path_append(target, MOST_TARGET, end, path, size, &end, NULL) == NARD_OK &&
+           nard_device_path_push(target, MOST_TARGET, end, NARD_FILE_PATH, (const uint8_t *)whole, 2 * (whole_length + 1), &end, NULL) ==
+               NARD_OK;
 }
 
 /* Loads and starts a file, with what follows the entry's file paths as its options. */
@@ -231,13 +232,13 @@ static void show_entries(void)
 static void put_place(uint16_t number)
 {
     static uint16_t text[MOST_TEXT];
-    struct nard_load_option option = {0};
-    size_t size = 0, place = 0;
-    if (read_entry(number, &size) != EFI_SUCCESS || nard_load_option_read(variable, size, &option, &place) != NARD_OK ||
-        nard_device_path_text(variable + option.list_start, option.path_length, false, false, text, MOST_TEXT, &place) != NARD_OK)
+    struct nard_load_option option;
+    size_t size = 0, length = 0;
+    if (read_entry(number, &size) != EFI_SUCCESS || nard_load_option_read(variable, size, &option, NULL) != NARD_OK ||
+        nard_device_path_format_utf16(option.path, option.path_size, NARD_STYLE_UEFI, text, MOST_TEXT, &length, NULL) != NARD_OK)
         return;
     lines_put("    ");
-    lines_put_units(text, place);
+    lines_put_units(text, length);
     lines_put("\n");
 }
 

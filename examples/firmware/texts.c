@@ -54,17 +54,17 @@ static size_t length_of(const CHAR16 *text)
 }
 
 /* Compares our text of a path or of a node with that of the firmware, and frees the firmware's. */
-static void compare_texts(nard_result reason, const uint16_t *ours, size_t length, CHAR16 *theirs, const char *form, size_t number)
+static void compare_texts(nard_status status, const uint16_t *ours, size_t length, CHAR16 *theirs, const char *form, size_t number)
 {
     size_t their_length = length_of(theirs), same = 0;
-    while (reason == NARD_OK && same < length && same < their_length && ours[same] == theirs[same])
+    while (status == NARD_OK && same < length && same < their_length && ours[same] == theirs[same])
         same++;
-    if (reason != NARD_OK || same < length || same < their_length) {
+    if (status != NARD_OK || same < length || same < their_length) {
         differ++;
         lines_put_number(number);
         lines_put(form);
         lines_put(" ours ");
-        lines_put_units(ours, reason == NARD_OK ? length : 0);
+        lines_put_units(ours, status == NARD_OK ? length : 0);
         lines_put("\n");
         lines_put_number(number);
         lines_put(" firmware ");
@@ -80,19 +80,20 @@ static void compare(const uint8_t *path, size_t size, bool display_only, bool al
 {
     static uint16_t ours[MOST_UNITS];
     const char *form = display_only ? " shown" : allow_shortcuts ? " short" : "";
-    struct nard_device_node node = {0, 0, 0, 0};
+    const uint32_t style = NARD_STYLE_UEFI | (display_only ? NARD_DISPLAY_ONLY : 0) | (allow_shortcuts ? NARD_ALLOW_SHORTCUTS : 0);
+    struct nard_device_node node;
     size_t length = 0, next = 0;
-    nard_result reason = nard_device_path_text(path, size, display_only, allow_shortcuts, ours, MOST_UNITS, &length);
+    nard_status status = nard_device_path_format_utf16(path, size, style, ours, MOST_UNITS, &length, NULL);
     CHAR16 *theirs = firmware->ConvertDevicePathToText((EFI_DEVICE_PATH *)path, display_only, allow_shortcuts);
     compared++;
-    compare_texts(reason, ours, length, theirs, form, number);
-    for (size_t at = 0; nard_device_path_next_node(path, size, &next, &node) == NARD_OK; at = next) {
-        if (node.device_type == 0x7f)
+    compare_texts(status, ours, length, theirs, form, number);
+    for (size_t at = 0; nard_device_path_next_node(path, size, &next, &node, NULL) == NARD_OK; at = next) {
+        if (node.node_type >> 8 == 0x7f)
             continue;
-        reason = nard_node_text(path + at, size - at, display_only, allow_shortcuts, ours, MOST_UNITS, &length);
+        status = nard_node_format_utf16(path + at, size - at, style, ours, MOST_UNITS, &length, NULL);
         theirs = firmware->ConvertDeviceNodeToText((EFI_DEVICE_PATH *)(path + at), display_only, allow_shortcuts);
         compared_nodes++;
-        compare_texts(reason, ours, length, theirs, form, number);
+        compare_texts(status, ours, length, theirs, form, number);
     }
 }
 
@@ -108,11 +109,11 @@ static void compare_read(const uint8_t *path, size_t size)
 {
     static uint16_t text[MOST_UNITS], again[MOST_UNITS];
     size_t length = 0, length_again = 0, same = 0;
-    if (nard_device_path_text(path, size, false, false, text, MOST_UNITS, &length) != NARD_OK)
+    if (nard_device_path_format_utf16(path, size, NARD_STYLE_UEFI, text, MOST_UNITS, &length, NULL) != NARD_OK)
         return;
     uint8_t *made = (uint8_t *)reader->ConvertTextToDevicePath((CHAR16 *)text);
     size_t made_size = made == NULL ? 0 : sizes->GetDevicePathSize((EFI_DEVICE_PATH *)made);
-    if (nard_device_path_text(made, made_size, false, false, again, MOST_UNITS, &length_again) != NARD_OK)
+    if (nard_device_path_format_utf16(made, made_size, NARD_STYLE_UEFI, again, MOST_UNITS, &length_again, NULL) != NARD_OK)
         length_again = 0;
     read_back++;
     while (same < length && same < length_again && text[same] == again[same])
@@ -160,7 +161,7 @@ static void compare_handles(void)
     services->LocateHandleBuffer(ByProtocol, &device_path, NULL, &count, &handles);
     for (UINTN i = 0; i < count; i++)
         if (services->HandleProtocol(handles[i], &device_path, &found) == EFI_SUCCESS &&
-            nard_device_path_check(found, sizes->GetDevicePathSize(found), &size) == NARD_OK)
+            nard_device_path_check(found, sizes->GetDevicePathSize(found), &size, NULL) == NARD_OK)
             compare_forms(found, size, i);
     put_counts("handles");
 }
@@ -173,17 +174,15 @@ static void compare_entries(void)
     for (size_t i = 0; i < count && i < 256; i++)
         order[i] = (uint16_t)(variable[2 * i] | variable[2 * i + 1] << 8);
     for (size_t i = 0; i < count && i < 256; i++) {
-        struct nard_load_option option = {0};
+        struct nard_load_option option;
         char name[9] = "Boot";
-        size_t fault = 0;
         for (int k = 0; k < 4; k++)
             name[4 + k] = "0123456789ABCDEF"[order[i] >> (12 - 4 * k) & 15];
         size_t size = read_variable(name);
-        if (nard_load_option_read(variable, size, &option, &fault) != NARD_OK)
+        if (nard_load_option_read(variable, size, &option, NULL) != NARD_OK)
             continue;
-        const uint8_t *path = variable + option.list_start;
-        compare_forms(path, option.path_length, order[i]);
-        if (nard_device_path_text(path, option.path_length, false, false, text, MOST_UNITS, &length) == NARD_OK) {
+        compare_forms(option.path, option.path_size, order[i]);
+        if (nard_device_path_format_utf16(option.path, option.path_size, NARD_STYLE_UEFI, text, MOST_UNITS, &length, NULL) == NARD_OK) {
             lines_put_name(order[i]);
             lines_put(" ");
             lines_put_units(text, length);
@@ -196,7 +195,7 @@ static void compare_entries(void)
 static void compare_paths(void)
 {
     size_t end = read_variable("TestPaths"), size = 0;
-    for (size_t at = 0; at < end && nard_device_path_check(variable + at, end - at, &size) == NARD_OK; at += size)
+    for (size_t at = 0; at < end && nard_device_path_check(variable + at, end - at, &size, NULL) == NARD_OK; at += size)
         compare_forms(variable + at, size, at);
     put_counts("paths");
 }

@@ -63,12 +63,12 @@ static void count_wrong(EFI_BOOT_SERVICES *services, size_t *library, size_t *pl
         text[i] = piece[i % sizeof piece];
     EFI_TPL level = services->RaiseTPL(TPL_HIGH_LEVEL);
     uint32_t sum = planted_sum(text, TEXT);
-    uint32_t reason = nard_string_from_utf8(text, TEXT, first, MOST, &first_length);
+    nard_status status = nard_string_from_utf8((const char *)text, TEXT, first, MOST, &first_length, NULL);
     services->RestoreTPL(level);
-    if (reason != NARD_OK)
+    if (status != NARD_OK)
         *library = TURNS;
     for (size_t turn = 0; turn < TURNS; turn++) {
-        bool is_right = nard_string_from_utf8(text, TEXT, units, MOST, &length) == NARD_OK && length == first_length;
+        bool is_right = nard_string_from_utf8((const char *)text, TEXT, units, MOST, &length, NULL) == NARD_OK && length == first_length;
         for (size_t i = 0; is_right && i <= length; i++)
             is_right = units[i] == first[i];
         *library += !is_right;

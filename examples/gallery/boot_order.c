@@ -1,7 +1,7 @@
 /*
  * Edits the order of boot entries in a file, the variable BootOrder as Linux shows it, and prints it.
  *
- *     cc -I include examples/gallery/boot_order.c crates/nardcorbel/out/libnardcorbel.a -o boot_order
+ *     cc -I include examples/gallery/boot_order.c crates/nardcorbel/out/firmware/x86_64-linux-gnu/libnardcorbel.a -o boot_order
  *     cp /sys/firmware/efi/efivars/BootOrder-8be4df61-93ca-11d2-aa0d-00e098032b8c order
  *     ./boot_order order first=0002 insert=000A@1 remove=0001
  *
@@ -17,20 +17,20 @@
 /* The attributes of a variable, which Linux puts before its value, and how many entries there can be. */
 enum { ATTRIBUTES = 4, MOST = 65536 };
 
-static nard_byte bytes[ATTRIBUTES + 2 * MOST];
-static nard_unit order[MOST];
-static nard_size length;
+static uint8_t bytes[ATTRIBUTES + 2 * MOST];
+static uint16_t order[MOST];
+static size_t length;
 
 /* Makes an edit, and returns whether that went well. */
 static bool edit(const char *word)
 {
     unsigned number = 0, place = 0;
     if (sscanf(word, "first=%4x", &number) == 1)
-        return nard_boot_order_move_to_front(order, MOST, &length, (nard_unit)number);
+        return nard_boot_order_move_to_front(order, MOST, &length, (uint16_t)number);
     if (sscanf(word, "remove=%4x", &number) == 1)
-        return nard_boot_order_remove(order, MOST, &length, (nard_unit)number);
+        return nard_boot_order_remove(order, MOST, &length, (uint16_t)number);
     return sscanf(word, "insert=%4x@%u", &number, &place) == 2 &&
-           nard_boot_order_insert(order, MOST, &length, place, (nard_unit)number) == NARD_OK;
+           nard_boot_order_insert(order, MOST, &length, place, (uint16_t)number) == NARD_OK;
 }
 
 int main(int count, char **words)
@@ -48,8 +48,8 @@ int main(int count, char **words)
     printf("BootOrder:");
     for (size_t i = 0; i < length; i++) {
         printf("%c%04X", i == 0 ? ' ' : ',', (unsigned)order[i]);
-        bytes[ATTRIBUTES + 2 * i] = (nard_byte)order[i];
-        bytes[ATTRIBUTES + 2 * i + 1] = (nard_byte)(order[i] >> 8);
+        bytes[ATTRIBUTES + 2 * i] = (uint8_t)order[i];
+        bytes[ATTRIBUTES + 2 * i + 1] = (uint8_t)(order[i] >> 8);
     }
     printf("\n");
     size = ATTRIBUTES + 2 * length;

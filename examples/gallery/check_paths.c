@@ -1,7 +1,7 @@
 /*
  * Says of each name whether it is a path to a boot file, and if not, why.
  *
- *     cc -I include examples/gallery/check_paths.c crates/nardcorbel/out/libnardcorbel.a -o check_paths
+ *     cc -I include examples/gallery/check_paths.c crates/nardcorbel/out/firmware/x86_64-linux-gnu/libnardcorbel.a -o check_paths
  *     ./check_paths '\EFI\BOOT\BOOTX64.EFI' 'EFI/debian/shim?.efi'
  *
  *     EFI/debian/shim?.efi: path contains an illegal character, U+003F
@@ -17,22 +17,21 @@ enum { MOST = 4096 };
 
 static bool check(const char *name)
 {
-    static const nard_unit none[] = {0};
-    static nard_unit text[MOST], path[MOST];
-    nard_size length = 0;
-    nard_unit character = 0;
-    nard_result reason = nard_string_from_utf8((const nard_byte *)name, strlen(name), text, MOST, &length);
-    /* A path to which an empty one is added has its slashes replaced. */
-    if (reason == NARD_OK)
-        reason = nard_path_join(text, MOST, none, 1, path, MOST, &length);
-    if (reason == NARD_OK)
-        reason = nard_path_verdict(path, MOST, &length, &character);
+    static nard_char16 text[MOST], path[MOST];
+    size_t length = 0;
+    nard_char16 character = 0;
+    nard_status status = nard_string_from_utf8(name, NARD_NUL_TERMINATED, text, MOST, &length, NULL);
+    /* A path that is added to an empty one has its slashes replaced. */
+    if (status == NARD_OK)
+        status = nard_path_push(path, MOST, 0, text, length, NULL, NULL);
+    if (status == NARD_OK)
+        status = nard_path_check(path, MOST, NULL, NULL, &character);
 
-    printf("%s: %s", name, reason == NARD_OK ? "accepted" : nard_reason_text(reason));
+    printf("%s: %s", name, status == NARD_OK ? "accepted" : nard_status_text(status));
     if (character != 0)
         printf(", U+%04X", (unsigned)character);
     printf("\n");
-    return reason == NARD_OK;
+    return status == NARD_OK;
 }
 
 int main(int count, char **names)

@@ -1,38 +1,36 @@
 /*
  * Splits paths into their components and their parents.
  *
- *     cc -I include examples/gallery/split_path.c crates/nardcorbel/out/libnardcorbel.a -o split_path
+ *     cc -I include examples/gallery/split_path.c crates/nardcorbel/out/firmware/x86_64-linux-gnu/libnardcorbel.a -o split_path
  *     ./split_path '\EFI\debian\shimx64.efi'
  *
  *       components: EFI, debian, shimx64.efi
  */
 #include <stdio.h>
-#include <string.h>
 
 #include "nardcorbel.h"
 
 enum { MOST = 4096 };
 
-static void print(const char *before, const nard_unit *units, nard_size count)
+static void print(const char *before, const nard_char16 *units, size_t count)
 {
-    static nard_byte shown[3 * MOST + 1];
-    nard_size length = 0;
-    if (nard_utf8_from_units_lossy(units, count, shown, sizeof shown, &length) == NARD_OK)
-        printf("%s%s", before, (const char *)shown);
+    static char shown[3 * MOST + 1];
+    if (nard_string_to_utf8_lossy(units, count, shown, sizeof shown, NULL) == NARD_OK)
+        printf("%s%s", before, shown);
 }
 
 static bool split(const char *name)
 {
-    static nard_unit text[MOST];
-    nard_size length = 0, place = 0, start = 0, size = 0;
-    nard_result reason = nard_string_from_utf8((const nard_byte *)name, strlen(name), text, MOST, &length);
+    static nard_char16 text[MOST];
+    size_t length = 0, fault = 0, offset = 0, start = 0, size = 0;
+    nard_status status = nard_string_from_utf8(name, NARD_NUL_TERMINATED, text, MOST, &length, &fault);
     printf("%s\n", name);
-    if (reason != NARD_OK) {
-        printf("  refused: %s, at %zu\n", nard_reason_text(reason), length);
+    if (status != NARD_OK) {
+        printf("  refused: %s, at %zu\n", nard_status_text(status), fault);
         return false;
     }
     printf("  components:");
-    for (const char *before = " "; nard_path_next_component(text, length, &place, &start, &size); before = ", ")
+    for (const char *before = " "; nard_path_next_component(text, length, &offset, &start, &size); before = ", ")
         print(before, text + start, size);
     printf("\n  parents:");
     for (const char *before = " "; nard_path_parent_length(text, length, &length); before = ", ")

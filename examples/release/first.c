@@ -5,16 +5,16 @@
 int main(void)
 {
     static const char text[] = "\\EFI\\debian\\..\\BOOT\\.\\BOOTX64.EFI";
-    nard_unit normal[2 * sizeof text] = {0}, character = 0;
-    nard_byte line[sizeof text] = {0};
-    nard_size length = 0;
-    nard_result reason =
-        nard_path_normalize_utf8((const nard_byte *)text, sizeof text - 1, normal, 2 * sizeof text, &length, &character);
-    if (reason == NARD_OK)
-        reason = nard_utf8_from_string(normal, sizeof text, line, sizeof line, &length);
-    if (reason != NARD_OK)
-        fprintf(stderr, "%s, at %zu\n", nard_reason_text(reason), length);
+    nard_char16 normal[2 * sizeof text];
+    char line[sizeof text];
+    size_t fault = 0;
+
+    nard_status status = nard_path_normalize_utf8(text, NARD_NUL_TERMINATED, normal, 2 * sizeof text, NULL, &fault, NULL);
+    if (status == NARD_OK)
+        status = nard_string_to_utf8(normal, NARD_NUL_TERMINATED, line, sizeof line, NULL, &fault);
+    if (status != NARD_OK)
+        fprintf(stderr, "%s, at %zu\n", nard_status_text(status), fault);
     else
-        puts((const char *)line);
-    return reason == NARD_OK ? 0 : 1;
+        puts(line);
+    return status == NARD_OK ? 0 : 1;
 }

@@ -14,14 +14,11 @@ use Rattle.std.proofs.lemmas.Str.{IsUtf8-from_is_utf8, is_utf8-from_IsUtf8, scal
 use Rattle.std.specs.Str.{IsUtf8, chars, is_utf8}
 use Rattle.std.specs.Str.Lossy.{utf8_valid_len}
 use Rattle.uefi_text.proofs.Accepting.{until_nul_refusal-begins}
-use Rattle.uefi_path.specs.Separators.{with_separators}
-use Rattle.uefi_path.specs.Verdicts.{verdict}
-use Rattle.uefi_path.specs.declared.validation.PathError.{PathError}
-use Rattle.nardcorbel.specs.Buffers.{HasStringIn, first_half, normalized, second_half}
-use Rattle.nardcorbel.specs.Outcomes.{Outcome, Shows, when_read, buffer_shown, place_shown, reason_shown, refusal_at, unless}
+use Rattle.nardcorbel.specs.Buffers.{HasStringIn, first_half, second_half}
+use Rattle.nardcorbel.specs.Outcomes.{Outcome, when_read, buffer_shown, reason_shown, refusal_at, unless}
 use Rattle.nardcorbel.specs.Outcomes.Outcome.{Text}
 use Rattle.nardcorbel.specs.Reading.{read_string, read_utf8, string_of_utf8, value_or}
-use Rattle.nardcorbel.specs.Reasons.{character_reason, path_reason}
+use Rattle.nardcorbel.specs.Reasons.{character_reason}
 use Rattle.nardcorbel.specs.Refusals.{string_refusal}
 use Rattle.nardcorbel.specs.Strings.{text_until_nul}
 use Rattle.nardcorbel.specs.declared.reasons.TheConstants.{NOT_UTF8, OK}
@@ -108,21 +105,6 @@ refused_kept (Outcome.Number number) buffer other = refl
 refused_kept (Outcome.Text text) buffer other = grind (arith, common_steps)
 refused_kept (Outcome.Content content) buffer other = grind (arith, common_steps)
 refused_kept (Outcome.Refused refusal) buffer other = refl
-
--- a normal path, or why there is none, has a place of its own
-place_alike : (r : Option PathError) (place before other : ℕ) (text : List ℕ)
-    → place_shown (unless r (λ error. refusal_at (path_reason error) place) (Text text)) before
-    ≡ place_shown (unless r (λ error. refusal_at (path_reason error) place) (Text text)) other
-place_alike None place before other text = refl
-place_alike (Some error) place before other text = refl
-
-pub normal_shown : (text old new : List ℕ) (before other returned number : ℕ) → Shows (normalized text) before old returned number new
-    → Shows (normalized text) other old returned number new
-normal_shown text old new before other returned number shown = record {
-  reason = shown.reason;
-  place = shown.place ∙ place_alike (verdict (with_separators text)) (length text) before other _;
-  buffer = shown.buffer;
-}
 
 -- the halves of a buffer after both were written
 pub halves : (buffer one two : List ℕ) → length one ≡ length (first_half buffer) → length two ≡ length (second_half buffer)

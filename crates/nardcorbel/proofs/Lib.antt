@@ -6,3 +6,4 @@ mod Judged
 mod FirstUnits
 mod Halves
 pub mod Rooms
+mod Ends

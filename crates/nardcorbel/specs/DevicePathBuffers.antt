@@ -1,19 +1,11 @@
 -- What becomes of device paths and load options that C writes.
-use Rattle.std.specs.Prelude.{ℕ, List, [], ◌++◌, ◌∷◌}
+use Rattle.std.specs.Prelude.{ℕ, List, [], ◌∷◌}
 use Rattle.uefi_device_path.specs.LoadOptions.{Entry, entry_bytes}
 use Rattle.uefi_device_path.specs.Nodes.{Node}
 use Rattle.uefi_device_path.specs.OptionBuilding.{fields_fault}
-use Rattle.uefi_device_path.specs.Paths.{path_bytes}
-use Rattle.uefi_device_path.specs.TextStyle.{TextStyle}
-use Rattle.nardcorbel.specs.Outcomes.{Outcome, when_read, unless}
+use Rattle.nardcorbel.specs.Outcomes.{Outcome, unless}
 use Rattle.nardcorbel.specs.Outcomes.Outcome.{Content}
-use Rattle.nardcorbel.specs.Reading.{read_text, read_utf8}
 use Rattle.nardcorbel.specs.Refusals.{option_refused}
-
--- the nodes of a text in UTF-8, read in a style, are added to these
-abbrev pub added_text : TextStyle → List ℕ → List Node → Outcome
-added_text style bytes nodes = when_read (read_utf8 bytes) (λ text.
-    when_read (read_text style text) (λ others. Content (path_bytes (nodes ++ others))))
 
 -- the load option of one device path
 abbrev pub entry_of_path : ℕ → List ℕ → List Node → List ℕ → Entry

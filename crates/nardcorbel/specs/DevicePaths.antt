@@ -1,5 +1,5 @@
 -- What bytes show: a node of a device path, its text, and the parts of a load option.
-use Rattle.std.specs.Prelude.{◌≡◌, ℕ, ◌+◌, ◌*◌, All, List, ◌++◌, ◌∷◌, length, slice_range, Result, Ok, Err}
+use Rattle.std.specs.Prelude.{◌≡◌, ℕ, ◌+◌, ◌*◌, ◌/◌, ◌%◌, All, List, ◌++◌, ◌∷◌, length, slice_range, Result, Ok, Err}
 use Rattle.std.specs.Result.{result_map_both}
 use Rattle.uefi_device_path.specs.Nodes.{Node, node_bytes, node_with}
 use Rattle.uefi_device_path.specs.FilePaths.{FileRefusedFor, IsReadable, file_path}
@@ -18,7 +18,8 @@ use Rattle.nardcorbel.specs.declared.load_options.LoadOptionParts.{LoadOptionPar
 -- the node whose data stand in bytes from its start on
 abbrev pub node_in : List ℕ → DeviceNode → Node
 node_in bytes node =
-    node_with node.device_type node.sub_type (slice_range bytes node.start (node.start + node.length))
+    node_with (node.node_type / 256) (node.node_type % 256)
+    (slice_range bytes node.data_offset (node.data_offset + node.data_size))
 
 -- what is reported of how far bytes go from an offset on: where the next node begins, and how many bytes
 -- there have to be
@@ -42,11 +43,11 @@ file_outcome file = when_read (result_map_both (λ path. path) nameless_refusal 
 -- where the parts of a load option stand in its bytes, one after the other, and how long they are
 pub record HasParts (entry : Entry) (parts : LoadOptionParts) : Type 0 where
   pub attributes : parts.attributes ≡ entry.attributes
-  pub description_start : parts.description_start ≡ 6
+  pub description_offset : parts.description_offset ≡ 6
   pub description_length : parts.description_length ≡ length entry.description
-  pub list_start : parts.list_start ≡ 6 + 2 * (length entry.description + 1)
-  pub list_length : parts.list_length ≡ length (list_bytes entry.paths)
-  pub path_length : (first : List Node) (others : List (List Node)) → entry.paths ≡ first ∷ others
-      → parts.path_length ≡ length (path_bytes first)
-  pub optional_start : parts.optional_start ≡ parts.list_start + parts.list_length
-  pub optional_length : parts.optional_length ≡ length entry.optional
+  pub path_list_offset : parts.path_list_offset ≡ 6 + 2 * (length entry.description + 1)
+  pub path_list_size : parts.path_list_size ≡ length (list_bytes entry.paths)
+  pub first_path_size : (first : List Node) (others : List (List Node)) → entry.paths ≡ first ∷ others
+      → parts.first_path_size ≡ length (path_bytes first)
+  pub optional_data_offset : parts.optional_data_offset ≡ parts.path_list_offset + parts.path_list_size
+  pub optional_data_size : parts.optional_data_size ≡ length entry.optional

@@ -4,7 +4,7 @@ use Rattle.std.specs.List.{list_any}
 use Rattle.uefi_text.specs.FromStrWithBuf.{with_units}
 use Rattle.uefi_fat.specs.LongNames.{name_refusal}
 use Rattle.uefi_fat.specs.Oem.{fat_bytes, is_unfit, kept_units}
-use Rattle.nardcorbel.specs.Outcomes.{Outcome, refusal_at, unless}
+use Rattle.nardcorbel.specs.Outcomes.{Outcome, refusal_for, unless}
 use Rattle.nardcorbel.specs.Outcomes.Outcome.{Number}
 use Rattle.nardcorbel.specs.Reasons.{fat_name_reason}
 use Rattle.nardcorbel.specs.declared.reasons.TheConstants.{CHAR_REPLACED, OK}
@@ -12,7 +12,7 @@ use Rattle.nardcorbel.specs.declared.reasons.TheConstants.{CHAR_REPLACED, OK}
 -- the length of a text that a file can have as its name
 abbrev pub checked_name : List ℕ → Outcome
 checked_name text =
-    unless (name_refusal text) (λ error. refusal_at (fat_name_reason error) (length text))
+    unless (name_refusal text) (λ error. refusal_for (fat_name_reason error))
     (Number (length text))
 
 -- whether a character was written in place of another

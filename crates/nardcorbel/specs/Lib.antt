@@ -6,9 +6,10 @@ pub mod Reading
 pub mod Buffers
 pub mod DevicePaths
 pub mod DevicePathBuffers
+pub mod PathEnds
+pub mod DevicePathTexts
+pub mod TextStyles
 pub mod BootVariables
 pub mod NodeNumbers
 pub mod Paths
 pub mod FatNames
-pub mod TextFaults
-pub mod Utf16Texts

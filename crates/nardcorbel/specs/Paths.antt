@@ -11,13 +11,15 @@ abbrev pub verdict_reason : Option PathError → ℕ
 verdict_reason None = OK
 verdict_reason (Some error) = path_reason error
 
--- the place that is reported of a path, by the verdict on it: that of its fault, or after its text
-abbrev pub IsPlaceOfFault : Option PathError → List ℕ → ℕ → Type 0
-IsPlaceOfFault None text place = place ≡ length text
-IsPlaceOfFault (Some error) text place = IsRefusedAt text (record { error = error; place = place })
+-- the numbers that are reported of a path, by the verdict on it: the length of its text, or where its
+-- fault is
+abbrev pub AreOfVerdict : Option PathError → List ℕ → ℕ → ℕ → ℕ → ℕ → Type 0
+AreOfVerdict None text before wrong len fault = (len ≡ length text) × (fault ≡ wrong)
+AreOfVerdict (Some error) text before wrong len fault =
+    (len ≡ before) × IsRefusedAt text (record { error = error; place = fault })
 
 -- a caller sees the verdict on a path, where the path is at fault, and the character for which it is
-pub record ShowsVerdict (text : List ℕ) (returned number refused : ℕ) : Type 0 where
+pub record ShowsVerdict (text : List ℕ) (before wrong returned len fault refused : ℕ) : Type 0 where
   pub reason : returned ≡ verdict_reason (verdict text)
-  pub place : IsPlaceOfFault (verdict text) text number
+  pub numbers : AreOfVerdict (verdict text) text before wrong len fault
   pub character : refused ≡ refused_character (verdict text)

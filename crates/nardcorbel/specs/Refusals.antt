@@ -19,9 +19,7 @@ use Rattle.uefi_device_path.specs.declared.errors.OptionBuildError.TheVariants a
 use Rattle.uefi_device_path.specs.declared.text_errors.PushTextError.{PushTextError}
 use Rattle.uefi_device_path.specs.declared.text_errors.PushTextError.TheVariants as text
 use Rattle.uefi_device_path.specs.declared.text_errors.TextFault.{TextFault}
-use Rattle.uefi_device_path.specs.TextStyle.{TextStyle}
-use Rattle.uefi_device_path.specs.TextStyle.TheVariants.{Printed, Lenient, Libefivar}
-use Rattle.nardcorbel.specs.Outcomes.{refusal_at, refusal_for}
+use Rattle.nardcorbel.specs.Outcomes.{refusal_at, refusal_for, too_small}
 use Rattle.nardcorbel.specs.Reasons.{name_reason, node_reason, option_reason, with_nul_reason}
 use Rattle.nardcorbel.specs.declared.outcomes.Refusal.{Refusal}
 use Rattle.nardcorbel.specs.declared.reasons.TheConstants.{NO_NUL, INVALID_CHAR, INTERIOR_NUL, BUFFER_TOO_SMALL, EMPTY_LIST, NODE_OF_END, NODE_TOO_LONG, LIST_TOO_LONG, NO_NODE}
@@ -47,7 +45,7 @@ with_nul_refused units error = refusal_at (with_nul_reason error) (with_nul_plac
 
 -- a text that has no room: its length
 abbrev pub room_refused : BufferTooSmall → Refusal
-room_refused error = refusal_at BUFFER_TOO_SMALL (error.0 - 1)
+room_refused error = too_small (error.0 - 1)
 
 -- bytes that begin with no device path, or with no node
 abbrev pub path_refusal : DevicePathError → Refusal
@@ -60,11 +58,11 @@ node_refusal cause = refusal_at (node_reason cause) (fault_place cause)
 abbrev pub nameless_refusal : FilePathError → Refusal
 nameless_refusal error = refusal_at (name_reason error.cause) error.offset
 
--- a node that is not added: the place is how long the path had to be; memory is never the reason
+-- a node that is not added; memory is never the reason
 abbrev pub build_refused : BuildError → Refusal
 build_refused build.EndNode = refusal_for NODE_OF_END
 build_refused build.NodeTooLong = refusal_for NODE_TOO_LONG
-build_refused (build.BufferTooSmall needed) = refusal_at BUFFER_TOO_SMALL needed
+build_refused (build.BufferTooSmall needed) = too_small needed
 build_refused build.OutOfMemory = refusal_for BUFFER_TOO_SMALL
 
 -- the same where the path in the buffer may be at fault
@@ -76,24 +74,21 @@ grow_refused (grow.Build error) = build_refused error
 abbrev pub entry_refusal : LoadOptionError → Refusal
 entry_refusal error = refusal_at (option_reason error.cause) error.offset
 
--- a load option that is not written: the place is how long it is; memory is never the reason
+-- a load option that is not written; memory is never the reason
 abbrev pub option_refused : OptionBuildError → Refusal
 option_refused (option.NulInDescription at) = refusal_for INTERIOR_NUL
 option_refused option.EmptyList = refusal_for EMPTY_LIST
 option_refused option.ListTooLong = refusal_for LIST_TOO_LONG
 option_refused option.TooLong = refusal_for LIST_TOO_LONG
-option_refused (option.BufferTooSmall needed) = refusal_at BUFFER_TOO_SMALL needed
+option_refused (option.BufferTooSmall needed) = too_small needed
 option_refused option.OutOfMemory = refusal_for BUFFER_TOO_SMALL
 
--- the fault of a text in a style: where its node begins if the style is that of printed texts, and
--- otherwise the byte that is wrong
-abbrev pub fault_refusal : TextStyle → TextFault → Refusal
-fault_refusal Printed fault = refusal_at NO_NODE fault.node
-fault_refusal Lenient fault = refusal_at NO_NODE fault.byte
-fault_refusal Libefivar fault = refusal_at NO_NODE fault.byte
+-- a text that is not a path: the byte that is wrong
+abbrev pub fault_refusal : TextFault → Refusal
+fault_refusal fault = refusal_at NO_NODE fault.byte
 
--- a text in a style whose nodes are not added
-abbrev pub text_refused : TextStyle → PushTextError → Refusal
-text_refused style (text.Path error) = path_refusal error
-text_refused style (text.NoNode fault) = fault_refusal style fault
-text_refused style (text.BufferTooSmall needed) = refusal_at BUFFER_TOO_SMALL needed
+-- a text whose nodes are not added
+abbrev pub text_refused : PushTextError → Refusal
+text_refused (text.Path error) = path_refusal error
+text_refused (text.NoNode fault) = fault_refusal fault
+text_refused (text.BufferTooSmall needed) = too_small needed

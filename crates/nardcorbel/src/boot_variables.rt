@@ -1,6 +1,7 @@
 //! Names of load options, and orders of load options, in units that C holds (UEFI Specification
 //! 2.10, section 3.3).
-ghost use Rattle.std.specs.Prelude.{◌≡◌, ◌≢◌, ◌↔◌, ◌%◌, ◌<◌, ◌≤◌, ◌^◌, false, length, slice_get, take, Err, Some};
+ghost use Rattle.std.specs.Prelude.{◌≡◌, ◌≢◌, ℕ, ◌↔◌, ◌%◌, ◌<◌, ◌≤◌, ◌^◌, false, length, slice_get, take, Err, Some};
+ghost use Rattle.std.specs.Str.{IsUtf8};
 ghost use Rattle.uefi_boot_variables.specs.declared.variable_names.LoadOptionKind.{LoadOptionKind};
 ghost use Rattle.uefi_boot_variables.specs.declared.variable_names.LoadOptionName.{LoadOptionName};
 ghost use Rattle.uefi_boot_variables.specs.Names.{name_text};
@@ -14,22 +15,22 @@ ghost use Rattle.nardcorbel.specs.Reading.{read_string};
 ghost use Rattle.nardcorbel.specs.Strings.{text_until_nul};
 ghost use Rattle.nardcorbel.specs.declared.outcomes.Refusal.{Refusal};
 
-use crate::outcomes::{Refusal, read_string, report};
-use crate::reasons::{BUFFER_TOO_SMALL, END_OF_ORDER, NOT_A_NAME, ODD_BYTES, OK};
+use crate::outcomes::{read_string, report_written};
+use crate::reasons::{BUFFER_TOO_SMALL, END, NOT_A_NAME, ODD_BYTES, OK};
 use uefi_boot_variables::order_edits::{contains, insert, move_to_front, remove};
 use uefi_boot_variables::{LoadOptionKind, LoadOptionName, LoadOrder};
 
 /// `Boot####`.
-pub const BOOT: u8 = 0;
+pub const BOOT: u32 = 0;
 
 /// `Driver####`.
-pub const DRIVER: u8 = 1;
+pub const DRIVER: u32 = 1;
 
 /// `SysPrep####`.
-pub const SYS_PREP: u8 = 2;
+pub const SYS_PREP: u32 = 2;
 
 /// `PlatformRecovery####`.
-pub const PLATFORM_RECOVERY: u8 = 3;
+pub const PLATFORM_RECOVERY: u32 = 3;
 
 /// Does nothing. Its clauses state the numbers that `include/nardcorbel.h` gives the kinds.
 #[doc(hidden)]
@@ -41,7 +42,7 @@ pub fn kinds()
 {}
 
 /// Returns the number of a kind.
-fn kind_number(kind: LoadOptionKind) -> u8
+fn kind_number(kind: LoadOptionKind) -> u32
     ensures { result ≡ kind_number kind }
 {
     match kind {
@@ -53,7 +54,7 @@ fn kind_number(kind: LoadOptionKind) -> u8
 }
 
 /// Returns the kind that has a number.
-fn kind_of(number: u8) -> Option<LoadOptionKind>
+fn kind_of(number: u32) -> Option<LoadOptionKind>
     ensures { (kind : LoadOptionKind) → ((result ≡ Some kind) ↔ (number ≡ kind_number kind)) }
 {
     match number {
@@ -65,14 +66,40 @@ fn kind_of(number: u8) -> Option<LoadOptionKind>
     }
 }
 
+/// Reads a text in UTF-8 as the name of a load option, for example `Boot001F`.
+///
+/// At `OK`, `kind` becomes its kind and `number` its number. A text that `LoadOptionName::from_text` does not
+/// read is rejected as `NOT_A_NAME`; `kind` and `number` are then unchanged. Does not allocate.
+#[unsafe(no_mangle)]
+pub extern "C" fn nard_boot_name_read(text: &[u8], kind: &mut u32, number: &mut u16) -> u32
+    ensures name { IsUtf8 text.now → (name : LoadOptionName) → name.number < 2 ^ 16
+        → text.now ≡ name_text name
+        → (result ≡ OK) × (kind.new ≡ kind_number name.kind) × (number.new ≡ name.number) }
+    ensures ok { result ≡ OK → IsUtf8 text.now × ((name : LoadOptionName)
+        × (name.number < 2 ^ 16) × (text.now ≡ name_text name)) }
+    ensures refused { result ≢ OK → result ≡ NOT_A_NAME }
+    ensures unchanged { result ≢ OK → (kind.new ≡ kind.old) × (number.new ≡ number.old) }
+{
+    let Ok(text) = str::from_utf8(text) else {
+        return NOT_A_NAME;
+    };
+    match LoadOptionName::from_text(text) {
+        Some(name) => {
+            *kind = kind_number(name.kind);
+            *number = name.number;
+            OK
+        }
+        None => NOT_A_NAME,
+    }
+}
+
 /// Reads the string at the start of units as the name of a load option, for example `Boot001F`.
 ///
-/// At `OK`, `kind` becomes its kind and `number` its number. Units that do not begin with a string
-/// are refused as by `nard_string_until_nul`; a string that `LoadOptionName::from_cstr16` does not
-/// read is refused as `NOT_A_NAME`. If the call fails, `kind` and `number` are unchanged. Does not
-/// allocate.
+/// At `OK`, `kind` becomes its kind and `number` its number. Units that do not begin with a string are
+/// rejected as by `nard_string_length`; a string that `LoadOptionName::from_cstr16` does not read is
+/// rejected as `NOT_A_NAME`. If the call fails, `kind` and `number` are unchanged. Does not allocate.
 #[unsafe(no_mangle)]
-pub extern "C" fn nard_boot_name_read(units: &[u16], kind: &mut u8, number: &mut u16) -> u32
+pub extern "C" fn nard_boot_name_read_utf16(units: &[u16], kind: &mut u32, number: &mut u16) -> u32
     ensures no_string { (refusal : Refusal) → read_string units.now ≡ Err refusal
         → result ≡ refusal.reason }
     ensures name { BeginsWithString units.now → (name : LoadOptionName) → name.number < 2 ^ 16
@@ -100,57 +127,56 @@ pub extern "C" fn nard_boot_name_read(units: &[u16], kind: &mut u8, number: &mut
 /// Writes the name of the load option with a kind and a number as a string to the start of a
 /// buffer.
 ///
-/// A kind above 3 is refused as `NOT_A_NAME`, and `place` is unchanged. Otherwise `place` becomes
-/// the length of the name in units, and a buffer with at most that many places is refused as
-/// `BUFFER_TOO_SMALL`. If the call fails, the buffer is unchanged. Units after the NUL are never
-/// changed. Does not allocate.
-/// changed. Does not allocate.
+/// A kind above 3 is rejected as `NOT_A_NAME`, and `len` is unchanged. Otherwise `len` becomes the length
+/// of the name in units, and a buffer with at most that many places is rejected as `BUFFER_TOO_SMALL`. If
+/// the call fails, the buffer is unchanged. Units after the NUL are never changed. Does not allocate.
 #[unsafe(no_mangle)]
-pub extern "C" fn nard_boot_name_write(
-    kind: u8,
+pub extern "C" fn nard_boot_name_write_utf16(
+    kind: u32,
     number: u16,
     buffer: &mut [u16],
-    place: &mut usize,
+    len: &mut usize,
 ) -> u32
-    ensures unknown { 3 < kind → Shows (Refused (refusal_for NOT_A_NAME)) place.old buffer.old
-        result place.new buffer.new }
-    ensures name { (name : LoadOptionName) → kind ≡ kind_number name.kind → number ≡ name.number
-        → Shows (Text (name_text name)) place.old buffer.old result place.new buffer.new }
+    ensures unknown { (fault : ℕ) → 3 < kind → Shows (Refused (refusal_for NOT_A_NAME))
+        len.old fault buffer.old result len.new fault buffer.new }
+    ensures name { (fault : ℕ) → (name : LoadOptionName) → kind ≡ kind_number name.kind
+        → number ≡ name.number → Shows (Text (name_text name))
+        len.old fault buffer.old result len.new fault buffer.new }
     ensures length { (name : LoadOptionName) → kind ≡ kind_number name.kind → number ≡ name.number
-        → place.new ≡ length (name_text name) }
+        → len.new ≡ length (name_text name) }
 {
     let Some(kind) = kind_of(kind) else {
         return NOT_A_NAME;
     };
     let name = LoadOptionName { kind, number };
-    report(name.write_cstr16(buffer), place)
+    report_written(name.write_cstr16(buffer), len)
 }
 
 /// Reads the number at an index of an order from the bytes of a variable such as `BootOrder`.
-/// Returns `OK`, or `END_OF_ORDER` if the index is at the end or beyond it.
+/// Returns `OK`, or `END` if the index is at the end or beyond it.
 ///
 /// An odd number of bytes is refused as `ODD_BYTES`, whatever the index. At `OK`, `number` becomes
 /// the number at the index; otherwise it is unchanged. Does not allocate.
 #[unsafe(no_mangle)]
-pub extern "C" fn nard_boot_order_read(bytes: &[u8], place: usize, number: &mut u16) -> u32
+pub extern "C" fn nard_boot_order_read(bytes: &[u8], index: usize, number: &mut u16) -> u32
     ensures odd { (result ≡ ODD_BYTES) ↔ (length bytes.now % 2 ≡ 1) }
     ensures number { result ≡ OK
-        → slice_get (units_of_bytes bytes.now) place ≡ Some number.new }
-    ensures ok { length bytes.now % 2 ≡ 0 → place < length (units_of_bytes bytes.now)
+        → slice_get (units_of_bytes bytes.now) index ≡ Some number.new }
+    ensures ok { length bytes.now % 2 ≡ 0 → index < length (units_of_bytes bytes.now)
         → result ≡ OK }
-    ensures end { length bytes.now % 2 ≡ 0 → length (units_of_bytes bytes.now) ≤ place
-        → result ≡ END_OF_ORDER }
+    ensures end { length bytes.now % 2 ≡ 0 → length (units_of_bytes bytes.now) ≤ index
+        → result ≡ END }
     ensures unchanged { result ≢ OK → number.new ≡ number.old }
 {
     let Ok(order) = LoadOrder::from_bytes(bytes) else {
         return ODD_BYTES;
     };
-    match order.get(place) {
+    match order.get(index) {
         Some(found) => {
             *number = found;
             OK
         }
-        None => END_OF_ORDER,
+        None => END,
     }
 }
 
@@ -165,19 +191,19 @@ pub extern "C" fn nard_boot_order_read(bytes: &[u8], place: usize, number: &mut 
 pub extern "C" fn nard_boot_order_insert(
     order: &mut [u16],
     count: &mut usize,
-    place: usize,
+    index: usize,
     number: u16,
 ) -> u32
     ensures small { (result ≡ BUFFER_TOO_SMALL)
         ↔ ((stands_in number (take count.old order.old) ≡ false) × (length order.old ≤ count.old)) }
     ensures ok { result ≢ BUFFER_TOO_SMALL → result ≡ OK }
     ensures order { result ≡ OK
-        → order.new ≡ over (with_at place number (take count.old order.old)) order.old }
+        → order.new ≡ over (with_at index number (take count.old order.old)) order.old }
     ensures count { result ≡ OK
-        → count.new ≡ length (with_at place number (take count.old order.old)) }
+        → count.new ≡ length (with_at index number (take count.old order.old)) }
     ensures unchanged { result ≢ OK → (order.new ≡ order.old) × (count.new ≡ count.old) }
 {
-    match insert(order, *count, place, number) {
+    match insert(order, *count, index, number) {
         Ok(len) => {
             *count = len;
             OK

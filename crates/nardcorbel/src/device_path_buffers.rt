@@ -1,225 +1,96 @@
 //! Device paths and load options that C writes into its own buffers, and comparisons of device
 //! paths.
-ghost use Rattle.std.specs.Prelude.{◌≡◌, ◌↔◌, ◌+◌, ◌%◌, ◌^◌, ◌≤◌, ◌++◌, ◌∷◌, [], IsTrue, List, length};
-ghost use Rattle.uefi_device_path.specs.Building.{build_refusal, push_at_refusal, pushed_at};
+ghost use Rattle.std.specs.Prelude.{◌≡◌, ◌↔◌, ◌+◌, ◌/◌, ◌%◌, ◌≤◌, ◌++◌, ◌∷◌, [], ℕ, IsTrue, List, length};
+ghost use Rattle.uefi_device_path.specs.Building.{push_at_refusal, pushed_at};
 ghost use Rattle.uefi_device_path.specs.Matching.{IsExpansion};
 ghost use Rattle.uefi_device_path.specs.Nodes.{Node, node_with};
 ghost use Rattle.uefi_device_path.specs.Paths.{BeginWithPath, path_bytes};
-ghost use Rattle.uefi_device_path.specs.TextStyle.TheVariants.{Lenient, Libefivar, Printed};
-ghost use Rattle.nardcorbel.specs.DevicePathBuffers.{added_text, entry_of_path, written_entry};
+ghost use Rattle.nardcorbel.specs.DevicePathBuffers.{entry_of_path, written_entry};
 ghost use Rattle.nardcorbel.specs.Outcomes.{Shows, when_read, unless};
 ghost use Rattle.nardcorbel.specs.Outcomes.Outcome.{Content};
+ghost use Rattle.nardcorbel.specs.PathEnds.{append_at_refusal, extended};
 ghost use Rattle.nardcorbel.specs.Reading.{read_path, read_string};
-ghost use Rattle.nardcorbel.specs.Refusals.{build_refused, grow_refused, text_refused};
+ghost use Rattle.nardcorbel.specs.Refusals.{grow_refused};
 
-use crate::outcomes::{Refusal, Refused, read_path, read_string, read_utf8, refuse, report};
-use crate::reasons::{BUFFER_TOO_SMALL, NO_NODE};
+use crate::outcomes::{read_path, read_string, refuse, report};
+use crate::path_ends::append_at;
+use crate::reasons::{BUFFER_TOO_SMALL, OK};
 use uefi_device_path::build::RawNode;
-use uefi_device_path::{
-    DevicePath, DeviceSubType, DeviceType, LoadOptionBuilder, PushTextError, TextStyle,
-    append_in_buf, push_at_in_buf, push_in_buf, push_styled_text_in_buf,
-};
+use uefi_device_path::{DevicePath, DeviceSubType, DeviceType, LoadOptionBuilder, push_at_in_buf};
 
 /// Writes the device path without nodes to the start of a buffer: only its end node.
 ///
-/// `place` becomes 4, the size of the path. A buffer of fewer bytes is refused as
-/// `BUFFER_TOO_SMALL`, and is unchanged. Bytes after the path are unchanged. Does not allocate
-/// (UEFI Specification 2.10, section 10.3.1).
+/// `len` becomes 4, the size of the path. A buffer of fewer bytes is rejected as `BUFFER_TOO_SMALL`, and
+/// is unchanged. Bytes after the path are unchanged. Does not allocate (UEFI Specification 2.10,
+/// section 10.3.1).
 #[unsafe(no_mangle)]
-pub extern "C" fn nard_device_path_begin(buffer: &mut [u8], place: &mut usize) -> u32
-    ensures { Shows (Content (path_bytes [])) place.old buffer.old result place.new buffer.new }
+pub extern "C" fn nard_device_path_init(buffer: &mut [u8], len: &mut usize) -> u32
+    ensures { (fault : ℕ) → Shows (Content (path_bytes [])) len.old fault buffer.old
+        result len.new fault buffer.new }
 {
+    *len = 4;
     if buffer.len() < 4 {
-        return refuse(Refusal::at(BUFFER_TOO_SMALL, 4), place);
+        return BUFFER_TOO_SMALL;
     }
     buffer[..4].copy_from_slice(&[0x7f, 0xff, 4, 0]);
-    report::<Refusal>(Ok(4), place)
+    OK
 }
 
-/// Adds a node before the end of the device path at the start of a buffer, as [`push_in_buf`] does.
+/// Adds a node before the end of the device path in the first `path_len` bytes of a buffer, as
+/// [`push_at_in_buf`] does. `path_len` is the `len` of the call before.
 ///
-/// The call fails for the first of these reasons: the buffer does not begin with a device path (the
-/// reason and `place` of [`nard_device_path_check`]); the node has type End and does not end an
-/// instance (`NODE_OF_END`); the data is longer than 65,531 bytes (`NODE_TOO_LONG`); the buffer is
-/// too small (`BUFFER_TOO_SMALL`). `place` becomes the size that the path then has or needs; it is
-/// unchanged at `NODE_OF_END` and `NODE_TOO_LONG`. If the call fails, the buffer is unchanged.
-/// Bytes after the path are never changed. Does not allocate (UEFI Specification 2.10, section
-/// 10.3.1).
+/// The type of the node is `node_type / 256`, and its sub-type `node_type % 256`. The call does not check
+/// what is before the end node. It fails for the first of these reasons: the buffer has fewer than
+/// `path_len` bytes, or these do not end with an end node (`NO_END_NODE`, with `path_len` as `fault`); the
+/// node has type End and does not end an instance (`NODE_OF_END`); the data is longer than 65,531 bytes
+/// (`NODE_TOO_LONG`); the buffer is too small (`BUFFER_TOO_SMALL`). `len` becomes the size that the path
+/// then has, or at `BUFFER_TOO_SMALL` needs. If the call fails, the buffer is unchanged. Bytes after the
+/// path are never changed. Does not allocate (UEFI Specification 2.10, section 10.3.1).
 #[unsafe(no_mangle)]
 pub extern "C" fn nard_device_path_push(
     buffer: &mut [u8],
-    device_type: u8,
-    sub_type: u8,
+    path_len: usize,
+    node_type: u32,
     content: &[u8],
-    place: &mut usize,
+    len: &mut usize,
+    fault: &mut usize,
 ) -> u32
-    ensures { Shows (when_read (read_path buffer.old) (λ nodes.
-        unless (build_refusal (node_with device_type sub_type content.now)) build_refused
-        (Content (path_bytes (nodes ++ node_with device_type sub_type content.now ∷ [])))))
-        place.old buffer.old result place.new buffer.new }
+    ensures { let node = node_with (node_type / 256 % 256) (node_type % 256) content.now in
+        Shows (unless (push_at_refusal buffer.old path_len node) grow_refused
+        (Content (pushed_at buffer.old path_len node)))
+        len.old fault.old buffer.old result len.new fault.new buffer.new }
 {
     let node = RawNode {
-        device_type: DeviceType(device_type),
-        sub_type: DeviceSubType(sub_type),
+        device_type: DeviceType((node_type / 256 % 256) as u8),
+        sub_type: DeviceSubType((node_type % 256) as u8),
         content,
     };
-    report(push_in_buf(buffer, &node), place)
+    report(push_at_in_buf(buffer, path_len, &node), len, fault)
 }
 
-/// Adds a node before the end of the device path in the first `path_length` bytes of a buffer, as
-/// [`push_at_in_buf`] does. `path_length` is the `place` of the call before.
+/// Adds the nodes of the device path at the start of bytes to the path in the first `path_len` bytes of a
+/// buffer.
 ///
-/// Unlike [`nard_device_path_push`], the call does not check what is before the end node. It
-/// fails for the first of these reasons: the buffer has fewer than `path_length` bytes, or these do
-/// not end with an end node (`NO_END_NODE`, with `path_length` as `place`); the reasons of
-/// [`nard_device_path_push`] from `NODE_OF_END` on, with the same `place`. Otherwise `place` becomes
-/// the size that the path then has. If the call fails, the buffer is unchanged. Bytes after the path
-/// are never changed. Does not allocate (UEFI Specification 2.10, section 10.3.1).
+/// Bytes that do not begin with a path are rejected as by `nard_device_path_check`, with its `fault`. Then
+/// the call fails and reports as [`nard_device_path_push`] does. Does not allocate.
 #[unsafe(no_mangle)]
-pub extern "C" fn nard_device_path_push_at(
+pub extern "C" fn nard_device_path_append(
     buffer: &mut [u8],
-    path_length: usize,
-    device_type: u8,
-    sub_type: u8,
-    content: &[u8],
-    place: &mut usize,
+    path_len: usize,
+    bytes: &[u8],
+    len: &mut usize,
+    fault: &mut usize,
 ) -> u32
-    ensures { let node = node_with device_type sub_type content.now in
-        Shows (unless (push_at_refusal buffer.old path_length node) grow_refused
-        (Content (pushed_at buffer.old path_length node))) place.old buffer.old result place.new buffer.new }
+    ensures { Shows (when_read (read_path bytes.now) (λ others.
+        unless (append_at_refusal buffer.old path_len others) grow_refused
+        (Content (extended path_len buffer.old others))))
+        len.old fault.old buffer.old result len.new fault.new buffer.new }
 {
-    let node = RawNode {
-        device_type: DeviceType(device_type),
-        sub_type: DeviceSubType(sub_type),
-        content,
-    };
-    report(push_at_in_buf(buffer, path_length, &node), place)
-}
-
-/// Adds the nodes of the device path at the start of bytes to the path at the start of a buffer, as
-/// [`append_in_buf`] does.
-///
-/// The buffer, and then the bytes, are refused as by [`nard_device_path_check`], with its `place`;
-/// then a buffer that is too small is refused as `BUFFER_TOO_SMALL`. Otherwise `place` becomes the
-/// size that the path then has. At `BUFFER_TOO_SMALL` it becomes the size that the path needs. If
-/// the call fails, the buffer is unchanged. Bytes after the path are never changed. Does not
-/// allocate.
-#[unsafe(no_mangle)]
-pub extern "C" fn nard_device_path_append(buffer: &mut [u8], bytes: &[u8], place: &mut usize) -> u32
-    ensures { Shows (when_read (read_path buffer.old) (λ nodes. when_read (read_path bytes.now) (λ others.
-        Content (path_bytes (nodes ++ others))))) place.old buffer.old result place.new buffer.new }
-{
-    if let Err(refusal) = read_path(buffer) {
-        return refuse(refusal, place);
-    }
     let path = match read_path(bytes) {
         Ok(path) => path,
-        Err(refusal) => return refuse(refusal, place),
+        Err(refusal) => return refuse(refusal, len, fault),
     };
-    report(append_in_buf(buffer, path), place)
-}
-
-/// Returns why the nodes of a text are not added. The place of a fault is where its node begins if
-/// the style is that of printed texts, and otherwise the byte that is wrong.
-pub(crate) fn text_refused(style: TextStyle, error: PushTextError) -> Refusal
-    ensures { result ≡ text_refused style error }
-{
-    match error {
-        PushTextError::Path(error) => error.refusal(),
-        PushTextError::NoNode(fault) => match style {
-            TextStyle::Printed => Refusal::at(NO_NODE, fault.node),
-            TextStyle::Lenient | TextStyle::Libefivar => Refusal::at(NO_NODE, fault.byte),
-        },
-        PushTextError::BufferTooSmall(needed) => Refusal::at(BUFFER_TOO_SMALL, needed),
-    }
-}
-
-/// Adds the nodes of a text in UTF-8, read in a style, before the end of the device path at the
-/// start of a buffer.
-fn push_styled_text(style: TextStyle, buffer: &mut [u8], bytes: &[u8], place: &mut usize) -> u32
-    ensures { Shows (when_read (read_path buffer.old) (added_text style bytes.now))
-        place.old buffer.old result place.new buffer.new }
-{
-    if let Err(refusal) = read_path(buffer) {
-        return refuse(refusal, place);
-    }
-    let text = match read_utf8(bytes) {
-        Ok(text) => text,
-        Err(refusal) => return refuse(refusal, place),
-    };
-    match push_styled_text_in_buf(style, buffer, text) {
-        Ok(len) => report::<Refusal>(Ok(len), place),
-        Err(error) => refuse(text_refused(style, error), place),
-    }
-}
-
-/// Adds the nodes of a text in UTF-8 before the end of the device path at the start of a buffer, as
-/// [`push_text_in_buf`] does.
-///
-/// The call fails for the first of these reasons, and sets `place`:
-///
-/// | reason | fault | `place` |
-/// |---|---|---|
-/// | of [`nard_device_path_check`] | the buffer does not begin with a device path | of that call |
-/// | `NOT_UTF8` | the bytes are not UTF-8 | the number of bytes before the fault |
-/// | `NO_NODE` | the text is not a path | the byte at which a node must begin and none does |
-/// | `BUFFER_TOO_SMALL` | the buffer is too small | the size that the path needs |
-///
-/// At `OK`, `place` becomes the size of the path. A size above the greatest `usize` is given as the
-/// greatest `usize`. If the call fails, the buffer is unchanged. Bytes after the path are never
-/// changed. Does not allocate (UEFI Specification 2.10, section 10.6.1).
-#[unsafe(no_mangle)]
-pub extern "C" fn nard_device_path_push_text(
-    buffer: &mut [u8],
-    bytes: &[u8],
-    place: &mut usize,
-) -> u32
-    ensures { Shows (when_read (read_path buffer.old) (added_text Printed bytes.now))
-        place.old buffer.old result place.new buffer.new }
-{
-    push_styled_text(TextStyle::Printed, buffer, bytes, place)
-}
-
-/// Adds the nodes of a text in UTF-8, as people write it, before the end of the device path at the
-/// start of a buffer, as [`push_lenient_text_in_buf`](uefi_device_path) does.
-///
-/// The call fails for the first of these reasons, and sets `place`:
-///
-/// | reason | fault | `place` |
-/// |---|---|---|
-/// | of [`nard_device_path_check`] | the buffer does not begin with a device path | of that call |
-/// | `NOT_UTF8` | the bytes are not UTF-8 | the number of bytes before the fault |
-/// | `NO_NODE` | the text is not read as a path | the byte of it that is wrong, or its length |
-/// | `BUFFER_TOO_SMALL` | the buffer is too small | the size that the path needs |
-///
-/// At `OK`, `place` becomes the size of the path. A size above the greatest `usize` is given as the
-/// greatest `usize`. If the call fails, the buffer is unchanged. Bytes after the path are never
-/// changed. Does not allocate (UEFI Specification 2.10, section 10.6.1).
-#[unsafe(no_mangle)]
-pub extern "C" fn nard_device_path_push_lenient_text(
-    buffer: &mut [u8],
-    bytes: &[u8],
-    place: &mut usize,
-) -> u32
-    ensures { Shows (when_read (read_path buffer.old) (added_text Lenient bytes.now))
-        place.old buffer.old result place.new buffer.new }
-{
-    push_styled_text(TextStyle::Lenient, buffer, bytes, place)
-}
-
-/// Adds the nodes of a text in UTF-8 that libefivar and efibootmgr print before the end of the
-/// device path at the start of a buffer, as [`push_libefivar_text_in_buf`](uefi_device_path) does.
-/// Fails as [`nard_device_path_push_lenient_text`] does.
-#[unsafe(no_mangle)]
-pub extern "C" fn nard_device_path_push_libefivar_text(
-    buffer: &mut [u8],
-    bytes: &[u8],
-    place: &mut usize,
-) -> u32
-    ensures { Shows (when_read (read_path buffer.old) (added_text Libefivar bytes.now))
-        place.old buffer.old result place.new buffer.new }
-{
-    push_styled_text(TextStyle::Libefivar, buffer, bytes, place)
+    report(append_at(buffer, path_len, path), len, fault)
 }
 
 /// Returns whether both begin with a device path, and the second is a short form of the first, as
@@ -270,40 +141,36 @@ pub extern "C" fn nard_device_path_strip_prefix(
 /// Writes a load option with one device path to the start of a buffer, as
 /// [`LoadOptionBuilder::write`] does.
 ///
-/// Only the lowest 32 bits of `attributes` count. The call fails for the first of these reasons:
-/// the units of the description do not begin with a string (the reason and `place` of
-/// `nard_string_until_nul`); the bytes do not begin with a device path (the reason and `place` of
-/// [`nard_device_path_check`]); the device path is longer than 65,535 bytes (`LIST_TOO_LONG`); the
-/// buffer is too small (`BUFFER_TOO_SMALL`). `place` becomes the size that the load option has or
-/// needs; it is unchanged at `LIST_TOO_LONG`. If the call fails, the buffer is unchanged. Bytes
-/// after the load option are never changed. Does not allocate (UEFI Specification 2.10, section
-/// 3.1.3).
+/// The call fails for the first of these reasons: the units of the description do not begin with a
+/// string (the error and `fault` of `nard_string_length`); the bytes do not begin with a device path
+/// (those of `nard_device_path_check`); the device path is longer than 65,535 bytes (`LIST_TOO_LONG`);
+/// the buffer is too small (`BUFFER_TOO_SMALL`). `len` becomes the size that the load option has, or at
+/// `BUFFER_TOO_SMALL` needs. If the call fails, the buffer is unchanged. Bytes after the load option are
+/// never changed. Does not allocate (UEFI Specification 2.10, section 3.1.3).
 #[unsafe(no_mangle)]
 pub extern "C" fn nard_load_option_write(
-    attributes: usize,
+    attributes: u32,
     description: &[u16],
     bytes: &[u8],
     optional: &[u8],
     buffer: &mut [u8],
-    place: &mut usize,
+    len: &mut usize,
+    fault: &mut usize,
 ) -> u32
     ensures { Shows (when_read (read_string description.now) (λ text.
         when_read (read_path bytes.now) (λ nodes.
-        written_entry (entry_of_path (attributes % 2 ^ 32) text nodes optional.now))))
-        place.old buffer.old result place.new buffer.new }
+        written_entry (entry_of_path attributes text nodes optional.now))))
+        len.old fault.old buffer.old result len.new fault.new buffer.new }
 {
     let text = match read_string(description) {
         Ok(string) => string.to_u16_slice(),
-        Err(refusal) => return refuse(refusal, place),
+        Err(refusal) => return refuse(refusal, len, fault),
     };
     let path = match read_path(bytes) {
         Ok(path) => path,
-        Err(refusal) => return refuse(refusal, place),
+        Err(refusal) => return refuse(refusal, len, fault),
     };
     let paths = [path];
-    let lowest = (attributes % 0x1_0000_0000) as u32;
-    report(
-        LoadOptionBuilder::new(lowest, text, &paths, optional).write(buffer),
-        place,
-    )
+    let option = LoadOptionBuilder::new(attributes, text, &paths, optional);
+    report(option.write(buffer), len, fault)
 }

@@ -8,29 +8,35 @@ ghost use Rattle.uefi_fat.specs.LongNames.{IsFatName, name_refusal};
 ghost use Rattle.uefi_fat.specs.Oem.{fat_text};
 ghost use Rattle.uefi_fat.specs.ShortNames.{IsShortName};
 ghost use Rattle.uefi_fat.specs.Trimming.{trimmed};
-ghost use Rattle.nardcorbel.specs.FatNames.{ShowsFat, checked_name, replaced_reason};
+ghost use Rattle.nardcorbel.specs.FatNames.{ShowsFat, checked_name};
 ghost use Rattle.nardcorbel.specs.Outcomes.{Shows, ShowsNumber, when_read};
-ghost use Rattle.nardcorbel.specs.Outcomes.Outcome.{Refused, Text};
+ghost use Rattle.nardcorbel.specs.Outcomes.Outcome.{Text};
 ghost use Rattle.nardcorbel.specs.Reading.{read_string};
 ghost use Rattle.nardcorbel.specs.Reasons.{refused_fat_character};
 ghost use Rattle.nardcorbel.specs.Strings.{text_until_nul};
 ghost use Rattle.nardcorbel.specs.declared.outcomes.Refusal.{Refusal};
 
-use crate::outcomes::{Refusal, read_string, refuse, report};
+use crate::outcomes::{Refusal, read_string, refuse, report, report_written};
 use crate::reasons::{CHAR_REPLACED, OK, fat_name_reason};
-use uefi_fat::{FatBytes, check_fat_name, fat_to_str, is_short_name, same_fat_file, str_to_fat};
-use uefi_text::{BufferTooSmall, CStr16, Char16Slice};
+use crate::strings::until_nul;
+use uefi_fat::{check_fat_name, fat_to_str, is_short_name, same_fat_file, units_to_fat};
+use uefi_text::{BufferTooSmall, CStr16};
 
 /// Checks that the units begin with a string that a file on a FAT volume can have as its name.
-/// Returns `OK`, or the fault.
 ///
-/// Units that do not begin with a string are refused as by `nard_string_until_nul`, and then the
-/// name as by `check_fat_name`. `place` becomes what `nard_string_until_nul` reports, which is the
-/// length of the text if only the name is refused. `character` becomes the refused character at
-/// `ILLEGAL_CHAR`, and otherwise 0. Does not allocate.
+/// Units that do not begin with a string are rejected as by `nard_string_length`, and then the name
+/// as by `check_fat_name`; `fault` and `len` are then unchanged. At `OK`, `len` becomes the length of the
+/// name. `character` becomes the rejected character at `ILLEGAL_CHAR`, and otherwise 0. Does not
+/// allocate.
 #[unsafe(no_mangle)]
-pub extern "C" fn nard_fat_name_check(units: &[u16], place: &mut usize, character: &mut u16) -> u32
-    ensures shows { ShowsNumber (when_read (read_string units.now) checked_name) place.old result place.new }
+pub extern "C" fn nard_fat_name_check(
+    units: &[u16],
+    len: &mut usize,
+    fault: &mut usize,
+    character: &mut u16,
+) -> u32
+    ensures shows { ShowsNumber (when_read (read_string units.now) checked_name) len.old fault.old
+        result len.new fault.new }
     ensures valid { (result ≡ OK) ↔ (BeginsWithString units.now × IsFatName (text_until_nul units.now)) }
     ensures no_character { (refusal : Refusal) → read_string units.now ≡ Err refusal → character.new ≡ 0 }
     ensures character { (text : List ℕ) → read_string units.now ≡ Ok text
@@ -39,14 +45,14 @@ pub extern "C" fn nard_fat_name_check(units: &[u16], place: &mut usize, characte
     *character = 0;
     let string = match read_string(units) {
         Ok(string) => string,
-        Err(refusal) => return refuse(refusal, place),
+        Err(refusal) => return refuse(refusal, len, fault),
     };
     match check_fat_name(string.as_slice()) {
-        Ok(()) => report::<BufferTooSmall>(Ok(string.num_chars()), place),
+        Ok(()) => report::<BufferTooSmall>(Ok(string.num_chars()), len, fault),
         Err(error) => {
             let (reason, refused) = fat_name_reason(error);
             *character = refused;
-            refuse(Refusal::at(reason, string.num_chars()), place)
+            refuse(Refusal::of(reason), len, fault)
         }
     }
 }
@@ -79,13 +85,18 @@ pub extern "C" fn nard_fat_name_is_short(units: &[u16]) -> bool
     }
 }
 
-/// Returns the result of a call that wrote bytes in the characters of short names. `place` becomes
-/// their number.
-pub(crate) fn report_fat(written: FatBytes, place: &mut usize) -> u32
-    ensures reason { result ≡ replaced_reason written.is_replaced }
-    ensures place { place.new ≡ written.len }
+/// Writes a text to the start of `bytes` in the characters of short names, as `StrToFat` and
+/// `units_to_fat` do. Returns `OK`, or `CHAR_REPLACED` if one of the bytes is a `_` that replaces
+/// another unit.
+///
+/// `len` becomes the number of bytes written, as many as fit. The bytes after them are unchanged, and
+/// no NUL is written. Does not allocate.
+#[unsafe(no_mangle)]
+pub extern "C" fn nard_fat_from_string(units: &[u16], bytes: &mut [u8], len: &mut usize) -> u32
+    ensures { ShowsFat (text_until_nul units.now) bytes.old result len.new bytes.new }
 {
-    *place = written.len;
+    let written = units_to_fat(until_nul(units), bytes);
+    *len = written.len;
     if written.is_replaced {
         CHAR_REPLACED
     } else {
@@ -93,36 +104,17 @@ pub(crate) fn report_fat(written: FatBytes, place: &mut usize) -> u32
     }
 }
 
-/// Writes the string at the start of units to the start of `bytes` in the characters of short
-/// names, as `str_to_fat` does. Returns `OK`, or `CHAR_REPLACED` if one of the bytes is a `_` that
-/// replaces another character.
-///
-/// `place` becomes the number of bytes written. The bytes after them are unchanged, and no NUL is
-/// written. Units that do not begin with a string are refused as by `nard_string_until_nul`, with
-/// its `place`, and the bytes are unchanged. Does not allocate.
-#[unsafe(no_mangle)]
-pub extern "C" fn nard_fat_from_string(units: &[u16], bytes: &mut [u8], place: &mut usize) -> u32
-    ensures refused { (refusal : Refusal) → read_string units.now ≡ Err refusal
-        → Shows (Refused refusal) place.old bytes.old result place.new bytes.new }
-    ensures text { (text : List ℕ) → read_string units.now ≡ Ok text
-        → ShowsFat text bytes.old result place.new bytes.new }
-{
-    match read_string(units) {
-        Ok(string) => report_fat(str_to_fat(string.as_slice(), bytes), place),
-        Err(refusal) => refuse(refusal, place),
-    }
-}
-
 /// Writes bytes in the characters of short names as a string to the start of `buffer`, as
 /// `fat_to_str` does: a unit for each byte before the first NUL, or for each byte if there is none,
 /// and a NUL.
 ///
-/// `place` becomes the number of units of the text. A buffer with at most that many places is
-/// refused as `BUFFER_TOO_SMALL`, and is unchanged. Does not allocate.
+/// `len` becomes the length of the text. A buffer with at most that many places is rejected as
+/// `BUFFER_TOO_SMALL`, and is unchanged. Does not allocate.
 #[unsafe(no_mangle)]
-pub extern "C" fn nard_string_from_fat(bytes: &[u8], buffer: &mut [u16], place: &mut usize) -> u32
-    ensures shows { Shows (Text (fat_text bytes.now)) place.old buffer.old result place.new buffer.new }
-    ensures length { place.new ≡ length (fat_text bytes.now) }
+pub extern "C" fn nard_string_from_fat(bytes: &[u8], buffer: &mut [u16], len: &mut usize) -> u32
+    ensures shows { (fault : ℕ) → Shows (Text (fat_text bytes.now)) len.old fault buffer.old
+        result len.new fault buffer.new }
+    ensures length { len.new ≡ length (fat_text bytes.now) }
 {
-    report(fat_to_str(bytes, buffer), place)
+    report_written(fat_to_str(bytes, buffer), len)
 }

@@ -6,12 +6,9 @@ ghost use Rattle.uefi_device_path.specs.Paths.{path_bytes};
 ghost use Rattle.uefi_device_path.specs.Views.{entry_of};
 ghost use Rattle.uefi_device_path.specs.declared.errors.LoadOptionError.{LoadOptionError};
 ghost use Rattle.nardcorbel.specs.DevicePaths.{HasParts};
-ghost use Rattle.nardcorbel.specs.Outcomes.{ShowsNumber};
-ghost use Rattle.nardcorbel.specs.Outcomes.Outcome.{Refused};
-ghost use Rattle.nardcorbel.specs.Refusals.{entry_refusal};
+ghost use Rattle.nardcorbel.specs.Reasons.{option_reason};
 
-use crate::outcomes::refuse;
-use crate::reasons::OK;
+use crate::reasons::{OK, option_reason};
 use uefi_device_path::{LoadOption, laws};
 
 /// The offsets and lengths of the parts of a load option, which follow one another in its bytes.
@@ -20,29 +17,29 @@ use uefi_device_path::{LoadOption, laws};
 #[repr(C)]
 #[derive(Clone, Copy)]
 pub struct LoadOptionParts {
-    /// The attributes, a number of 32 bits.
-    pub attributes: usize,
+    /// The attributes.
+    pub attributes: u32,
 
     /// The offset of the description.
-    pub description_start: usize,
+    pub description_offset: usize,
 
     /// The number of units of the description, without its NUL.
     pub description_length: usize,
 
     /// The offset of the file path list.
-    pub list_start: usize,
+    pub path_list_offset: usize,
 
     /// The number of bytes of the file path list.
-    pub list_length: usize,
+    pub path_list_size: usize,
 
     /// The number of bytes of the first device path of the list, including its end node.
-    pub path_length: usize,
+    pub first_path_size: usize,
 
     /// The offset of the optional data.
-    pub optional_start: usize,
+    pub optional_data_offset: usize,
 
     /// The number of bytes of the optional data.
-    pub optional_length: usize,
+    pub optional_data_size: usize,
 }
 
 /// Returns the number of bytes of the first device path of a load option.
@@ -62,39 +59,37 @@ fn parts_of(option: &LoadOption<'_>) -> LoadOptionParts
     ensures { HasParts (entry_of option.now) result }
 {
     let description_length = option.description_units().len() - 1;
-    let list_start = 6 + 2 * (description_length + 1);
-    let list_length = option.file_path_list().len();
+    let path_list_offset = 6 + 2 * (description_length + 1);
+    let path_list_size = option.file_path_list().len();
     LoadOptionParts {
-        attributes: option.attributes() as usize,
-        description_start: 6,
+        attributes: option.attributes(),
+        description_offset: 6,
         description_length,
-        list_start,
-        list_length,
-        path_length: first_path_len(option),
-        optional_start: list_start + list_length,
-        optional_length: option.optional_data().len(),
+        path_list_offset,
+        path_list_size,
+        first_path_size: first_path_len(option),
+        optional_data_offset: path_list_offset + path_list_size,
+        optional_data_size: option.optional_data().len(),
     }
 }
 
-/// Reads a load option, the value of a variable `Boot####`. Returns `OK`, or the first fault of the
-/// bytes.
+/// Reads a load option, the value of a variable `Boot####`.
 ///
-/// At `OK`, `option` becomes the offsets and lengths of its parts, and `place` the number of bytes.
-/// Otherwise the call fails as [`LoadOption::from_bytes`] does: `place` becomes the offset of the
-/// fault, and `option` is unchanged. The description may contain surrogates. Does not allocate
-/// (UEFI Specification 2.10, section 3.1.3).
+/// At `OK`, `option` becomes the offsets and lengths of its parts. Otherwise the call fails as
+/// [`LoadOption::from_bytes`] does: `fault` becomes the offset of the fault, and `option` is unchanged. The
+/// description may contain surrogates. Does not allocate (UEFI Specification 2.10, section 3.1.3).
 #[unsafe(no_mangle)]
-pub extern "C" fn nard_load_option_read(
+pub extern "C" fn nard_load_option_check(
     bytes: &[u8],
     option: &mut LoadOptionParts,
-    place: &mut usize,
+    fault: &mut usize,
 ) -> u32
     ensures accepts { (result ≡ OK) ↔ ((entry : Entry) × IsEntry entry × (bytes.now ≡ entry_bytes entry)) }
     ensures parts { (entry : Entry) → IsEntry entry → bytes.now ≡ entry_bytes entry
-        → HasParts entry option.new × (place.new ≡ length bytes.now) }
+        → HasParts entry option.new × (fault.new ≡ fault.old) }
     ensures refuses { result ≢ OK → (error : LoadOptionError) × EntryRefusedFor bytes.now error }
     ensures refusal { (error : LoadOptionError) → EntryRefusedFor bytes.now error
-        → ShowsNumber (Refused (entry_refusal error)) place.old result place.new }
+        → (result ≡ option_reason error.cause) × (fault.new ≡ error.offset) }
     ensures unchanged { result ≢ OK → option.new ≡ option.old }
 {
     // The law does nothing: it says that no load option is refused.
@@ -102,9 +97,11 @@ pub extern "C" fn nard_load_option_read(
     match LoadOption::from_bytes(bytes) {
         Ok(read) => {
             *option = parts_of(&read);
-            *place = bytes.len();
             OK
         }
-        Err(error) => refuse(error, place),
+        Err(error) => {
+            *fault = error.offset;
+            option_reason(error.cause)
+        }
     }
 }

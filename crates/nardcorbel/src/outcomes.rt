@@ -1,57 +1,73 @@
-//! The outcomes that calls report: a number, or a refusal.
+//! The outcomes that calls report: a length, or an error and where the input is wrong.
 #![tactic(auto, unfolding(crate::specs::Reading::read_string, crate::specs::Reading::read_utf8), using(crate::proofs::Inputs::reads))]
 
-ghost use Rattle.std.specs.Prelude.{◌≡◌, ◌≢◌, ◌↔◌, ◌-◌, ◌<◌, ◌^◌, IfErr, IfOk, IsOk, OnOk, Err, Ok};
+ghost use Rattle.std.specs.Prelude.{◌≡◌, ◌≢◌, ℕ, ◌↔◌, ◌-◌, ◌<◌, ◌^◌, IfErr, IfOk, IsOk, OnOk, Err, Ok};
 ghost use Rattle.std.specs.Result.{result_map_both};
 ghost use Rattle.std.specs.Str.{IsUtf8};
 ghost use Rattle.uefi_text.specs.Units.{BeginsWithString};
 ghost use Rattle.uefi_text.specs.Views.{text_of};
 ghost use Rattle.uefi_device_path.specs.Paths.{BeginWithPath};
 ghost use Rattle.uefi_device_path.specs.Views.{nodes_of};
-ghost use Rattle.nardcorbel.specs.Outcomes.{ShowsNumber, when_read, refusal_at, refusal_for};
+ghost use Rattle.nardcorbel.specs.Outcomes.{ShowsNumber, when_read, refusal_at, refusal_for, too_small};
 ghost use Rattle.nardcorbel.specs.Outcomes.Outcome.{Number, Refused as RefusedCall};
 ghost use Rattle.nardcorbel.specs.Reading.{read_path, read_string, read_utf8};
-ghost use Rattle.nardcorbel.specs.Refusals.{build_refused, entry_refusal, grow_refused, nameless_refusal, node_refusal, option_refused, path_refusal, room_refused};
+ghost use Rattle.nardcorbel.specs.Refusals.{build_refused, entry_refusal, grow_refused, nameless_refusal, node_refusal, option_refused, path_refusal, room_refused, text_refused};
 ghost use Rattle.nardcorbel.specs.Strings.{text_until_nul};
 
 use crate::reasons::{
-    BUFFER_TOO_SMALL, EMPTY_LIST, INTERIOR_NUL, INVALID_CHAR, LIST_TOO_LONG, NO_NUL, NODE_OF_END,
-    NODE_TOO_LONG, NOT_UTF8, OK, name_reason, node_reason, option_reason,
+    BUFFER_TOO_SMALL, EMPTY_LIST, INTERIOR_NUL, INVALID_CHAR, LIST_TOO_LONG, NO_NODE, NO_NUL,
+    NODE_OF_END, NODE_TOO_LONG, NOT_UTF8, OK, name_reason, node_reason, option_reason,
 };
 use uefi_device_path::{
     BuildError, DevicePath, DevicePathError, FilePathError, GrowError, LoadOptionError, NodeError,
-    OptionBuildError, fault_place,
+    OptionBuildError, PushTextError, fault_place,
 };
 use uefi_text::{BufferTooSmall, CStr16, FromSliceUntilNulError};
 
-/// Why a call is refused, as C sees it.
+/// Why a call fails, as C sees it.
 #[derive(Clone, Copy)]
 pub(crate) struct Refusal {
     /// One of [`crate::reasons`].
     pub reason: u32,
 
-    /// The place at fault, or `None` if the caller's number is unchanged.
-    pub place: Option<usize>,
+    /// The length of the result for which the buffer is too small.
+    pub needed: Option<usize>,
+
+    /// The index or offset at which the input is wrong.
+    pub fault: Option<usize>,
 }
 
 impl Refusal {
-    /// The refusal for a reason and the place at fault.
+    /// An error, and where the input is wrong.
     pub(crate) fn at(reason: u32, place: usize) -> Refusal
         ensures { result ≡ refusal_at reason place }
     {
         Refusal {
             reason,
-            place: Some(place),
+            needed: None,
+            fault: Some(place),
         }
     }
 
-    /// The refusal for a reason that has no place.
+    /// An error that leaves the caller's numbers unchanged.
     pub(crate) fn of(reason: u32) -> Refusal
         ensures { result ≡ refusal_for reason }
     {
         Refusal {
             reason,
-            place: None,
+            needed: None,
+            fault: None,
+        }
+    }
+
+    /// A buffer is too small for a result of this length.
+    pub(crate) fn too_small(needed: usize) -> Refusal
+        ensures { result ≡ too_small needed }
+    {
+        Refusal {
+            reason: BUFFER_TOO_SMALL,
+            needed: Some(needed),
+            fault: None,
         }
     }
 }
@@ -76,12 +92,12 @@ impl Refused for Refusal {
     }
 }
 
-/// The place is the length of the text.
+/// The length is that of the text without its NUL.
 impl Refused for BufferTooSmall {
     ghost refusal = { room_refused };
 
     fn refusal(self) -> Refusal {
-        Refusal::at(BUFFER_TOO_SMALL, self.0.saturating_sub(1))
+        Refusal::too_small(self.0.saturating_sub(1))
     }
 }
 
@@ -115,7 +131,7 @@ impl Refused for BuildError {
 
     fn refusal(self) -> Refusal {
         match self {
-            BuildError::BufferTooSmall(needed) => Refusal::at(BUFFER_TOO_SMALL, needed),
+            BuildError::BufferTooSmall(needed) => Refusal::too_small(needed),
             BuildError::EndNode => Refusal::of(NODE_OF_END),
             BuildError::NodeTooLong => Refusal::of(NODE_TOO_LONG),
             BuildError::OutOfMemory => Refusal::of(BUFFER_TOO_SMALL),
@@ -148,7 +164,7 @@ impl Refused for OptionBuildError {
 
     fn refusal(self) -> Refusal {
         match self {
-            OptionBuildError::BufferTooSmall(needed) => Refusal::at(BUFFER_TOO_SMALL, needed),
+            OptionBuildError::BufferTooSmall(needed) => Refusal::too_small(needed),
             OptionBuildError::NulInDescription(_) => Refusal::of(INTERIOR_NUL),
             OptionBuildError::EmptyList => Refusal::of(EMPTY_LIST),
             OptionBuildError::ListTooLong | OptionBuildError::TooLong => Refusal::of(LIST_TOO_LONG),
@@ -157,37 +173,69 @@ impl Refused for OptionBuildError {
     }
 }
 
-/// Reports what a call gives: a number in `place`, or why the call is refused.
-pub(crate) fn report<E: Refused>(given: Result<usize, E>, place: &mut usize) -> u32
+impl Refused for PushTextError {
+    ghost refusal = { text_refused };
+
+    fn refusal(self) -> Refusal {
+        match self {
+            PushTextError::Path(error) => error.refusal(),
+            PushTextError::NoNode(fault) => Refusal::at(NO_NODE, fault.byte),
+            PushTextError::BufferTooSmall(needed) => Refusal::too_small(needed),
+        }
+    }
+}
+
+/// Reports what a call gives: a length in `len`, or why it fails.
+pub(crate) fn report<E: Refused>(given: Result<usize, E>, len: &mut usize, fault: &mut usize) -> u32
     ensures shows { ShowsNumber (when_read (result_map_both (λ number. number) E.refusal given) Number)
-        place.old result place.new }
-    ensures fits { place.new < 2 ^ 64 }
+        len.old fault.old result len.new fault.new }
+    ensures fits { len.new < 2 ^ 64 }
 {
     let refusal = match given {
         Ok(number) => {
-            *place = number;
+            *len = number;
             return OK;
         }
         Err(error) => error.refusal(),
     };
-    *place = refusal.place.unwrap_or(*place);
+    *len = refusal.needed.unwrap_or(*len);
+    *fault = refusal.fault.unwrap_or(*fault);
     refusal.reason
 }
 
-/// Reports why a call is refused.
-pub(crate) fn refuse<E: Refused>(error: E, place: &mut usize) -> u32
-    ensures { ShowsNumber (RefusedCall (E.refusal error)) place.old result place.new }
+/// Reports what a call gives that finds no fault in its input.
+pub(crate) fn report_written(given: Result<usize, BufferTooSmall>, len: &mut usize) -> u32
+    ensures shows { (fault : ℕ) → ShowsNumber
+        (when_read (result_map_both (λ number. number) room_refused given) Number)
+        len.old fault result len.new fault }
+    ensures fits { len.new < 2 ^ 64 }
 {
-    report(Err(error), place)
+    match given {
+        Ok(number) => {
+            *len = number;
+            OK
+        }
+        Err(error) => {
+            *len = error.0.saturating_sub(1);
+            BUFFER_TOO_SMALL
+        }
+    }
 }
 
-/// Reports that a text has no room, since it needs this many places with its NUL.
-pub(crate) fn refuse_room(needed: usize, place: &mut usize) -> u32
-    ensures shows { ShowsNumber (RefusedCall (refusal_at BUFFER_TOO_SMALL (needed - 1))) place.old
-        result place.new }
+/// Reports why a call fails.
+pub(crate) fn refuse<E: Refused>(error: E, len: &mut usize, fault: &mut usize) -> u32
+    ensures { ShowsNumber (RefusedCall (E.refusal error)) len.old fault.old result len.new fault.new }
+{
+    report(Err(error), len, fault)
+}
+
+/// Reports that a buffer is too small for a text, which needs this many places with its NUL.
+pub(crate) fn refuse_room(needed: usize, len: &mut usize, fault: &mut usize) -> u32
+    ensures shows { ShowsNumber (RefusedCall (too_small (needed - 1))) len.old fault.old
+        result len.new fault.new }
     ensures fits { needed < 2 ^ 64 }
 {
-    refuse(BufferTooSmall(needed), place)
+    refuse(BufferTooSmall(needed), len, fault)
 }
 
 /// The string that units begin with; memory is never the reason of a refusal.

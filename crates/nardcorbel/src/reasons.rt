@@ -1,5 +1,5 @@
-//! The reasons why a call fails, as numbers: the header's `enum nard_reason` has the same numbers.
-ghost use Rattle.std.specs.Prelude.{◌≡◌, Some, negsuc};
+//! The status codes of calls: `nard_status` of the header has the same numbers.
+ghost use Rattle.std.specs.Prelude.{◌≡◌, Some};
 ghost use Rattle.nardcorbel.specs.Reasons.{fat_name_reason, name_reason, node_reason, option_reason, order_number, path_reason, refused_character, refused_fat_character, with_nul_reason};
 
 use std::cmp::Ordering;
@@ -74,17 +74,14 @@ pub const LIST_BEYOND_END: u32 = 20;
 /// The file path list of a load option has no bytes.
 pub const EMPTY_LIST: u32 = 21;
 
-/// The node at this place ends the device path.
-pub const END_OF_PATH: u32 = 22;
+/// The style of a text is none of those of [`crate::text_styles`].
+pub const UNKNOWN_STYLE: u32 = 22;
 
 /// Nothing is left of a name without the spaces and dots around it.
 pub const NAME_EMPTY: u32 = 23;
 
 /// A name has more than 255 units.
 pub const NAME_TOO_LONG: u32 = 24;
-
-/// A unit was replaced by `_`, because short names cannot contain it.
-pub const CHAR_REPLACED: u32 = 25;
 
 /// A node of type End that does not end an instance must not be before the end of a device path.
 pub const NODE_OF_END: u32 = 26;
@@ -98,20 +95,19 @@ pub const LIST_TOO_LONG: u32 = 28;
 /// No load option has this name, or this kind.
 pub const NOT_A_NAME: u32 = 29;
 
-/// The order has no number at the index, which is at its end or beyond it.
-pub const END_OF_ORDER: u32 = 30;
-
 /// A node of a device path must begin at this place of a text, and none does.
 pub const NO_NODE: u32 = 31;
 
 /// The data of a node has no number of this width at this place.
 pub const NO_FIELD: u32 = 32;
 
-// The number 33 is not used again: it was `SCRATCH_TOO_SMALL` in version 0.7.0.
+// The numbers 25, 30 and 33 are not used again: they were other errors in earlier versions.
 
-/// The order of two strings if one of them is not a string: the least number of its type, so that
-/// no test for "greater" holds.
-pub const NO_ORDER: i32 = i32::MIN;
+/// Success: there are no more items.
+pub const END: u32 = 256;
+
+/// Success: a unit was replaced by `_`, because short names cannot contain it.
+pub const CHAR_REPLACED: u32 = 257;
 
 /// Returns the version of the library: its three numbers, one byte each, the first one highest.
 #[unsafe(no_mangle)]
@@ -130,7 +126,7 @@ pub extern "C" fn nard_interface_0_8() -> u32
     nard_version()
 }
 
-/// Does nothing. Its clauses state the numbers that `include/nardcorbel.h` gives the reasons.
+/// Does nothing. Its clauses state the numbers that `include/nardcorbel.h` gives the status codes.
 #[doc(hidden)]
 pub fn numbers()
     ensures ok { OK ≡ 0 }
@@ -155,18 +151,17 @@ pub fn numbers()
     ensures description_without_end { DESCRIPTION_WITHOUT_END ≡ 19 }
     ensures list_beyond_end { LIST_BEYOND_END ≡ 20 }
     ensures empty_list { EMPTY_LIST ≡ 21 }
-    ensures end_of_path { END_OF_PATH ≡ 22 }
+    ensures unknown_style { UNKNOWN_STYLE ≡ 22 }
     ensures name_empty { NAME_EMPTY ≡ 23 }
     ensures name_too_long { NAME_TOO_LONG ≡ 24 }
-    ensures char_replaced { CHAR_REPLACED ≡ 25 }
     ensures node_of_end { NODE_OF_END ≡ 26 }
     ensures node_too_long { NODE_TOO_LONG ≡ 27 }
     ensures list_too_long { LIST_TOO_LONG ≡ 28 }
     ensures not_a_name { NOT_A_NAME ≡ 29 }
-    ensures end_of_order { END_OF_ORDER ≡ 30 }
     ensures no_node { NO_NODE ≡ 31 }
     ensures no_field { NO_FIELD ≡ 32 }
-    ensures no_order { NO_ORDER ≡ negsuc 2147483647 }
+    ensures end { END ≡ 256 }
+    ensures char_replaced { CHAR_REPLACED ≡ 257 }
 {}
 
 /// Returns the reason why units are not a string.

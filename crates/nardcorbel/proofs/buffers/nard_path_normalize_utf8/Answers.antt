@@ -11,11 +11,11 @@ use Rattle.uefi_path.specs.Writing.{normal_where}
 use Rattle.uefi_path.proofs.NormalLengths.{normal_is_no_longer}
 use Rattle.uefi_path.proofs.Validity.{valid_unrefused}
 use Rattle.nardcorbel.specs.Buffers.{HasStringIn, first_half, normalized, second_half}
-use Rattle.nardcorbel.specs.Outcomes.{buffer_shown, reason_shown, refusal_at, unless}
+use Rattle.nardcorbel.specs.Outcomes.{buffer_shown, reason_shown, refusal_for, unless}
 use Rattle.nardcorbel.specs.Outcomes.Outcome.{Text}
 use Rattle.nardcorbel.specs.Reading.{string_of_utf8}
 use Rattle.nardcorbel.specs.Reasons.{path_reason}
-use Rattle.nardcorbel.proofs.Halves.{enough_halves, halves, has_string, normal_shown, reads_written, refused_kept, string_fits, wrote_string}
+use Rattle.nardcorbel.proofs.Halves.{enough_halves, halves, has_string, reads_written, refused_kept, string_fits, wrote_string}
 use Rattle.nardcorbel.proofs.Judged.{has_room}
 use Rattle.nardcorbel.proofs.buffers.nard_path_normalize_utf8.Goals as goal
 
@@ -33,7 +33,8 @@ returns-then-reason-ne-OK-clause-refused c = λ _.
     let kept = refused_kept outcome c.split_at_mut-first.result.1.now (λ ok. c.if-reason-ne-OK.true (made.reason ∙ ok)) in (
       record {
         reason = made.reason ∙ ap (reason_shown outcome) cut.back;
-        place = made.place;
+        len = made.len;
+        fault = made.fault;
         buffer = returns-then-reason-ne-OK-clause-string c;
       },
       refl,
@@ -78,12 +79,12 @@ returns-clause-path c = λ has.
     let wrote = c.nard_string_from_utf8-reason.ensures.shows.buffer ∙ wrote_string c.args.bytes.now c.split_at_mut-first.result.1.now fits in
     let reads = reads_written text c.split_at_mut-first.result.1.now written fits.text fits.room wrote in
     let there = rw reads at c.nard_path_normalize.ensures.path in
-    let shown = normal_shown text _ _ _ c.args.place.now _ _ there in
     let front = (halves c.args.buffer.now _ _ (c.nard_path_normalize.auto.buffer ∙ ap length cut.front) (c.nard_string_from_utf8-reason.auto.buffer ∙ ap length cut.back)).0 in
     record {
-      reason = shown.reason ∙ ap (reason_shown (normalized text)) cut.front;
-      place = shown.place;
-      buffer = front ∙ shown.buffer ∙ ap (buffer_shown (normalized text)) cut.front;
+      reason = there.reason ∙ ap (reason_shown (normalized text)) cut.front;
+      len = there.len;
+      fault = there.fault;
+      buffer = front ∙ there.buffer ∙ ap (buffer_shown (normalized text)) cut.front;
     }
 
 pub returns-clause-character : goal.returns-clause-character
@@ -104,7 +105,7 @@ returns-clause-enough c = λ big utf8 is_text valid.
     let none = (valid_unrefused (with_separators text)).0 valid in
     let short = normal_is_no_longer (with_separators text) (normal_text pieces) (ap (λ v. normal_where v pieces) none) in
     let same : length (with_separators text) ≡ length text = length-map text (replaced slash separator) in
-    (returns-clause-path c has).reason ∙ ap (λ r. reason_shown (unless r (λ error. refusal_at (path_reason error) (length text)) (Text (normal_text pieces))) (first_half c.args.buffer.now)) none
+    (returns-clause-path c has).reason ∙ ap (λ r. reason_shown (unless r (λ error. refusal_for (path_reason error)) (Text (normal_text pieces))) (first_half c.args.buffer.now)) none
     ∙ has_room (normal_text pieces) (first_half c.args.buffer.now) (omega (arith, some, room.0, short, same))
 
 pub returns-then-reason-ne-OK-clause-length : goal.returns-then-reason-ne-OK-clause-length

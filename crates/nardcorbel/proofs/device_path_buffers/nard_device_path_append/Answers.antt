@@ -1,16 +1,15 @@
--- What is refused is the path in the buffer, then the bytes, and then the room.
-use Rattle.std.proofs.Common.{◌++◌, None, arith, length}
-use Rattle.std.proofs.lemmas.Grind.{common_steps}
-use Rattle.uefi_device_path.proofs.CheckedRuns.{path_is_read}
-use Rattle.uefi_device_path.specs.Paths.{path_bytes}
+-- What is refused is the bytes, then the end of the path in the buffer, and then the room.
+use Rattle.std.proofs.Common.{None}
+use Rattle.uefi_device_path.specs.Building.{ends_at}
 use Rattle.uefi_device_path.specs.Views.{nodes_of}
-use Rattle.nardcorbel.proofs.Written.{grown_by}
+use Rattle.nardcorbel.specs.PathEnds.{extended, missing_end}
+use Rattle.nardcorbel.proofs.Written.{grown_at}
 use Rattle.nardcorbel.proofs.device_path_buffers.nard_device_path_append.Goals as goal
 
 pub returns : goal.returns
 returns c =
-    let nodes = nodes_of c.in_default.field-0 in
-    let left = rw (path_is_read c.args.buffer.now nodes c.in_default.ensures.begins) at c.append_in_buf.ensures in
-    rw (c.in_default.ensures.ok, c.in-Ok.ensures.ok)
-    (grown_by c.args.buffer.now c.append_in_buf.new.buffer (path_bytes (nodes ++ nodes_of c.in-Ok.path)) None c.append_in_buf.result c.args.place.now c.report.result
-    c.report.new.place (grind (arith, common_steps)) c.report.ensures.fits left c.report.ensures.shows)
+    let buffer = c.args.buffer.now in
+    rw c.in-Ok.ensures.ok
+    (grown_at (ends_at buffer c.args.path_len) (missing_end c.args.path_len) None buffer c.append_at.new.buffer
+    (extended c.args.path_len buffer (nodes_of c.in-Ok.path)) c.append_at.result c.args.len.now c.args.fault.now c.report.result
+    c.report.new.len c.report.new.fault c.report.ensures.fits c.append_at.ensures c.report.ensures.shows)

@@ -1,5 +1,5 @@
 -- The node stands at the place, and what follows it at the next one. A path that begins there begins with it.
-use Rattle.std.proofs.Common.{◌≡◌, ◌+◌, ◌<◌, ◌++◌, ◌∙◌, Some, ap, arith, drop, length, length-drop, rules, sym}
+use Rattle.std.proofs.Common.{◌≡◌, ◌+◌, ◌<◌, ◌*◌, ◌/◌, ◌%◌, ◌++◌, ◌∙◌, Some, ap, arith, drop, length, length-drop, rules, sym}
 use Rattle.std.proofs.lemmas.Grind.{common_steps}
 use Rattle.std.proofs.lemmas.List.{nil_from_length}
 use Rattle.uefi_device_path.specs.NodeFaults.{node_fault}
@@ -41,25 +41,28 @@ returns-else-is_end_entire-clause-node c = λ _.
     let bytes = c.args.bytes.now in
     let place = c.args.place.now in
     let is = left_from bytes c.in-Some.rest.now place c.in-Some.ensures.lookup.0.2 in
-    node_stands bytes c.in-Some.rest.now c.in-Ok.field-0-1.now place (node_of c.in-Ok.found)
-    c.device_type.result.0 c.sub_type.result.0 (length c.data-length.result.now)
-    is c.in-Ok.ensures.ok c.device_type.ensures c.sub_type.ensures (ap length c.data-length.ensures)
+    let low : c.sub_type.result.0 < 256 = grind (arith, common_steps, c.sub_type.type_inv) in
+    let kind : (c.from.result * 256 + c.from-in-Ok.result) / 256 ≡ c.device_type.result.0 = omega (arith, low, c.from.ensures, c.from-in-Ok.ensures) in
+    let sub_kind : (c.from.result * 256 + c.from-in-Ok.result) % 256 ≡ c.sub_type.result.0 = omega (arith, low, c.from.ensures, c.from-in-Ok.ensures) in
+    node_stands bytes c.in-Some.rest.now c.in-Ok.field-0-1.now place (node_of c.in-Ok.found) _ _ (length c.data-size.result.now)
+    is c.in-Ok.ensures.ok (kind ∙ c.device_type.ensures) (sub_kind ∙ c.sub_type.ensures) (ap length c.data-size.ensures)
 
 pub returns-else-is_end_entire-clause-next : goal.returns-else-is_end_entire-clause-next
 returns-else-is_end_entire-clause-next c = λ _ nodes begins.
     let bytes = c.args.bytes.now in
     let place = c.args.place.now in
     let shown = node_in bytes (record {
-      device_type = c.device_type.result.0;
-      sub_type = c.sub_type.result.0;
-      start = place + 4;
-      length = length c.data-length.result.now;
+      node_type = c.from.result * 256 + c.from-in-Ok.result;
+      data_offset = place + 4;
+      data_size = length c.data-size.result.now;
     }) in
-    let left = drop (place + 4 + length c.data-length.result.now) bytes in
+    let left = drop (place + 4 + length c.data-size.result.now) bytes in
     let is = left_from bytes c.in-Some.rest.now place c.in-Some.ensures.lookup.0.2 in
+    let low : c.sub_type.result.0 < 256 = grind (arith, common_steps, c.sub_type.type_inv) in
+    let kind : (c.from.result * 256 + c.from-in-Ok.result) / 256 ≡ c.device_type.result.0 = omega (arith, low, c.from.ensures, c.from-in-Ok.ensures) in
+    let sub_kind : (c.from.result * 256 + c.from-in-Ok.result) % 256 ≡ c.sub_type.result.0 = omega (arith, low, c.from.ensures, c.from-in-Ok.ensures) in
     let stands : drop place bytes ≡ node_bytes shown ++ left =
-    node_stands bytes c.in-Some.rest.now c.in-Ok.field-0-1.now place (node_of c.in-Ok.found)
-    c.device_type.result.0 c.sub_type.result.0 (length c.data-length.result.now)
-    is c.in-Ok.ensures.ok c.device_type.ensures c.sub_type.ensures (ap length c.data-length.ensures) in
+    node_stands bytes c.in-Some.rest.now c.in-Ok.field-0-1.now place (node_of c.in-Ok.found) _ _ (length c.data-size.result.now)
+    is c.in-Ok.ensures.ok (kind ∙ c.device_type.ensures) (sub_kind ∙ c.sub_type.ensures) (ap length c.data-size.ensures) in
     let inner : IsInner shown = search rules in
     (path_step (drop place bytes) left shown nodes begins stands inner.not_end).1

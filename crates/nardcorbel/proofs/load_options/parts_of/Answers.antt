@@ -5,8 +5,8 @@ use Rattle.uefi_device_path.specs.Views.{entry_of}
 use Rattle.nardcorbel.proofs.Options.{parts_fit}
 use Rattle.nardcorbel.proofs.load_options.parts_of.Goals as goal
 
-pub overflow_mul-list_start : goal.overflow_mul-list_start
-overflow_mul-list_start c =
+pub overflow_mul-path_list_offset : goal.overflow_mul-path_list_offset
+overflow_mul-path_list_offset c =
     let entry = entry_of c.args.option.now in
     omega (
       arith,
@@ -14,8 +14,8 @@ overflow_mul-list_start c =
       c.len-description_length.ensures,
     )
 
-pub overflow_add-list_start-2 : goal.overflow_add-list_start-2
-overflow_add-list_start-2 c =
+pub overflow_add-path_list_offset-2 : goal.overflow_add-path_list_offset-2
+overflow_add-path_list_offset-2 c =
     let entry = entry_of c.args.option.now in
     omega (
       arith,
@@ -28,7 +28,7 @@ overflow_add-result c =
     let entry = entry_of c.args.option.now in
     omega (
       arith,
-      parts_fit entry _ c.file_path_list-list_length.result.now c.requires
-          c.description_units.ensures.units c.file_path_list-list_length.ensures,
+      parts_fit entry _ c.file_path_list-path_list_size.result.now c.requires
+          c.description_units.ensures.units c.file_path_list-path_list_size.ensures,
       c.len-description_length.ensures,
     )
