@@ -78,7 +78,7 @@ fn each_pair() {
             assert_eq!(string == other, sys::nard_string_equal(units, other_units));
             assert_eq!(
                 string.cmp(other) as i32,
-                sys::nard_string_order(units, other_units)
+                sys::nard_string_compare(units, other_units)
             );
             let bytes = other_text.as_bytes();
             let until_nul = sys::nard_string_equal_until_nul(units, bytes);
@@ -90,7 +90,7 @@ fn each_pair() {
             );
             assert_eq!(
                 path.cmp(other_path) as i32,
-                sys::nard_path_order(units, other_units),
+                sys::nard_path_compare(units, other_units),
                 "{text} {other_text}"
             );
             assert_eq!(

@@ -1,7 +1,7 @@
 //! Names of load options, and orders of them.
 
 use crate::data_types::CStr16;
-use crate::error::{check, Error, Reason};
+use crate::error::{Error, Reason};
 use crate::sys;
 use core::fmt;
 use core::iter::FusedIterator;
@@ -63,11 +63,16 @@ impl LoadOptionName {
     /// # Ok::<(), nardcorbel::Error>(())
     /// ```
     pub fn from_cstr16(string: &CStr16) -> Result<Self, Error> {
+        let units = string.to_u16_slice_with_nul();
+        Self::read(|kind, number| sys::nard_boot_name_read_utf16(units, kind, number))
+    }
+
+    /// The name that a call reads.
+    fn read(call: impl FnOnce(&mut u32, &mut u16) -> u32) -> Result<Self, Error> {
         let (mut kind, mut number) = (0, 0);
-        check(
-            sys::nard_boot_name_read(string.to_u16_slice_with_nul(), &mut kind, &mut number),
-            0,
-        )?;
+        if call(&mut kind, &mut number) != sys::OK {
+            return Err(Error::new(Reason::NotAName, 0));
+        }
         let kind = match kind {
             sys::DRIVER => LoadOptionKind::Driver,
             sys::SYS_PREP => LoadOptionKind::SysPrep,
@@ -93,12 +98,8 @@ impl LoadOptionName {
             LoadOptionKind::SysPrep => sys::SYS_PREP,
             LoadOptionKind::PlatformRecovery => sys::PLATFORM_RECOVERY,
         };
-        let mut place = 0;
-        check(
-            sys::nard_boot_name_write(kind, self.number, buffer, &mut place),
-            place,
-        )?;
-        Ok(CStr16::of(&buffer[..=place]))
+        let length = sys::nard_boot_name_write_utf16(kind, self.number, buffer)?;
+        Ok(CStr16::of(&buffer[..=length]))
     }
 }
 
@@ -106,8 +107,7 @@ impl FromStr for LoadOptionName {
     type Err = Error;
 
     fn from_str(text: &str) -> Result<Self, Error> {
-        let string = CStr16::from_str_with_buf(text, &mut [0; NAME_ROOM]).map(Self::from_cstr16);
-        string.unwrap_or(Err(Error::new(Reason::NotAName, 0)))
+        Self::read(|kind, number| sys::nard_boot_name_read(text.as_bytes(), kind, number))
     }
 }
 
@@ -134,7 +134,7 @@ impl fmt::Display for LoadOptionName {
 pub fn order_numbers(bytes: &[u8]) -> Result<OrderNumbers<'_>, Error> {
     let mut number = 0;
     match sys::nard_boot_order_read(bytes, 0, &mut number) {
-        sys::OK | sys::END_OF_ORDER => Ok(OrderNumbers { bytes, place: 0 }),
+        sys::OK | sys::END => Ok(OrderNumbers { bytes, place: 0 }),
         reason => Err(Error::new(Reason::of(reason), bytes.len())),
     }
 }
@@ -285,9 +285,10 @@ impl<'a> OrderBuffer<'a> {
     /// # Ok::<(), nardcorbel::Error>(())
     /// ```
     pub fn insert(&mut self, place: usize, number: u16) -> Result<(), Error> {
-        let reason = sys::nard_boot_order_insert(self.places, &mut self.count, place, number);
-        // `check` counts one more for a buffer that is too small.
-        check(reason, self.count)
+        match sys::nard_boot_order_insert(self.places, &mut self.count, place, number) {
+            sys::OK => Ok(()),
+            _ => Err(Error::new(Reason::BufferTooSmall, self.count + 1)),
+        }
     }
 
     /// Removes a number, and returns whether it was in the order.

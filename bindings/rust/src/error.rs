@@ -1,9 +1,9 @@
-//! Why a call refuses its input.
+//! The errors of calls.
 
 use crate::sys;
 use core::fmt;
 
-/// Why a call refuses its input, and where.
+/// What is wrong with an input, and where.
 ///
 /// ```
 /// use nardcorbel::{PathBuf, Reason};
@@ -40,17 +40,6 @@ impl Error {
         match self.reason {
             Reason::InvalidChar | Reason::InteriorNul => Self {
                 character: text.chars().nth(self.place),
-                ..self
-            },
-            _ => self,
-        }
-    }
-
-    /// Names the character at fault, if a call said one.
-    pub(crate) fn with_unit(self, unit: u16) -> Self {
-        match self.reason {
-            Reason::IllegalChar => Self {
-                character: char::from_u32(unit.into()),
                 ..self
             },
             _ => self,
@@ -95,7 +84,7 @@ macro_rules! reasons {
                 match self {
                     $(Reason::$name => f.write_str($text),)*
                     Reason::NotAGuid => f.write_str("not a GUID"),
-                    Reason::Unknown(number) => write!(f, "unknown reason {number}"),
+                    Reason::Unknown(number) => write!(f, "unknown status {number}"),
                 }
             }
         }
@@ -107,7 +96,7 @@ reasons! {
     InvalidChar = INVALID_CHAR, "invalid character";
     InteriorNul = INTERIOR_NUL, "interior null character";
     BufferTooSmall = BUFFER_TOO_SMALL, "buffer too small";
-    NotUtf8 = NOT_UTF8, "not UTF-8";
+    NotUtf8 = NOT_UTF8, "invalid UTF-8";
     OddBytes = ODD_BYTES, "odd number of bytes";
     PathEmpty = PATH_EMPTY, "path is empty";
     EmptyComponent = EMPTY_COMPONENT, "path contains an empty component";
@@ -129,10 +118,9 @@ reasons! {
     NodeOfEnd = NODE_OF_END, "end node is only allowed at the end of a device path";
     NodeTooLong = NODE_TOO_LONG, "device path node is longer than 65,535 bytes";
     ListTooLong = LIST_TOO_LONG, "file path list is longer than 65,535 bytes";
-    NotAName = NOT_A_NAME, "no load option has the name or the kind";
-    EndOfOrder = END_OF_ORDER, "the order ends here";
-    NoNode = NO_NODE, "no node";
-    NoField = NO_FIELD, "no such field";
+    NotAName = NOT_A_NAME, "not the name of a load option";
+    NoNode = NO_NODE, "not a device path";
+    NoField = NO_FIELD, "device path node has no such field";
 }
 
 impl fmt::Display for Error {
@@ -177,17 +165,40 @@ impl fmt::Display for Error {
 
 impl core::error::Error for Error {}
 
-/// The error of a call that writes bytes, and no NUL.
-pub(crate) fn check_bytes(number: u32, place: usize) -> Result<(), Error> {
-    match number {
-        sys::OK => Ok(()),
-        _ => Err(Error::new(Reason::of(number), place)),
-    }
+/// What a call says besides its status.
+#[derive(Default)]
+pub(crate) struct Said {
+    /// The length of the result.
+    pub length: usize,
+    /// Where the input is wrong.
+    pub fault: usize,
+    /// The character that is not allowed, or 0.
+    pub character: u16,
 }
 
-/// The error of any other call.
-pub(crate) fn check(number: u32, place: usize) -> Result<(), Error> {
-    // A text also needs room for its NUL.
-    let missing = usize::from(number == sys::BUFFER_TOO_SMALL);
-    check_bytes(number, place.saturating_add(missing))
+impl Said {
+    /// The status of a call that succeeds.
+    pub fn status(&self, status: u32) -> Result<u32, Error> {
+        match status {
+            sys::OK | sys::END.. => Ok(status),
+            sys::BUFFER_TOO_SMALL => Err(Error::new(Reason::BufferTooSmall, self.length)),
+            _ => Err(Error {
+                character: char::from_u32(self.character.into()).filter(|it| *it != '\0'),
+                ..Error::new(Reason::of(status), self.fault)
+            }),
+        }
+    }
+
+    /// The length of the result.
+    pub fn result(&self, status: u32) -> Result<usize, Error> {
+        self.status(status).map(|_| self.length)
+    }
+
+    /// The length of a text that the call writes.
+    pub fn text(&self, status: u32) -> Result<usize, Error> {
+        // A text also needs room for its NUL.
+        let missing = usize::from(status == sys::BUFFER_TOO_SMALL);
+        let length = self.length.saturating_add(missing);
+        Self { length, ..*self }.result(status)
+    }
 }

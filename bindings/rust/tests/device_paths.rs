@@ -377,7 +377,10 @@ fn load_options() -> Result<(), Error> {
     assert!(option.description_chars().eq(['d']) && option.description_units().eq([0x64]));
     assert!(option.device_paths().eq([entry.device_path]));
     let error = LoadOption::from_bytes(&bytes[..9]).unwrap_err();
-    assert_eq!(error.to_string(), "description is not null-terminated at offset 8");
+    assert_eq!(
+        error.to_string(),
+        "description is not null-terminated at offset 8"
+    );
 
     // A pair of surrogates, a surrogate without a partner, and ESC.
     let units = [0xd83d, 0xde00, 0xd800, 0x1b, 0x62, 0];

@@ -3,7 +3,7 @@
 use super::chars::{Char16, NUL_16};
 use super::strs::{CStr16, EqStrUntilNul, FromSliceWithNulError};
 use super::UnalignedSlice;
-use crate::error::{check, Error, Reason};
+use crate::error::{Error, Reason};
 use crate::sys;
 use alloc::borrow::{Borrow, ToOwned};
 use alloc::string::String;
@@ -210,10 +210,10 @@ impl FromStr for CString16 {
     /// Creates a string from a text. The error says which character is refused, and where.
     fn from_str(text: &str) -> Result<Self, Error> {
         // No character has fewer bytes than units.
-        let (mut units, mut place) = (vec![0; text.len() + 1], 0);
-        let reason = sys::nard_string_from_utf8(text.as_bytes(), &mut units, &mut place);
-        check(reason, place).map_err(|error| error.in_text(text))?;
-        units.truncate(place + 1);
+        let mut units = vec![0; text.len() + 1];
+        let length = sys::nard_string_from_utf8(text.as_bytes(), &mut units)
+            .map_err(|error| error.in_text(text))?;
+        units.truncate(length + 1);
         Ok(Self(units))
     }
 }

@@ -1,6 +1,6 @@
 //! Text for people.
 
-use crate::error::{check, Error, Reason};
+use crate::error::{Error, Reason};
 use crate::sys;
 use core::fmt::{self, Write};
 
@@ -36,10 +36,8 @@ pub(crate) fn pad(
 /// # Ok::<(), nardcorbel::Error>(())
 /// ```
 pub fn str_from_units_lossy<'a>(units: &[u16], buffer: &'a mut [u8]) -> Result<&'a str, Error> {
-    let mut place = 0;
-    let reason = sys::nard_utf8_from_units_lossy(units, buffer, &mut place);
-    check(reason, place)?;
-    text_of(&buffer[..place])
+    let size = sys::nard_string_to_utf8_lossy(units, buffer)?;
+    text_of(&buffer[..size])
 }
 
 /// The text that bytes are.

@@ -2,7 +2,7 @@
 
 use super::chars::{Char16, Char8, NUL_16};
 use super::UnalignedSlice;
-use crate::error::{check, Error};
+use crate::error::{Error, Reason};
 use crate::sys;
 use core::borrow::Borrow;
 use core::cmp::Ordering;
@@ -309,11 +309,12 @@ impl CStr16 {
     /// # Ok::<(), nardcorbel::data_types::FromSliceUntilNulError>(())
     /// ```
     pub fn from_u16_until_nul(units: &[u16]) -> Result<&Self, FromSliceUntilNulError> {
-        let mut place = 0;
-        match sys::nard_string_until_nul(units, &mut place) {
-            sys::OK => Ok(Self::of(&units[..=place])),
-            sys::INVALID_CHAR => Err(FromSliceUntilNulError::InvalidChar(place)),
-            _ => Err(FromSliceUntilNulError::NoNul),
+        match sys::nard_string_length(units) {
+            Ok(length) => Ok(Self::of(&units[..=length])),
+            Err(error) => Err(match error.reason {
+                Reason::InvalidChar => FromSliceUntilNulError::InvalidChar(error.place),
+                _ => FromSliceUntilNulError::NoNul,
+            }),
         }
     }
 
@@ -327,12 +328,13 @@ impl CStr16 {
     /// # Ok::<(), nardcorbel::data_types::FromSliceWithNulError>(())
     /// ```
     pub fn from_u16_with_nul(units: &[u16]) -> Result<&Self, FromSliceWithNulError> {
-        let mut place = 0;
-        match sys::nard_string_with_nul(units, &mut place) {
-            sys::OK => Ok(Self::of(units)),
-            sys::INVALID_CHAR => Err(FromSliceWithNulError::InvalidChar(place)),
-            sys::INTERIOR_NUL => Err(FromSliceWithNulError::InteriorNul(place)),
-            _ => Err(FromSliceWithNulError::NotNulTerminated),
+        match sys::nard_string_check(units) {
+            Ok(_) => Ok(Self::of(units)),
+            Err(error) => Err(match error.reason {
+                Reason::InvalidChar => FromSliceWithNulError::InvalidChar(error.place),
+                Reason::InteriorNul => FromSliceWithNulError::InteriorNul(error.place),
+                _ => FromSliceWithNulError::NotNulTerminated,
+            }),
         }
     }
 
@@ -676,10 +678,8 @@ impl CStr16 {
     /// # Ok::<(), nardcorbel::Error>(())
     /// ```
     pub fn to_str_in_buf<'a>(&self, buffer: &'a mut [u8]) -> Result<&'a str, Error> {
-        let mut place = 0;
-        let reason = sys::nard_utf8_from_string(self.to_u16_slice_with_nul(), buffer, &mut place);
-        check(reason, place)?;
-        super::shown::text_of(&buffer[..place])
+        let size = sys::nard_string_to_utf8(self.to_u16_slice_with_nul(), buffer)?;
+        super::shown::text_of(&buffer[..size])
     }
 
     /// Returns the bytes of the units and the NUL, in the machine's order.
@@ -721,7 +721,7 @@ impl CStr16 {
     #[must_use]
     pub fn cmp_ignore_case(&self, other: &Self) -> Ordering {
         let (one, two) = (self.to_u16_slice_with_nul(), other.to_u16_slice_with_nul());
-        sys::nard_string_order_ignore_case(one, two).cmp(&0)
+        sys::nard_string_compare_ignore_case(one, two).cmp(&0)
     }
 
     /// Returns whether a pattern matches the whole string without case. Patterns have `*`, `?` and sets such as `[a-z]`.

@@ -6,7 +6,7 @@ use super::{validate_path, Component, Components, SEPARATOR, SEPARATOR_STR};
 use super::{PathArgument, PathBuf};
 use crate::char16;
 use crate::data_types::CStr16;
-use crate::error::{check, Error, Reason};
+use crate::error::{Error, Reason};
 use crate::sys;
 use core::cmp::Ordering;
 use core::fmt;
@@ -235,9 +235,8 @@ impl Path {
     /// # Ok::<(), nardcorbel::Error>(())
     /// ```
     pub fn join_in_buf<'a>(&self, other: &Self, buffer: &'a mut [u16]) -> Result<&'a Self, Error> {
-        let mut length = 0;
-        let reason = sys::nard_path_join(self.units(), other.units(), buffer, &mut length);
-        written(reason, length, buffer)
+        let length = sys::nard_path_join(self.units(), other.units(), buffer)?;
+        Ok(written(length, buffer))
     }
 
     /// Writes the path with one separator at its start to a buffer, and returns it: see [`with_root`](Self::with_root).
@@ -264,9 +263,8 @@ impl Path {
     /// # Ok::<(), nardcorbel::Error>(())
     /// ```
     pub fn parent_in_buf<'a>(&self, buffer: &'a mut [u16]) -> Result<&'a Self, Error> {
-        let mut length = 0;
-        let reason = sys::nard_path_parent(self.units(), buffer, &mut length);
-        written(reason, length, buffer)
+        let length = sys::nard_path_parent(self.units(), buffer)?;
+        Ok(written(length, buffer))
     }
 
     /// Writes the path without `.`, and without each name that a `..` follows, to the start of a buffer and returns it.
@@ -280,10 +278,9 @@ impl Path {
     /// # Ok::<(), nardcorbel::Error>(())
     /// ```
     pub fn normalize_in_buf<'a>(&self, buffer: &'a mut [u16]) -> Result<&'a Self, Error> {
-        let (mut length, mut unit) = (0, 0);
-        let reason = sys::nard_path_normalize(self.units(), buffer, &mut length, &mut unit);
-        written(reason, length, buffer)
-            .map_err(|error| located(error.with_unit(unit), self.0.chars(), true))
+        let length = sys::nard_path_normalize(self.units(), buffer)
+            .map_err(|error| located(error, self.0.chars(), true))?;
+        Ok(written(length, buffer))
     }
 
     /// Writes the path that a text is, without `.` and without each name that a `..` follows, to the start of a buffer and
@@ -300,22 +297,20 @@ impl Path {
     /// # Ok::<(), nardcorbel::Error>(())
     /// ```
     pub fn normalize_str_in_buf<'a>(text: &str, buffer: &'a mut [u16]) -> Result<&'a Self, Error> {
-        let (mut length, mut unit) = (0, 0);
-        match sys::nard_path_normalize_utf8(text.as_bytes(), buffer, &mut length, &mut unit) {
-            sys::BUFFER_TOO_SMALL => Err(Error::new(
-                Reason::BufferTooSmall,
-                length.saturating_add(1).saturating_mul(2),
-            )),
-            reason => written(reason, length, buffer)
-                .map_err(|error| located(error.in_text(text).with_unit(unit), text.chars(), true)),
-        }
+        let length = sys::nard_path_normalize_utf8(text.as_bytes(), buffer).map_err(|error| {
+            match error.reason {
+                // Each half of the buffer needs as much.
+                Reason::BufferTooSmall => Error::new(error.reason, error.place.saturating_mul(2)),
+                _ => located(error.in_text(text), text.chars(), true),
+            }
+        })?;
+        Ok(written(length, buffer))
     }
 }
 
-/// The path of this length at the start of a buffer, or why the call failed.
-fn written(reason: u32, length: usize, buffer: &[u16]) -> Result<&Path, Error> {
-    check(reason, length)?;
-    Ok(Path::new(CStr16::of(&buffer[..=length])))
+/// The path of this length that a call wrote to the start of a buffer.
+fn written(length: usize, buffer: &[u16]) -> &Path {
+    Path::new(CStr16::of(&buffer[..=length]))
 }
 
 /// Calls that allocate.

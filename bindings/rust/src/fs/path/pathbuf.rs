@@ -80,16 +80,13 @@ impl PathBuf {
 
     pub(super) fn push_path(&mut self, path: &Path) {
         let (added, units) = (path.to_cstr16().to_u16_slice_with_nul(), self.0.units_mut());
-        let (before, mut length) = (units.len(), 0);
+        let before = units.len();
         // Room for a separator too.
         units.resize(before + added.len(), 0);
-        let reason = sys::nard_path_push(units, added, &mut length);
+        let length = sys::nard_path_push(units, before - 1, added);
         // Only a string that unsafe code made without its condition can fail. The path is then as before.
-        match reason {
-            sys::OK => units.truncate(length + 1),
-            _ => units.truncate(before),
-        }
-        assert_eq!(reason, sys::OK, "the path to add is no string");
+        units.truncate(length.map_or(before, |it| it + 1));
+        assert!(length.is_ok(), "the path to add is no string");
     }
 
     /// Returns the string of the path.

@@ -54,18 +54,18 @@ impl core::error::Error for PathError {}
 /// assert_eq!(error.to_string(), "path contains an illegal character (value 58)");
 /// ```
 pub fn validate_path<P: AsRef<Path>>(path: P) -> Result<(), PathError> {
-    let (mut length, mut unit) = (0, 0);
-    let units = path.as_ref().to_cstr16().to_u16_slice_with_nul();
-    match sys::nard_path_verdict(units, &mut length, &mut unit) {
-        sys::OK => Ok(()),
-        sys::PATH_EMPTY => Err(PathError::Empty),
-        sys::EMPTY_COMPONENT => Err(PathError::EmptyComponent),
-        sys::CLIMBS_ABOVE_ROOT => Err(PathError::ClimbsAboveRoot),
+    let Err(error) = sys::nard_path_check(path.as_ref().to_cstr16().to_u16_slice_with_nul()) else {
+        return Ok(());
+    };
+    Err(match error.reason {
+        Reason::PathEmpty => PathError::Empty,
+        Reason::EmptyComponent => PathError::EmptyComponent,
+        Reason::ClimbsAboveRoot => PathError::ClimbsAboveRoot,
         // The library names a character of the path, so it is no surrogate.
-        _ => Err(PathError::IllegalChar(
-            Char16::try_from(unit).unwrap_or_default(),
-        )),
-    }
+        _ => PathError::IllegalChar(
+            Char16::try_from(error.character.unwrap_or_default()).unwrap_or_default(),
+        ),
+    })
 }
 
 impl PathError {

@@ -34,6 +34,7 @@ view! {
 /// The struct that builds the node with three strings.
 pub(super) mod expanded {
     use super::fields;
+    use crate::proto::device_path::node_fields::full_type;
     use crate::proto::device_path::{BuildNode, DeviceSubType, DeviceType};
 
     /// A device that ACPI names by numbers or by strings. A NUL is added to each string; a NUL in it ends it.
@@ -65,17 +66,23 @@ pub(super) mod expanded {
 
     impl BuildNode for Expanded<'_> {
         fn full_type(&self) -> (DeviceType, DeviceSubType) {
-            (
-                DeviceType(fields::EXPANDED.0),
-                DeviceSubType(fields::EXPANDED.1),
-            )
+            full_type(fields::EXPANDED)
         }
 
         fn parts(&self, write: &mut dyn FnMut(usize, &[u8])) {
-            write(fields::EXPANDED_HID.0, &self.hid.to_le_bytes());
-            write(fields::EXPANDED_UID.0, &self.uid.to_le_bytes());
-            write(fields::EXPANDED_CID.0, &self.cid.to_le_bytes());
-            let mut place = fields::EXPANDED_ID_STRINGS.0;
+            write(
+                fields::offset(fields::EXPANDED_HID),
+                &self.hid.to_le_bytes(),
+            );
+            write(
+                fields::offset(fields::EXPANDED_UID),
+                &self.uid.to_le_bytes(),
+            );
+            write(
+                fields::offset(fields::EXPANDED_CID),
+                &self.cid.to_le_bytes(),
+            );
+            let mut place = fields::offset(fields::EXPANDED_ID_STRINGS);
             for string in [self.hid_str, self.uid_str, self.cid_str] {
                 let string = string.split(|it| *it == 0).next().unwrap_or_default();
                 for part in [string, &[0]] {
@@ -100,7 +107,7 @@ impl Expanded {
     /// ```
     #[must_use]
     pub fn hid(&self) -> u32 {
-        Field::read(self.0.data(), fields::EXPANDED_HID.0)
+        Field::read(self.0.data(), fields::offset(fields::EXPANDED_HID))
     }
 
     /// Returns the number of its unique ID, `_UID`.
@@ -115,7 +122,7 @@ impl Expanded {
     /// ```
     #[must_use]
     pub fn uid(&self) -> u32 {
-        Field::read(self.0.data(), fields::EXPANDED_UID.0)
+        Field::read(self.0.data(), fields::offset(fields::EXPANDED_UID))
     }
 
     /// Returns the number of its compatible ID, `_CID`.
@@ -130,7 +137,7 @@ impl Expanded {
     /// ```
     #[must_use]
     pub fn cid(&self) -> u32 {
-        Field::read(self.0.data(), fields::EXPANDED_CID.0)
+        Field::read(self.0.data(), fields::offset(fields::EXPANDED_CID))
     }
 
     /// Returns the strings of its three IDs `_HID`, `_UID` and `_CID`, each ended by a NUL.
@@ -145,7 +152,7 @@ impl Expanded {
     /// ```
     #[must_use]
     pub fn id_strings(&self) -> &[u8] {
-        Field::read(self.0.data(), fields::EXPANDED_ID_STRINGS.0)
+        Field::read(self.0.data(), fields::offset(fields::EXPANDED_ID_STRINGS))
     }
 
     /// Returns one of the three strings, without its NUL; an empty one if the data ends before it.

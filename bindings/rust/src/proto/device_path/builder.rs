@@ -1,7 +1,7 @@
 //! Device paths that are built node by node.
 
 use super::{DevicePath, DeviceSubType, DeviceType};
-use crate::error::{check_bytes, Error, Reason};
+use crate::error::{Error, Reason};
 use crate::sys;
 #[cfg(feature = "alloc")]
 use alloc::vec::Vec;
@@ -177,13 +177,10 @@ impl<'a> DevicePathBuilder<'a> {
     /// assert!(DevicePathBuilder::with_buf(&mut buffer).finalize().is_ok());
     /// ```
     pub fn with_buf<B: Buffer + ?Sized>(buffer: &'a mut B) -> Self {
-        let (buffer, mut length) = (buffer.initialized(), 0);
-        if sys::nard_device_path_begin(buffer, &mut length) != sys::OK {
-            length = 0;
-        }
+        let buffer = buffer.initialized();
         Self {
+            length: sys::nard_device_path_init(buffer).unwrap_or(0),
             room: Room::Buffer(buffer),
-            length,
             is_ended: false,
         }
     }
@@ -271,22 +268,37 @@ impl<'a> DevicePathBuilder<'a> {
     }
 
     /// Calls the library with a buffer, and again with a larger one if the buffer can grow.
-    fn add(mut self, call: &mut dyn FnMut(&mut [u8], &mut usize) -> u32) -> Result<Self, Error> {
+    fn add(
+        mut self,
+        call: impl Fn(&mut [u8], usize) -> Result<usize, Error>,
+    ) -> Result<Self, Error> {
         if self.is_ended {
             return Err(BuildError::EndNode.into());
         }
-        let mut length = 0;
-        let mut reason = call(self.room(0)?, &mut length);
-        if reason == sys::BUFFER_TOO_SMALL {
-            let more = length - self.length;
-            reason = match self.room(more) {
-                Ok(room) => call(room, &mut length),
-                Err(_) => reason,
-            };
+        let length = self.length;
+        let mut added = call(self.room(0)?, length);
+        if let Err(Error {
+            reason: Reason::BufferTooSmall,
+            place: needed,
+            ..
+        }) = added
+        {
+            if let Ok(room) = self.room(needed - length) {
+                added = call(room, length);
+            }
         }
-        check_bytes(reason, length)?;
-        self.length = length;
+        self.length = added?;
         Ok(self)
+    }
+
+    fn add_text(self, text: &str, style: u32) -> Result<Self, Error> {
+        self.add(|room, length| {
+            sys::nard_device_path_push_text(room, length, text.as_bytes(), style)
+        })
+    }
+
+    fn add_units(self, units: &[u16], style: u32) -> Result<Self, Error> {
+        self.add(|room, length| sys::nard_device_path_push_text_utf16(room, length, units, style))
     }
 
     /// Adds all nodes of another path.
@@ -302,7 +314,7 @@ impl<'a> DevicePathBuilder<'a> {
     /// # Ok::<(), nardcorbel::Error>(())
     /// ```
     pub fn push_path(self, path: &DevicePath) -> Result<Self, Error> {
-        self.add(&mut |room, length| sys::nard_device_path_append(room, path.as_bytes(), length))
+        self.add(|room, length| sys::nard_device_path_append(room, length, path.as_bytes()))
     }
 
     /// Adds the nodes of a text, such as `PciRoot(0x0)/Pci(0x1F,0x2)`. A comma ends an instance.
@@ -314,10 +326,10 @@ impl<'a> DevicePathBuilder<'a> {
     ///
     /// let mut bytes = Vec::new();
     /// let error = DevicePathBuilder::with_vec(&mut bytes).push_text("Pci(x)").unwrap_err();
-    /// assert_eq!(error.to_string(), "invalid node at offset 0");
+    /// assert_eq!(error.to_string(), "not a device path at offset 0");
     /// ```
     pub fn push_text(self, text: &str) -> Result<Self, Error> {
-        self.add(&mut |room, length| sys::nard_device_path_push_text(room, text.as_bytes(), length))
+        self.add_text(text, sys::STYLE_UEFI)
     }
 
     /// Adds the nodes of a text as people write it, such as `pciroot(0)/pci(31,2)/File(a)`: names and digits in either case,
@@ -337,9 +349,7 @@ impl<'a> DevicePathBuilder<'a> {
     /// # Ok::<(), nardcorbel::Error>(())
     /// ```
     pub fn push_lenient_text(self, text: &str) -> Result<Self, Error> {
-        self.add(&mut |room, length| {
-            sys::nard_device_path_push_lenient_text(room, text.as_bytes(), length)
-        })
+        self.add_text(text, sys::STYLE_TYPED)
     }
 
     /// Adds the nodes of a text in UTF-16, which [`push_text`](Self::push_text) reads in UTF-8. The text is the units before their
@@ -358,7 +368,7 @@ impl<'a> DevicePathBuilder<'a> {
     /// # Ok::<(), nardcorbel::Error>(())
     /// ```
     pub fn push_units(self, units: &[u16]) -> Result<Self, Error> {
-        self.add(&mut |room, length| sys::nard_device_path_push_units(room, units, length))
+        self.add_units(units, sys::STYLE_UEFI)
     }
 
     /// Adds the nodes of a text in UTF-16 as people write it, which [`push_lenient_text`](Self::push_lenient_text) reads in UTF-8.
@@ -375,7 +385,7 @@ impl<'a> DevicePathBuilder<'a> {
     /// # Ok::<(), nardcorbel::Error>(())
     /// ```
     pub fn push_lenient_units(self, units: &[u16]) -> Result<Self, Error> {
-        self.add(&mut |room, length| sys::nard_device_path_push_lenient_units(room, units, length))
+        self.add_units(units, sys::STYLE_TYPED)
     }
 
     /// Adds the nodes of a text that libefivar and efibootmgr print. libefivar prints the identifier of an NVMe node from
@@ -393,9 +403,7 @@ impl<'a> DevicePathBuilder<'a> {
     /// # Ok::<(), nardcorbel::Error>(())
     /// ```
     pub fn push_libefivar_text(self, text: &str) -> Result<Self, Error> {
-        self.add(&mut |room, length| {
-            sys::nard_device_path_push_libefivar_text(room, text.as_bytes(), length)
-        })
+        self.add_text(text, sys::STYLE_LIBEFIVAR)
     }
 
     /// Returns the number of bytes at the start of a text that are a path, as [`push_lenient_text`](Self::push_lenient_text) reads
@@ -410,10 +418,7 @@ impl<'a> DevicePathBuilder<'a> {
     /// # Ok::<(), nardcorbel::Error>(())
     /// ```
     pub fn lenient_text_extent(text: &str) -> Result<usize, Error> {
-        let mut length = 0;
-        let reason = sys::nard_lenient_text_extent(text.as_bytes(), &mut length);
-        crate::error::check(reason, length)?;
-        Ok(length)
+        sys::nard_device_path_text_extent(text.as_bytes(), sys::STYLE_TYPED)
     }
 
     /// Returns the number of bytes at the start of a text that are a path, as [`push_libefivar_text`](Self::push_libefivar_text)
@@ -427,10 +432,7 @@ impl<'a> DevicePathBuilder<'a> {
     /// # Ok::<(), nardcorbel::Error>(())
     /// ```
     pub fn libefivar_text_extent(text: &str) -> Result<usize, Error> {
-        let mut length = 0;
-        let reason = sys::nard_libefivar_text_extent(text.as_bytes(), &mut length);
-        crate::error::check(reason, length)?;
-        Ok(length)
+        sys::nard_device_path_text_extent(text.as_bytes(), sys::STYLE_LIBEFIVAR)
     }
 
     /// Writes in words why [`push_lenient_text`](Self::push_lenient_text) fails with [`Reason::NoNode`] for a text, into a buffer,
@@ -439,17 +441,23 @@ impl<'a> DevicePathBuilder<'a> {
     /// ```
     /// use nardcorbel::proto::device_path::build::DevicePathBuilder;
     ///
-    /// let mut units = [0; 64];
+    /// let mut units = [0; 128];
     /// let words = DevicePathBuilder::lenient_text_fault("Pci(x)", &mut units)?;
     /// let words = String::from_utf16_lossy(words);
     /// assert_eq!(words, "invalid node at offset 0: expected a number up to 0xFF at offset 4");
     /// # Ok::<(), nardcorbel::Error>(())
     /// ```
     pub fn lenient_text_fault<'b>(text: &str, buffer: &'b mut [u16]) -> Result<&'b [u16], Error> {
-        let mut length = 0;
-        let reason = sys::nard_lenient_text_fault(text.as_bytes(), buffer, &mut length);
-        crate::error::check(reason, length)?;
-        Ok(&buffer[..length])
+        // The words are ASCII, and fewer than these.
+        let mut words = [0; 256];
+        let size = sys::nard_device_path_explain(text.as_bytes(), sys::STYLE_TYPED, &mut words)?;
+        let room = buffer.get_mut(..=size);
+        let units = room.ok_or(Error::new(Reason::BufferTooSmall, size + 1))?;
+        units
+            .iter_mut()
+            .zip(words)
+            .for_each(|(unit, it)| *unit = it.into());
+        Ok(&units[..size])
     }
 
     /// Writes in words why [`push_lenient_units`](Self::push_lenient_units) fails with [`Reason::NoNode`] for a text, as
@@ -458,7 +466,7 @@ impl<'a> DevicePathBuilder<'a> {
     /// ```
     /// use nardcorbel::proto::device_path::build::DevicePathBuilder;
     ///
-    /// let (text, mut units) = ("Pci(x)".encode_utf16().collect::<Vec<u16>>(), [0; 64]);
+    /// let (text, mut units) = ("Pci(x)".encode_utf16().collect::<Vec<u16>>(), [0; 128]);
     /// let words = String::from_utf16_lossy(DevicePathBuilder::lenient_units_fault(&text, &mut units)?);
     /// assert_eq!(words, "invalid node at offset 0: expected a number up to 0xFF at offset 4");
     /// # Ok::<(), nardcorbel::Error>(())
@@ -467,9 +475,7 @@ impl<'a> DevicePathBuilder<'a> {
         units: &[u16],
         buffer: &'b mut [u16],
     ) -> Result<&'b [u16], Error> {
-        let mut length = 0;
-        let reason = sys::nard_lenient_units_fault(units, buffer, &mut length);
-        crate::error::check(reason, length)?;
+        let length = sys::nard_device_path_explain_utf16(units, sys::STYLE_TYPED, buffer)?;
         Ok(&buffer[..length])
     }
 

@@ -2,7 +2,7 @@
 
 use super::DevicePath;
 use crate::data_types::Shown;
-use crate::error::{check, Error};
+use crate::error::Error;
 use crate::sys;
 use core::iter::FusedIterator;
 
@@ -21,7 +21,7 @@ use core::iter::FusedIterator;
 #[derive(Clone, Copy, Debug)]
 pub struct LoadOption<'a> {
     bytes: &'a [u8],
-    parts: sys::LoadOption,
+    parts: sys::LoadOptionParts,
 }
 
 impl<'a> LoadOption<'a> {
@@ -37,11 +37,8 @@ impl<'a> LoadOption<'a> {
     /// # Ok::<(), nardcorbel::Error>(())
     /// ```
     pub fn from_bytes(bytes: &'a [u8]) -> Result<Self, Error> {
-        let (mut parts, mut offset) = (sys::LoadOption::default(), 0);
-        check(
-            sys::nard_load_option_read(bytes, &mut parts, &mut offset),
-            offset,
-        )?;
+        let mut parts = sys::LoadOptionParts::default();
+        sys::nard_load_option_check(bytes, &mut parts)?;
         Ok(Self { bytes, parts })
     }
 
@@ -56,8 +53,7 @@ impl<'a> LoadOption<'a> {
     /// ```
     #[must_use]
     pub fn attributes(&self) -> u32 {
-        // The library promises that these are 32 bits.
-        self.parts.attributes as u32
+        self.parts.attributes
     }
 
     /// Returns whether firmware tries the option by itself: the first bit of the attributes.
@@ -84,7 +80,7 @@ impl<'a> LoadOption<'a> {
     /// # Ok::<(), nardcorbel::Error>(())
     /// ```
     pub fn description_units(&self) -> impl Iterator<Item = u16> + Clone + 'a {
-        let (start, length) = (self.parts.description_start, self.parts.description_length);
+        let (start, length) = (self.parts.description_offset, self.parts.description_length);
         self.bytes[start..start + 2 * length]
             .chunks_exact(2)
             .map(|it| u16::from_le_bytes([it[0], it[1]]))
@@ -130,9 +126,9 @@ impl<'a> LoadOption<'a> {
     /// ```
     #[must_use]
     pub fn device_paths(&self) -> LoadOptionDevicePaths<'a> {
-        let (start, length) = (self.parts.list_start, self.parts.list_length);
+        let (start, size) = (self.parts.path_list_offset, self.parts.path_list_size);
         LoadOptionDevicePaths {
-            rest: &self.bytes[start..start + length],
+            rest: &self.bytes[start..start + size],
         }
     }
 
@@ -147,8 +143,7 @@ impl<'a> LoadOption<'a> {
     /// ```
     #[must_use]
     pub fn optional_data(&self) -> &'a [u8] {
-        let (start, length) = (self.parts.optional_start, self.parts.optional_length);
-        &self.bytes[start..start + length]
+        &self.bytes[self.parts.optional_data_offset..]
     }
 }
 
@@ -191,7 +186,7 @@ impl FusedIterator for LoadOptionDevicePaths<'_> {}
 pub mod build {
     use super::DevicePath;
     use crate::data_types::CStr16;
-    use crate::error::{check_bytes, Error};
+    use crate::error::Error;
     use crate::sys;
 
     /// Builds a load option of one device path.
@@ -224,21 +219,6 @@ pub mod build {
     }
 
     impl LoadOption<'_> {
-        fn write(&self, buffer: &mut [u8], length: &mut usize) -> u32 {
-            let (units, path) = (
-                self.description.to_u16_slice_with_nul(),
-                self.device_path.as_bytes(),
-            );
-            sys::nard_load_option_write(
-                self.attributes as usize,
-                units,
-                path,
-                self.optional_data,
-                buffer,
-                length,
-            )
-        }
-
         /// Writes the load option to the start of a buffer, and returns its bytes.
         ///
         /// Fails if the device path has more than 65,535 bytes, or if the buffer is too small. Then the buffer is unchanged.
@@ -254,9 +234,14 @@ pub mod build {
         /// # Ok::<(), nardcorbel::Error>(())
         /// ```
         pub fn write_in_buf<'b>(&self, buffer: &'b mut [u8]) -> Result<&'b [u8], Error> {
-            let mut length = 0;
-            check_bytes(self.write(buffer, &mut length), length)?;
-            Ok(&buffer[..length])
+            let size = sys::nard_load_option_write(
+                self.attributes,
+                self.description.to_u16_slice_with_nul(),
+                self.device_path.as_bytes(),
+                self.optional_data,
+                buffer,
+            )?;
+            Ok(&buffer[..size])
         }
 
         /// Returns the bytes of the load option. Fails if the device path has more than 65,535.

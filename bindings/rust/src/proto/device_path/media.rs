@@ -147,7 +147,7 @@ impl<'a> Field<'a> for PartitionSignature {
 
     fn read(data: &'a [u8], place: usize) -> Self {
         let signature = <[u8; 16]>::read(data, place);
-        match data[fields::HARD_DRIVE_SIGNATURE_TYPE.0] {
+        match data[fields::offset(fields::HARD_DRIVE_SIGNATURE_TYPE)] {
             0 => Self::None,
             1 => Self::Mbr(Field::read(data, place)),
             2 => Self::Guid(Guid::from_bytes(signature)),
@@ -175,6 +175,7 @@ view! {
 
 /// The items of [`build::media`](super::build::media) besides the structs of the table.
 pub(super) mod file {
+    use super::super::node_fields::full_type;
     use super::{fields, BuildNode, CStr16, DeviceSubType, DeviceType};
 
     /// The name of a file or a folder.
@@ -197,10 +198,7 @@ pub(super) mod file {
 
     impl BuildNode for FilePath<'_> {
         fn full_type(&self) -> (DeviceType, DeviceSubType) {
-            (
-                DeviceType(fields::FILE_PATH.0),
-                DeviceSubType(fields::FILE_PATH.1),
-            )
+            full_type(fields::FILE_PATH)
         }
 
         fn parts(&self, write: &mut dyn FnMut(usize, &[u8])) {

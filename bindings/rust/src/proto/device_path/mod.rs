@@ -31,12 +31,12 @@ pub mod end {
 
     view! {
         /// Ends an instance; another one follows.
-        Instance: (0x7f, 1), 0
+        Instance: crate::fields::END_INSTANCE, 0
     }
 
     view! {
         /// Ends a path.
-        Entire: (0x7f, 0xff), 0
+        Entire: 0x7fff, 0
     }
 }
 

@@ -1,8 +1,9 @@
 //! Nodes of device paths.
 
+use super::node_fields::full_type;
 use super::text;
 use super::BuildNode;
-use crate::error::{check, Error, Reason};
+use crate::error::{Error, Reason};
 use crate::fields;
 use crate::sys;
 use core::fmt;
@@ -21,12 +22,12 @@ pub struct DeviceType(pub u8);
 
 #[allow(missing_docs)]
 impl DeviceType {
-    pub const HARDWARE: Self = Self(fields::HARDWARE_VENDOR.0);
-    pub const ACPI: Self = Self(fields::ACPI.0);
-    pub const MESSAGING: Self = Self(fields::MESSAGING_VENDOR.0);
-    pub const MEDIA: Self = Self(fields::MEDIA_VENDOR.0);
-    pub const BIOS_BOOT_SPEC: Self = Self(fields::BOOT_SPECIFICATION.0);
-    pub const END: Self = Self(0x7f);
+    pub const HARDWARE: Self = full_type(fields::HARDWARE_VENDOR).0;
+    pub const ACPI: Self = full_type(fields::ACPI).0;
+    pub const MESSAGING: Self = full_type(fields::MESSAGING_VENDOR).0;
+    pub const MEDIA: Self = full_type(fields::MEDIA_VENDOR).0;
+    pub const BIOS_BOOT_SPEC: Self = full_type(fields::BOOT_SPECIFICATION).0;
+    pub const END: Self = full_type(fields::END_INSTANCE).0;
 }
 
 /// The sub-type of a node, which means something together with its type.
@@ -291,8 +292,13 @@ impl DevicePathNode {
     /// # Ok::<(), nardcorbel::Error>(())
     /// ```
     #[must_use]
-    pub fn is(&self, kind: (u8, u8)) -> bool {
-        (self.0[0], self.0[1]) == kind
+    pub fn is(&self, kind: u16) -> bool {
+        self.node_type() == kind
+    }
+
+    /// The type * 256 + the sub-type.
+    pub(super) fn node_type(&self) -> u16 {
+        u16::from_be_bytes([self.0[0], self.0[1]])
     }
 
     /// Returns a number of the data, such as `HARD_DRIVE_PARTITION_START` of [`fields`](crate::fields), or `None` if the data ends
@@ -306,9 +312,9 @@ impl DevicePathNode {
     /// # Ok::<(), nardcorbel::Error>(())
     /// ```
     #[must_use]
-    pub fn number(&self, (place, width): (usize, usize)) -> Option<u64> {
+    pub fn number(&self, field: u32) -> Option<u64> {
         let mut number = 0;
-        (sys::nard_node_number(self.data(), place, width, &mut number) == sys::OK).then_some(number)
+        (sys::nard_node_number(self.data(), field, &mut number) == sys::OK).then_some(number)
     }
 
     /// Returns the bytes of a field, or `None` if the data ends before it.
@@ -321,20 +327,16 @@ impl DevicePathNode {
     /// # Ok::<(), nardcorbel::Error>(())
     /// ```
     #[must_use]
-    pub fn bytes(&self, (place, width): (usize, usize)) -> Option<&[u8]> {
-        let rest = self.data().get(place..)?;
-        match width {
+    pub fn bytes(&self, field: u32) -> Option<&[u8]> {
+        let rest = self.data().get(fields::offset(field)..)?;
+        match fields::size(field) {
             0 => Some(rest),
-            _ => rest.get(..width),
+            size => rest.get(..size),
         }
     }
 
     /// Tests the conditions of a view.
-    pub(super) fn check_kind(
-        &self,
-        kind: (u8, u8),
-        least: usize,
-    ) -> Result<(), NodeConversionError> {
+    pub(super) fn check_kind(&self, kind: u16, least: usize) -> Result<(), NodeConversionError> {
         match self.data().len() {
             _ if !self.is(kind) => Err(NodeConversionError::DifferentType),
             it if it < least => Err(NodeConversionError::InvalidLength),
@@ -359,10 +361,8 @@ impl DevicePathNode {
         allow_shortcuts: bool,
         buffer: &'b mut [u16],
     ) -> Result<&'b [u16], Error> {
-        let mut length = 0;
-        let reason =
-            sys::nard_node_text(&self.0, display_only, allow_shortcuts, buffer, &mut length);
-        check(reason, length)?;
+        let style = text::style(display_only, allow_shortcuts);
+        let length = sys::nard_node_format_utf16(&self.0, style, buffer)?;
         Ok(&buffer[..length])
     }
 }
@@ -373,10 +373,8 @@ impl<'a> TryFrom<&'a [u8]> for &'a DevicePathNode {
     /// Reads the node at the start of bytes. Bytes after it are ignored.
     fn try_from(bytes: &'a [u8]) -> Result<Self, Error> {
         let (mut offset, mut node) = (0, sys::DeviceNode::default());
-        match sys::nard_device_path_next_node(bytes, &mut offset, &mut node) {
-            sys::OK | sys::END_OF_PATH => Ok(DevicePathNode::of(&bytes[..offset])),
-            reason => Err(Error::new(Reason::of(reason), offset)),
-        }
+        sys::nard_device_path_next_node(bytes, &mut offset, &mut node)?;
+        Ok(DevicePathNode::of(&bytes[..offset]))
     }
 }
 

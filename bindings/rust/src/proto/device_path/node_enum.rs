@@ -1,5 +1,6 @@
 //! Nodes by their kinds.
 
+use super::node_fields::full_type;
 use super::{acpi, bios_boot_spec, hardware, media, messaging};
 use super::{DevicePathNode, DeviceSubType, NodeConversionError};
 use crate::fields;
@@ -30,7 +31,7 @@ macro_rules! kinds {
             type Error = NodeConversionError;
 
             fn try_from(node: &'a DevicePathNode) -> Result<Self, NodeConversionError> {
-                match (node.device_type().0, node.sub_type().0) {
+                match node.node_type() {
                     $(fields::$kind => node.try_into().map(Self::$variant),)*
                     _ => Err(NodeConversionError::UnsupportedType),
                 }
@@ -41,7 +42,7 @@ macro_rules! kinds {
         impl DeviceSubType {
             pub const END_INSTANCE: Self = Self(1);
             pub const END_ENTIRE: Self = Self(0xff);
-            $(pub const $constant: Self = Self(fields::$kind.1);)*
+            $(pub const $constant: Self = full_type(fields::$kind).1;)*
         }
     };
 }

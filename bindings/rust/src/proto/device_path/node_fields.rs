@@ -2,6 +2,7 @@
 
 use crate::data_types::unaligned_slice::Plain;
 use crate::data_types::{Guid, UnalignedSlice};
+use crate::proto::device_path::{DeviceSubType, DeviceType};
 
 /// A part of a node's data, which a view returns.
 pub(crate) trait Field<'a>: Sized {
@@ -10,6 +11,12 @@ pub(crate) trait Field<'a>: Sized {
 
     /// Reads it. The data of a view has as many bytes as its kind needs.
     fn read(data: &'a [u8], place: usize) -> Self;
+}
+
+/// Returns the type and the sub-type that a constant of [`fields`](crate::fields) has in one number.
+pub(crate) const fn full_type(node_type: u16) -> (DeviceType, DeviceSubType) {
+    let [kind, sub_type] = node_type.to_be_bytes();
+    (DeviceType(kind), DeviceSubType(sub_type))
 }
 
 /// A part of a node's data, which a builder writes.
@@ -202,10 +209,10 @@ macro_rules! views {
                     #[must_use]
                     pub fn $field<'a>(&'a self) -> $type {
                         const {
-                            let width = $crate::fields::$place.1;
+                            let width = $crate::fields::size($crate::fields::$place);
                             assert!(width == 0 || width == <$type as $crate::proto::device_path::node_fields::Field>::WIDTH);
                         }
-                        $crate::proto::device_path::node_fields::Field::read(self.0.data(), $crate::fields::$place.0)
+                        $crate::proto::device_path::node_fields::Field::read(self.0.data(), $crate::fields::offset($crate::fields::$place))
                     }
                 )*
             }
@@ -215,7 +222,7 @@ macro_rules! views {
         pub mod build {
             #[allow(unused_imports)]
             use super::*;
-            use $crate::proto::device_path::node_fields::{built, Put};
+            use $crate::proto::device_path::node_fields::{built, full_type, Put};
             use $crate::proto::device_path::{BuildNode, DeviceSubType, DeviceType};
 
             $(
@@ -232,15 +239,14 @@ macro_rules! views {
 
                 impl<$($life)?> BuildNode for $name<$($life)?> {
                     fn full_type(&self) -> (DeviceType, DeviceSubType) {
-                        let (kind, sub_type) = $crate::fields::$kind;
-                        (DeviceType(kind), DeviceSubType(sub_type))
+                        full_type($crate::fields::$kind)
                     }
 
                     fn parts(&self, write: &mut dyn FnMut(usize, &[u8])) {
                         // Bytes that belong to no field are zero.
                         write($least, &[]);
                         $(
-                            let mut place = $crate::fields::$place.0;
+                            let mut place = $crate::fields::offset($crate::fields::$place);
                             self.$field.bytes(&mut |bytes| {
                                 write(place, bytes);
                                 place += bytes.len();

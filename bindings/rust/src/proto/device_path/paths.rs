@@ -1,8 +1,8 @@
 //! Device paths in borrowed and in owned bytes.
 
-use super::{text, DevicePathNode, DeviceType, FfiDevicePath};
+use super::{fields, text, DevicePathNode, FfiDevicePath};
 use crate::data_types::CStr16;
-use crate::error::{check, Error};
+use crate::error::Error;
 use crate::fs::Path;
 use crate::sys;
 #[cfg(feature = "alloc")]
@@ -44,9 +44,8 @@ impl DevicePath {
     /// assert_eq!(error.to_string(), "device path node is shorter than its header at offset 2");
     /// ```
     pub fn from_bytes(bytes: &[u8]) -> Result<&Self, Error> {
-        let mut length = 0;
-        check(sys::nard_device_path_check(bytes, &mut length), length)?;
-        Ok(Self::of(&bytes[..length]))
+        let size = sys::nard_device_path_check(bytes)?;
+        Ok(Self::of(&bytes[..size]))
     }
 
     /// Borrows the device path at an address, as firmware gives it.
@@ -113,10 +112,7 @@ impl DevicePath {
             if count < needed {
                 return Self::from_bytes(bytes);
             }
-            check(
-                sys::nard_device_path_needs(bytes, &mut offset, &mut needed),
-                offset,
-            )?;
+            sys::nard_device_path_needs(bytes, &mut offset, &mut needed)?;
             if needed <= count {
                 return Ok(Self::of(&bytes[..needed]));
             }
@@ -194,11 +190,7 @@ impl DevicePath {
     /// # Ok::<(), nardcorbel::Error>(())
     /// ```
     pub fn file_path_in_buf<'b>(&self, buffer: &'b mut [u16]) -> Result<&'b Path, Error> {
-        let mut length = 0;
-        check(
-            sys::nard_device_path_file_path(&self.0, buffer, &mut length),
-            length,
-        )?;
+        let length = sys::nard_device_path_file_path_utf16(&self.0, buffer)?;
         Ok(Path::new(CStr16::of(&buffer[..=length])))
     }
 
@@ -223,10 +215,8 @@ impl DevicePath {
         allow_shortcuts: bool,
         buffer: &'b mut [u16],
     ) -> Result<&'b [u16], Error> {
-        let mut length = 0;
-        let reason =
-            sys::nard_device_path_text(&self.0, display_only, allow_shortcuts, buffer, &mut length);
-        check(reason, length)?;
+        let style = text::style(display_only, allow_shortcuts);
+        let length = sys::nard_device_path_format_utf16(&self.0, style, buffer)?;
         Ok(&buffer[..length])
     }
 
@@ -240,11 +230,8 @@ impl DevicePath {
     /// # Ok::<(), Box<dyn std::error::Error>>(())
     /// ```
     pub fn libefivar_text_in_buf<'b>(&self, buffer: &'b mut [u16]) -> Result<&'b [u16], Error> {
-        let mut length = 0;
-        check(
-            sys::nard_device_path_libefivar_text(&self.0, buffer, &mut length),
-            length,
-        )?;
+        let style = sys::STYLE_LIBEFIVAR;
+        let length = sys::nard_device_path_format_utf16(&self.0, style, buffer)?;
         Ok(&buffer[..length])
     }
 
@@ -315,13 +302,10 @@ impl DevicePath {
     /// # Ok::<(), nardcorbel::Error>(())
     /// ```
     pub fn append_path(&self, right: &Self) -> Result<Box<Self>, Error> {
-        let (mut bytes, mut length) = (self.0.to_vec(), 0);
+        let mut bytes = self.0.to_vec();
         bytes.resize(bytes.len() + right.0.len(), 0);
-        check(
-            sys::nard_device_path_append(&mut bytes, &right.0, &mut length),
-            length,
-        )?;
-        bytes.truncate(length);
+        let size = sys::nard_device_path_append(&mut bytes, self.0.len(), &right.0)?;
+        bytes.truncate(size);
         Ok(Self::boxed(bytes))
     }
 
@@ -336,14 +320,11 @@ impl DevicePath {
     /// # Ok::<(), nardcorbel::Error>(())
     /// ```
     pub fn append_node(&self, right: &DevicePathNode) -> Result<Box<Self>, Error> {
-        let (mut bytes, mut length) = (self.0.to_vec(), 0);
+        let mut bytes = self.0.to_vec();
         bytes.resize(bytes.len() + right.as_bytes().len(), 0);
-        let (kind, sub_type) = (right.device_type().0, right.sub_type().0);
-        check(
-            sys::nard_device_path_push(&mut bytes, kind, sub_type, right.data(), &mut length),
-            length,
-        )?;
-        bytes.truncate(length);
+        let (size, kind) = (self.0.len(), right.node_type().into());
+        let size = sys::nard_device_path_push(&mut bytes, size, kind, right.data())?;
+        bytes.truncate(size);
         Ok(Self::boxed(bytes))
     }
 
@@ -546,8 +527,9 @@ impl<'a> Iterator for DevicePathNodeIterator<'a> {
 
     fn next(&mut self) -> Option<&'a DevicePathNode> {
         let (mut offset, mut node) = (0, sys::DeviceNode::default());
-        let reason = sys::nard_device_path_next_node(self.rest, &mut offset, &mut node);
-        if reason != sys::OK || (self.of_instance && node.device_type == DeviceType::END.0) {
+        let status = sys::nard_device_path_next_node(self.rest, &mut offset, &mut node);
+        let is_end = self.of_instance && node.node_type == fields::END_INSTANCE.into();
+        if status != Ok(sys::OK) || is_end {
             self.rest = &[];
             return None;
         }

@@ -2,6 +2,7 @@
 
 use super::{DevicePath, DevicePathInstance, DevicePathNode};
 use crate::error::Error;
+use crate::sys;
 #[cfg(feature = "alloc")]
 use crate::{
     data_types::{CString16, FromSliceWithNulError},
@@ -32,6 +33,13 @@ pub struct DisplayOnly(pub bool);
 /// ```
 #[derive(Clone, Copy, Debug, Default, PartialEq, Eq)]
 pub struct AllowShortcuts(pub bool);
+
+/// The style of the specification with these options.
+pub(super) fn style(display_only: bool, allow_shortcuts: bool) -> u32 {
+    sys::STYLE_UEFI
+        + u32::from(display_only) * sys::DISPLAY_ONLY
+        + u32::from(allow_shortcuts) * sys::ALLOW_SHORTCUTS
+}
 
 /// The number of units of a text that are kept on the stack.
 const ROOM: usize = 256;
