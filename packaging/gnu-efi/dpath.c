@@ -25,7 +25,7 @@ NodeSize (
     )
 {
     EFI_DEVICE_PATH     Header = *Node;
-    nard_size           Next = 0, Needed;
+    UINTN               Next = 0, Needed;
 
     // An unpacked node has a flag in its type, and an unpacked end node is padded.
     if (IsDevicePathUnpacked (Node)) {
@@ -35,7 +35,7 @@ NodeSize (
         }
     }
 
-    if (nard_device_path_needs ((UINT8 *) &Header, HEADER, &Next, &Needed) != NARD_OK) {
+    if (nard_device_path_needs ((UINT8 *) &Header, HEADER, &Next, &Needed, NULL) != NARD_OK) {
         return 0;
     }
 
@@ -263,11 +263,12 @@ FileDevicePath (
     UINTN               Capacity = NameSize + 2 * HEADER;
     UINT8               *File = AllocatePool (Capacity);
     EFI_DEVICE_PATH     *Whole;
-    nard_size           Size;
+    UINTN               Size;
 
     // The library rejects a name that is too long for a node.
-    if (!File || nard_device_path_begin (File, Capacity, &Size) != NARD_OK ||
-        nard_device_path_push_at (File, Capacity, Size, MEDIA_DEVICE_PATH, MEDIA_FILEPATH_DP, (UINT8 *) FileName, NameSize, &Size) != NARD_OK) {
+    if (!File || nard_device_path_init (File, Capacity, &Size) != NARD_OK ||
+        nard_device_path_push (File, Capacity, Size, MEDIA_DEVICE_PATH * 256 + MEDIA_FILEPATH_DP, (UINT8 *) FileName, NameSize,
+                               NULL, NULL) != NARD_OK) {
         if (File) {
             FreePool (File);
         }
@@ -345,8 +346,7 @@ DevicePathToStr (
     )
 {
     EFI_DEVICE_PATH     *Path;
-    UINTN               Size, Capacity;
-    nard_size           Length;
+    UINTN               Size, Capacity, Length;
     CHAR16              *Text;
 
     if (!PathEnd (DevPath)) {
@@ -359,10 +359,10 @@ DevicePathToStr (
     }
 
     // The text is made once, in a buffer that is always large enough, and the buffer then shrinks.
-    Capacity = NARD_DEVICE_PATH_TEXT_ROOM (Size) * sizeof(CHAR16);
-    Text = AllocateZeroPool (Capacity);
-    if (Text && nard_device_path_text ((UINT8 *) Path, Size, FALSE, FALSE, Text, Capacity / sizeof(CHAR16), &Length) == NARD_OK) {
-        Text = ReallocatePool (Text, Capacity, (Length + 1) * sizeof(CHAR16));
+    Capacity = NARD_DEVICE_PATH_TEXT_CAPACITY (Size);
+    Text = AllocateZeroPool (Capacity * sizeof(CHAR16));
+    if (Text && nard_device_path_format_utf16 ((UINT8 *) Path, Size, NARD_STYLE_UEFI, Text, Capacity, &Length, NULL) == NARD_OK) {
+        Text = ReallocatePool (Text, Capacity * sizeof(CHAR16), (Length + 1) * sizeof(CHAR16));
     }
 
     FreePool (Path);

@@ -1,14 +1,8 @@
-/* The header of nardcorbel with the types of gnu-efi. Include it after gnu-efi's headers. */
+/* The header of nardcorbel with gnu-efi's UTF-16. Include it after gnu-efi's headers. */
 #ifndef NARDCORBEL_EFI_H
 #define NARDCORBEL_EFI_H
 
-#define NARD_TYPES
-typedef UINT8   nard_byte;
-typedef CHAR16  nard_unit;
-typedef UINTN   nard_size;
-typedef BOOLEAN nard_bool;
-typedef UINT32  nard_result;
-typedef INT32   nard_order;
+#define NARD_CHAR16 CHAR16
 #include <nardcorbel.h>
 
 #endif

@@ -1,7 +1,7 @@
 /** @file
-  DevicePathLib over nardcorbel, which says what a path is, where its nodes are, how it is built, and what its text is.
+  DevicePathLib on top of nardcorbel, which validates paths, walks their nodes, builds them, and formats and parses their text.
 
-  Here are the fields of single nodes, and memory from pools.
+  Left to this file are the fields of single nodes, and memory from pools.
 
   SPDX-License-Identifier: MIT OR Apache-2.0
 **/
@@ -130,21 +130,20 @@ SizeOf (
   struct nard_device_node  Node;
   UINTN                    Size;
   UINTN                    At;
-  UINTN                    Length;
   UINTN                    Count;
 
-  if ((Path == NULL) || (nard_device_path_size (Path, MaxSize, &Size) != NARD_OK)) {
+  if ((Path == NULL) || (nard_device_path_size (Path, MaxSize, &Size, NULL) != NARD_OK)) {
     return 0;
   }
 
   Count = PcdGet32 (PcdMaximumDevicePathNodeCount);
-  for (At = 0; nard_device_path_next_node (Path, Size, &At, &Node) == NARD_OK; Count--) {
+  for (At = 0; nard_device_path_next_node (Path, Size, &At, &Node, NULL) == NARD_OK; Count--) {
     if (Count == 1) {
       return 0;
     }
 
-    if ((Node.device_type == MEDIA_DEVICE_PATH) && (Node.sub_type == MEDIA_FILEPATH_DP) &&
-        (nard_packed_until_nul ((CONST UINT8 *)Path + Node.start, Node.length, &Length) != NARD_OK))
+    if ((Node.node_type == NARD_FILE_PATH) &&
+        (nard_packed_length ((CONST UINT8 *)Path + Node.data_offset, Node.data_size, NULL) != NARD_OK))
     {
       return 0;
     }
@@ -189,37 +188,35 @@ DuplicateDevicePath (
 }
 
 /**
-  A copy of a path, or of none where it is NULL, with room for more bytes; NULL if it is invalid or memory runs out.
+  A copy of a path, or of the empty one if it is NULL, and its size, with room for more bytes; NULL if it is invalid or memory runs out.
 **/
 STATIC
 UINT8 *
 Copied (
   IN  CONST EFI_DEVICE_PATH_PROTOCOL  *DevicePath  OPTIONAL,
   IN  UINTN                           More,
-  OUT UINTN                           *Room
+  OUT UINTN                           *Size
   )
 {
-  UINTN  Size;
   UINT8  *Buffer;
 
   DevicePath = DevicePath == NULL ? &mEmpty : DevicePath;
-  Size       = GetDevicePathSize (DevicePath);
-  Buffer     = Size == 0 ? NULL : AllocatePool (Size + More);
-  *Room      = Size + More;
-  return Buffer == NULL ? NULL : CopyMem (Buffer, DevicePath, Size);
+  *Size      = GetDevicePathSize (DevicePath);
+  Buffer     = *Size == 0 ? NULL : AllocatePool (*Size + More);
+  return Buffer == NULL ? NULL : CopyMem (Buffer, DevicePath, *Size);
 }
 
 /**
-  What was built, or NULL, and no memory, if the library refused it.
+  What was built, or NULL, and no memory, if the library returned an error.
 **/
 STATIC
 EFI_DEVICE_PATH_PROTOCOL *
 Built (
-  IN nard_result  Reason,
+  IN nard_status  Status,
   IN UINT8        *Buffer  OPTIONAL
   )
 {
-  if ((Reason != NARD_OK) && (Buffer != NULL)) {
+  if ((Status != NARD_OK) && (Buffer != NULL)) {
     FreePool (Buffer);
     Buffer = NULL;
   }
@@ -240,35 +237,28 @@ Appended (
 {
   UINT8        *Buffer;
   UINTN        Size;
-  UINTN        Room;
-  UINTN        Length;
-  nard_result  Reason;
+  UINTN        SecondSize;
+  UINTN        Capacity;
+  nard_status  Status;
 
-  Second = Second == NULL ? &mEmpty : Second;
-  Size   = GetDevicePathSize (Second);
-  Buffer = Size == 0 ? NULL : Copied (First, Size, &Room);
+  Second     = Second == NULL ? &mEmpty : Second;
+  SecondSize = GetDevicePathSize (Second);
+  Buffer     = SecondSize == 0 ? NULL : Copied (First, SecondSize, &Size);
   if (Buffer == NULL) {
     return NULL;
   }
 
-  Reason = NARD_OK;
+  Capacity = Size + SecondSize;
+  Status   = NARD_OK;
   if (IsInstance) {
-    Reason = nard_device_path_push (
-               Buffer,
-               Room,
-               END_DEVICE_PATH_TYPE,
-               END_INSTANCE_DEVICE_PATH_SUBTYPE,
-               NULL,
-               0,
-               &Length
-               );
+    Status = nard_device_path_push (Buffer, Capacity, Size, NARD_END_INSTANCE, NULL, 0, &Size, NULL);
   }
 
-  if (Reason == NARD_OK) {
-    Reason = nard_device_path_append (Buffer, Room, (CONST UINT8 *)Second, Size, &Length);
+  if (Status == NARD_OK) {
+    Status = nard_device_path_append (Buffer, Capacity, Size, (CONST UINT8 *)Second, SecondSize, NULL, NULL);
   }
 
-  return Built (Reason, Buffer);
+  return Built (Status, Buffer);
 }
 
 /**
@@ -278,18 +268,28 @@ STATIC
 EFI_DEVICE_PATH_PROTOCOL *
 Pushed (
   IN CONST EFI_DEVICE_PATH_PROTOCOL  *DevicePath  OPTIONAL,
-  IN UINT8                           Type,
-  IN UINT8                           SubType,
+  IN UINT32                          NodeType,
   IN CONST VOID                      *Data,
-  IN UINTN                           Size
+  IN UINTN                           DataSize
   )
 {
   UINT8  *Buffer;
-  UINTN  Room;
-  UINTN  Length;
+  UINTN  Size;
 
-  Buffer = Copied (DevicePath, HEADER + Size, &Room);
-  return Buffer == NULL ? NULL : Built (nard_device_path_push (Buffer, Room, Type, SubType, Data, Size, &Length), Buffer);
+  Buffer = Copied (DevicePath, HEADER + DataSize, &Size);
+  return Buffer == NULL ? NULL : Built (
+                                   nard_device_path_push (
+                                     Buffer,
+                                     Size + HEADER + DataSize,
+                                     Size,
+                                     NodeType,
+                                     Data,
+                                     DataSize,
+                                     NULL,
+                                     NULL
+                                     ),
+                                   Buffer
+                                   );
 }
 
 EFI_DEVICE_PATH_PROTOCOL *
@@ -322,8 +322,7 @@ AppendDevicePathNode (
 
   return Pushed (
            DevicePath,
-           DevicePathNode->Type,
-           DevicePathNode->SubType,
+           DevicePathNode->Type * 256 + DevicePathNode->SubType,
            DevicePathNode + 1,
            DevicePathNodeLength (DevicePathNode) - HEADER
            );
@@ -387,8 +386,7 @@ FileDevicePath (
 {
   return Pushed (
            Device == NULL ? NULL : DevicePathFromHandle (Device),
-           MEDIA_DEVICE_PATH,
-           MEDIA_FILEPATH_DP,
+           NARD_FILE_PATH,
            FileName,
            StrSize (FileName)
            );
@@ -413,8 +411,8 @@ EndOfInstance (
   UINTN                    At;
 
   At = 0;
-  for (*End = 0; nard_device_path_next_node (Path, Size, &At, &Node) == NARD_OK; *End = At) {
-    if (Node.device_type == END_DEVICE_PATH_TYPE) {
+  for (*End = 0; nard_device_path_next_node (Path, Size, &At, &Node, NULL) == NARD_OK; *End = At) {
+    if (Node.node_type == NARD_END_INSTANCE) {
       return TRUE;
     }
   }
@@ -466,8 +464,45 @@ GetNextDevicePathInstance (
 }
 
 //
-// Texts. The first call of the library says how long the text is.
+// Text. The first call of the library gives the length of the result.
 //
+
+typedef nard_status NARD_CALL FORMAT (
+  IN  CONST uint8_t  *Bytes,
+  IN  size_t         Size,
+  IN  uint32_t       Style,
+  OUT nard_char16    *Text,
+  IN  size_t         Capacity,
+  OUT size_t         *Length,
+  OUT size_t         *Fault
+  );
+
+STATIC
+CHAR16 *
+TextOf (
+  IN FORMAT      *Format,
+  IN CONST VOID  *Bytes,
+  IN UINTN       Size,
+  IN BOOLEAN     DisplayOnly,
+  IN BOOLEAN     AllowShortcuts
+  )
+{
+  CHAR16  *Text;
+  UINTN   Length;
+  UINT32  Style;
+
+  Style = NARD_STYLE_UEFI | (DisplayOnly ? NARD_DISPLAY_ONLY : 0) | (AllowShortcuts ? NARD_ALLOW_SHORTCUTS : 0);
+  if (Format (Bytes, Size, Style, NULL, 0, &Length, NULL) != NARD_BUFFER_TOO_SMALL) {
+    return NULL;
+  }
+
+  Text = AllocatePool ((Length + 1) * sizeof (CHAR16));
+  if (Text == NULL) {
+    return NULL;
+  }
+
+  return (CHAR16 *)Built (Format (Bytes, Size, Style, Text, Length + 1, NULL, NULL), (UINT8 *)Text);
+}
 
 CHAR16 *
 EFIAPI
@@ -477,33 +512,13 @@ ConvertDevicePathToText (
   IN BOOLEAN                         AllowShortcuts
   )
 {
-  CHAR16       *Text;
-  UINTN        Size;
-  UINTN        Length;
-  nard_result  Reason;
+  UINTN  Size;
 
-  if ((DevicePath == NULL) || (nard_device_path_size ((CONST UINT8 *)DevicePath, MAX_INTN, &Size) != NARD_OK)) {
+  if ((DevicePath == NULL) || (nard_device_path_size ((CONST UINT8 *)DevicePath, MAX_INTN, &Size, NULL) != NARD_OK)) {
     return NULL;
   }
 
-  Reason = nard_device_path_text ((CONST UINT8 *)DevicePath, Size, DisplayOnly != 0, AllowShortcuts != 0, NULL, 0, &Length);
-  if (Reason != NARD_BUFFER_TOO_SMALL) {
-    return NULL;
-  }
-
-  Text = AllocatePool ((Length + 1) * sizeof (CHAR16));
-  return Text == NULL ? NULL : (CHAR16 *)Built (
-                                           nard_device_path_text (
-                                             (CONST UINT8 *)DevicePath,
-                                             Size,
-                                             DisplayOnly != 0,
-                                             AllowShortcuts != 0,
-                                             Text,
-                                             Length + 1,
-                                             &Length
-                                             ),
-                                           (UINT8 *)Text
-                                           );
+  return TextOf (nard_device_path_format_utf16, DevicePath, Size, DisplayOnly, AllowShortcuts);
 }
 
 CHAR16 *
@@ -514,52 +529,29 @@ ConvertDeviceNodeToText (
   IN BOOLEAN                         AllowShortcuts
   )
 {
-  CHAR16       *Text;
-  UINTN        Size;
-  UINTN        Length;
-  nard_result  Reason;
-
   if (DeviceNode == NULL) {
     return NULL;
   }
 
-  Size   = MAX (DevicePathNodeLength (DeviceNode), HEADER);
-  Reason = nard_node_text ((CONST UINT8 *)DeviceNode, Size, DisplayOnly != 0, AllowShortcuts != 0, NULL, 0, &Length);
-  if (Reason != NARD_BUFFER_TOO_SMALL) {
-    return NULL;
-  }
-
-  Text = AllocatePool ((Length + 1) * sizeof (CHAR16));
-  return Text == NULL ? NULL : (CHAR16 *)Built (
-                                           nard_node_text (
-                                             (CONST UINT8 *)DeviceNode,
-                                             Size,
-                                             DisplayOnly != 0,
-                                             AllowShortcuts != 0,
-                                             Text,
-                                             Length + 1,
-                                             &Length
-                                             ),
-                                           (UINT8 *)Text
-                                           );
+  return TextOf (
+           nard_node_format_utf16,
+           DeviceNode,
+           MAX (DevicePathNodeLength (DeviceNode), HEADER),
+           DisplayOnly,
+           AllowShortcuts
+           );
 }
 
-/**
-  A text in UTF-8, which the library reads; NULL if it holds a lone surrogate or memory runs out.
-**/
 STATIC
-UINT8 *
-Utf8Of (
+nard_status
+Parse (
   IN  CONST CHAR16  *Text,
-  OUT UINTN         *Length
+  OUT UINT8         *Buffer  OPTIONAL,
+  IN  UINTN         Capacity,
+  OUT UINTN         *Size
   )
 {
-  UINTN  Count;
-  UINT8  *Bytes;
-
-  Count = StrSize (Text) / sizeof (CHAR16);
-  Bytes = AllocatePool (3 * Count);
-  return Bytes == NULL ? NULL : (UINT8 *)Built (nard_utf8_from_string (Text, Count, Bytes, 3 * Count, Length), Bytes);
+  return nard_device_path_parse_utf16 (Text, NARD_NUL_TERMINATED, NARD_STYLE_TYPED, Buffer, Capacity, Size, NULL);
 }
 
 EFI_DEVICE_PATH_PROTOCOL *
@@ -568,40 +560,17 @@ ConvertTextToDevicePath (
   IN CONST CHAR16  *TextDevicePath
   )
 {
-  UINT8        *Text;
-  UINT8        *Buffer;
-  UINTN        Length;
-  UINTN        Room;
-  UINTN        Size;
-  nard_result  Reason;
+  UINT8  *Buffer;
+  UINTN  Size;
 
-  if ((TextDevicePath == NULL) || (*TextDevicePath == 0)) {
+  if ((TextDevicePath == NULL) || (*TextDevicePath == 0) ||
+      (Parse (TextDevicePath, NULL, 0, &Size) != NARD_BUFFER_TOO_SMALL))
+  {
     return NULL;
   }
 
-  Text = Utf8Of (TextDevicePath, &Length);
-  if (Text == NULL) {
-    return NULL;
-  }
-
-  Size   = HEADER;
-  Buffer = NULL;
-  do {
-    Room = Size;
-    if (Buffer != NULL) {
-      FreePool (Buffer);
-    }
-
-    Reason = NARD_NO_NODE;
-    Buffer = Room > MAX_INT32 ? NULL : AllocatePool (Room);
-    if (Buffer != NULL) {
-      SetDevicePathEndNode (Buffer);
-      Reason = nard_device_path_push_lenient_text (Buffer, Room, Text, Length, &Size);
-    }
-  } while ((Reason == NARD_BUFFER_TOO_SMALL) && (Room < Size));
-
-  FreePool (Text);
-  return Built (Reason, Buffer);
+  Buffer = AllocatePool (Size);
+  return Buffer == NULL ? NULL : Built (Parse (TextDevicePath, Buffer, Size, &Size), Buffer);
 }
 
 EFI_DEVICE_PATH_PROTOCOL *

@@ -1,7 +1,5 @@
 /** @file
-  The Unicode collation protocols for English over nardcorbel.
-
-  The calls take any units, because the name of a file on a volume may hold surrogates.
+  The Unicode collation protocols for English on top of nardcorbel.
 
   SPDX-License-Identifier: MIT OR Apache-2.0
 **/
@@ -9,15 +7,6 @@
 #include <Library/BaseLib.h>
 #include <Library/UefiBootServicesTableLib.h>
 #include <Protocol/UnicodeCollation.h>
-
-STATIC
-UINTN
-CountOf (
-  IN CONST CHAR16  *String
-  )
-{
-  return StrSize (String) / sizeof (CHAR16);
-}
 
 STATIC
 INTN
@@ -28,7 +17,7 @@ StriColl (
   IN CHAR16                          *Str2
   )
 {
-  return nard_units_order_ignore_case (Str1, CountOf (Str1), Str2, CountOf (Str2));
+  return nard_string_compare_ignore_case (Str1, NARD_NUL_TERMINATED, Str2, NARD_NUL_TERMINATED);
 }
 
 STATIC
@@ -40,7 +29,7 @@ MetaiMatch (
   IN CHAR16                          *Pattern
   )
 {
-  return nard_units_matches (String, CountOf (String), Pattern, CountOf (Pattern));
+  return nard_string_matches (String, NARD_NUL_TERMINATED, Pattern, NARD_NUL_TERMINATED);
 }
 
 STATIC
@@ -51,7 +40,7 @@ StrLwr (
   IN OUT CHAR16                          *Str
   )
 {
-  nard_units_make_lowercase (Str, CountOf (Str));
+  nard_string_make_lowercase (Str, StrLen (Str));
 }
 
 STATIC
@@ -62,7 +51,7 @@ StrUpr (
   IN OUT CHAR16                          *Str
   )
 {
-  nard_units_make_uppercase (Str, CountOf (Str));
+  nard_string_make_uppercase (Str, StrLen (Str));
 }
 
 STATIC
@@ -75,9 +64,7 @@ FatToStr (
   OUT CHAR16                          *String
   )
 {
-  UINTN  Length;
-
-  if (nard_string_from_fat ((CONST UINT8 *)Fat, FatSize, String, FatSize + 1, &Length) != NARD_OK) {
+  if (nard_string_from_fat ((CONST UINT8 *)Fat, FatSize, String, FatSize + 1, NULL) != NARD_OK) {
     *String = 0;
   }
 }
@@ -92,9 +79,7 @@ StrToFat (
   OUT CHAR8                           *Fat
   )
 {
-  UINTN  Length;
-
-  return nard_fat_from_units (String, CountOf (String), (UINT8 *)Fat, FatSize, &Length) != NARD_OK;
+  return nard_fat_from_string (String, NARD_NUL_TERMINATED, (UINT8 *)Fat, FatSize, NULL) != NARD_OK;
 }
 
 STATIC EFI_UNICODE_COLLATION_PROTOCOL  mCollation = {
