@@ -19,35 +19,23 @@ static void (*edk2_forget)(void);
 /* The input of the call that is timed. */
 static char text[4096];
 static uint16_t wide[4096], other[4096], pattern[64];
-static size_t count, pattern_count, path_size, place;
-static nard_byte path[16384];
+static size_t count, pattern_count, path_size, size;
+static uint8_t path[16384];
 static uint16_t room[16384];
 static volatile size_t kept;
 
-static void start_path(void) { memcpy(path, "\x7f\xff\x04\x00", 4); }
+/* Reads the text in a style, and in one encoding, to a path. */
+static void our_typed(void) { kept += nard_device_path_parse(text, count, NARD_STYLE_TYPED, path, sizeof path, &size, NULL); }
+static void our_exact(void) { kept += nard_device_path_parse(text, count, NARD_STYLE_UEFI, path, sizeof path, &size, NULL); }
 
-static void our_lenient(void)
+static void our_typed_utf16(void)
 {
-    start_path();
-    kept += nard_device_path_push_lenient_text(path, sizeof path, (const nard_byte *)text, count, &place);
+    kept += nard_device_path_parse_utf16(wide, count, NARD_STYLE_TYPED, path, sizeof path, &size, NULL);
 }
 
-static void our_strict(void)
+static void our_exact_utf16(void)
 {
-    start_path();
-    kept += nard_device_path_push_text(path, sizeof path, (const nard_byte *)text, count, &place);
-}
-
-static void our_lenient_units(void)
-{
-    start_path();
-    kept += nard_device_path_push_lenient_units(path, sizeof path, wide, count, &place);
-}
-
-static void our_strict_units(void)
-{
-    start_path();
-    kept += nard_device_path_push_units(path, sizeof path, wide, count, &place);
+    kept += nard_device_path_parse_utf16(wide, count, NARD_STYLE_UEFI, path, sizeof path, &size, NULL);
 }
 
 static void their_reader(void)
@@ -58,7 +46,7 @@ static void their_reader(void)
 
 static void our_printer(void)
 {
-    kept += nard_device_path_text(path, path_size, 0, 0, room, sizeof room / sizeof *room, &place);
+    kept += nard_device_path_format_utf16(path, path_size, NARD_STYLE_UEFI, room, sizeof room / sizeof *room, &size, NULL);
 }
 
 static void their_printer(void)
@@ -67,7 +55,7 @@ static void their_printer(void)
     kept += (size_t)edk2_to_text(path, 0, 0);
 }
 
-static void our_equal(void) { kept += nard_units_equal_ignore_case(wide, count, other, count); }
+static void our_equal(void) { kept += nard_string_equal_ignore_case(wide, count, other, count); }
 
 static uint16_t upper(uint16_t unit)
 {
@@ -85,7 +73,7 @@ __attribute__((noinline)) static int plain_equal(const uint16_t *one, const uint
 
 static void their_equal(void) { kept += (size_t)plain_equal(wide, other, count); }
 
-static void our_match(void) { kept += nard_units_matches(wide, count, pattern, pattern_count); }
+static void our_match(void) { kept += nard_string_matches(wide, count, pattern, pattern_count); }
 
 /* A greedy matcher of `*` and `?`, without sets. */
 __attribute__((noinline)) static int plain_match(const uint16_t *units, size_t n, const uint16_t *with, size_t m)
@@ -147,21 +135,21 @@ static void texts(const char *name, const char *of)
 {
     char what[64];
     set_text(of);
-    our_lenient();
-    path_size = place;
+    our_typed();
+    path_size = size;
     edk2_forget();
     if (memcmp(path, edk2_from_text(wide), path_size)) {
         printf("%s: the answers differ\n", name);
         exit(1);
     }
     snprintf(what, sizeof what, "%s read leniently", name);
-    compare(what, our_lenient, their_reader);
+    compare(what, our_typed, their_reader);
     snprintf(what, sizeof what, "%s read strictly", name);
-    compare(what, our_strict, their_reader);
+    compare(what, our_exact, their_reader);
     snprintf(what, sizeof what, "%s read leniently, UTF-16", name);
-    compare(what, our_lenient_units, their_reader);
+    compare(what, our_typed_utf16, their_reader);
     snprintf(what, sizeof what, "%s read strictly, UTF-16", name);
-    compare(what, our_strict_units, their_reader);
+    compare(what, our_exact_utf16, their_reader);
     snprintf(what, sizeof what, "%s printed", name);
     compare(what, our_printer, their_printer);
 }
@@ -169,12 +157,12 @@ static void texts(const char *name, const char *of)
 /* Times a text as people write it, beside EDK II's reading of the printed text of the same path. */
 static void written(const char *name, const char *of, const char *printed)
 {
-    nard_byte paths[2][256];
+    uint8_t paths[2][256];
     size_t sizes[2];
     for (int i = 0; i < 2; i++) {
         set_text(i ? printed : of);
-        our_lenient();
-        sizes[i] = place;
+        our_typed();
+        sizes[i] = size;
         memcpy(paths[i], path, sizeof paths[i]);
     }
     if (sizes[0] != sizes[1] || memcmp(paths[0], paths[1], sizes[0])) {
@@ -183,7 +171,7 @@ static void written(const char *name, const char *of, const char *printed)
     }
     count = strlen(of);
     memcpy(text, of, count);
-    compare(name, our_lenient, their_reader);
+    compare(name, our_typed, their_reader);
 }
 
 static void names(size_t length)
@@ -217,7 +205,7 @@ static void matches(const char *of, const char *with)
     pattern_count = strlen(with);
     for (size_t i = 0; i < pattern_count; i++)
         pattern[i] = (uint8_t)with[i];
-    if (nard_units_matches(wide, count, pattern, pattern_count) != plain_match(wide, count, pattern, pattern_count)) {
+    if (nard_string_matches(wide, count, pattern, pattern_count) != plain_match(wide, count, pattern, pattern_count)) {
         printf("%s: the answers differ\n", of);
         exit(1);
     }
