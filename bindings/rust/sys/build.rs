@@ -106,17 +106,17 @@ fn main() {
     println!("cargo:rerun-if-changed={}", source.display());
     let (release, repository) = (
         here.join("../../../.."),
-        here.join("../../../crates/nardcorbel/out"),
+        here.join("../../../crates/nardcorbel/out/firmware"),
     );
     let mut folders = match &*system {
         _ if !given.is_empty() => vec![PathBuf::from(&given)],
         "uefi" => vec![
             release.join("lib/nardcorbel/firmware").join(&processor),
-            repository.join("firmware").join(&processor),
+            repository.join(&processor),
         ],
         _ => vec![
             release.join("lib").join(format!("{processor}-linux-gnu")),
-            repository,
+            repository.join(format!("{processor}-linux-gnu")),
         ],
     };
     let mut faults = String::new();
