@@ -18,6 +18,3 @@ pub use order_edits::OrderFull;
 pub use orders::{LoadOrder, NotTwoBytes, OddLength, read_number};
 pub use present::PresentOptions;
 pub use variable_names::{LoadOptionKind, LoadOptionName};
-
-#[cfg(test)]
-mod tests;

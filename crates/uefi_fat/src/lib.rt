@@ -29,8 +29,6 @@ pub mod laws;
 mod long_names;
 mod oem;
 mod short_names;
-#[cfg(test)]
-mod tests;
 
 pub use long_names::{FatNameError, check_fat_name, is_fat_name, same_fat_file, trimmed};
 pub use oem::{FatBytes, fat_to_str, str_to_fat, units_to_fat};

@@ -1,8 +1,11 @@
-//! Tests of `uefi_path`: components, order and names, buffers, parents, validation and normal paths.
+//! Tests of `uefi_path`: components, order and names, buffers, parents, validation and normal paths; and of
+//! `uefi_fat`.
 #![tactic(auto)]
 
 #[cfg(test)]
 mod components;
+#[cfg(test)]
+mod fat_names;
 #[cfg(test)]
 mod fixtures;
 #[cfg(test)]

@@ -1,12 +1,14 @@
-//! Rows of names, with the results of EDK II's FAT driver and its collation for English, except
-//! where `docs/DIFFERENCES.md` says otherwise.
-use crate::{
+//! Names of files on FAT volumes, with the results of EDK II's FAT driver and its collation for English,
+//! except where `docs/DIFFERENCES.md` says otherwise.
+
+use for_tests::string;
+use std::alloc::Global;
+use std::test::Fail;
+use uefi_fat::{
     FatBytes, FatNameError, check_fat_name, fat_to_str, is_fat_name, is_short_name, same_fat_file,
     str_to_fat, trimmed,
 };
-use std::alloc::Global;
-use std::test::Fail;
-use uefi_text::{BufferTooSmall, CString16, Char16};
+use uefi_text::{BufferTooSmall, Char16};
 
 /// Names, and the trimmed part of each.
 const TRIMMED: &[(&str, &str)] = &[
@@ -71,10 +73,6 @@ const BYTES: &[(&str, &[u8], bool)] = &[
     ("\u{e9}\u{df}", b"\xc9_", true),
     (". .", b"", false),
 ];
-
-fn string(alloc: Global, text: &str) -> Result<CString16, Fail> {
-    Ok(CString16::try_from_str(alloc, text)?)
-}
 
 fn is_trimmed(alloc: Global, name: &str, part: &str) -> Result<bool, Fail> {
     let name = string(alloc, name)?;
@@ -146,10 +144,14 @@ fn refusals(rt: HostRuntime) -> Result<(), Fail> {
         long.push_str("a")?;
     }
     let character = Char16::try_from_char('?')?;
-    assert!(rt; refusal(rt.alloc(), long.as_str())? == Some(FatNameError::IllegalChar(character)));
+    let is_illegal = refusal(rt.alloc(), &long)? == Some(FatNameError::IllegalChar(character));
     long.push_str("a")?;
-    assert!(rt; refusal(rt.alloc(), long.as_str())? == Some(FatNameError::TooLong));
-    assert!(rt; refusal(rt.alloc(), " .")? == Some(FatNameError::Empty));
+    let is_long = refusal(rt.alloc(), &long)? == Some(FatNameError::TooLong);
+    let is_empty = refusal(rt.alloc(), " .")? == Some(FatNameError::Empty);
+    assert!(rt;
+        is_illegal && is_long && is_empty,
+        "{is_illegal} {is_long} {is_empty}"
+    );
     Ok(())
 }
 
@@ -203,12 +205,19 @@ fn has_units(bytes: &[u8], room: usize, units: &[u16]) -> bool {
     }
 }
 
+/// Bytes, how much room the buffer has, and the units of their string.
+const UNITS: &[(&[u8], usize, &[u16])] = &[
+    (b"BOOT", 6, &[66, 79, 79, 84]),
+    (b"BOOT", 5, &[66, 79, 79, 84]),
+    (b"BOOT", 4, &[66, 79, 79, 84]),
+    (b"A\0B", 6, &[65]),
+    (b"\xc9", 6, &[0xc9]),
+    (b"", 1, &[]),
+];
+
 #[test]
 fn strings_of_bytes(rt: HostRuntime) {
-    assert!(rt; has_units(b"BOOT", 6, &[66, 79, 79, 84]));
-    assert!(rt; has_units(b"BOOT", 5, &[66, 79, 79, 84]));
-    assert!(rt; has_units(b"BOOT", 4, &[66, 79, 79, 84]));
-    assert!(rt; has_units(b"A\0B", 6, &[65]));
-    assert!(rt; has_units(b"\xc9", 6, &[0xc9]));
-    assert!(rt; has_units(b"", 1, &[]));
+    for (bytes, room, units) in UNITS {
+        assert!(rt; has_units(bytes, *room, units), "{bytes:?} {room}");
+    }
 }
