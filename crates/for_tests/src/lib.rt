@@ -10,9 +10,9 @@ pub mod refusing;
 pub mod texts;
 
 pub use hostile::hostile_places;
-pub use refusals::{Refusals, is_answered, out_of_memory, refused_in_turn, requests};
+pub use refusals::{MemoryCall, Refusals, is_answered, out_of_memory, refused_in_turn, requests};
 pub use refusing::Refusing;
 pub use texts::{
-    are_ordered, bytes, has_text, holds, prints, repeated, says, shows, split_row, string,
-    writes_whole,
+    BufferCall, are_ordered, bytes, has_text, holds, prints, repeated, says, shows, split_row,
+    string, writes_whole,
 };

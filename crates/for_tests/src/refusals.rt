@@ -51,19 +51,25 @@ pub fn is_answered<T: Drop, E: PartialEq + Drop>(
     }
 }
 
+/// A call that requests memory, and its arguments.
+///
+/// The calls of a test are the variants of one type, because a closure for each takes two seconds longer to
+/// prove.
+pub trait MemoryCall {
+    /// Returns whether the result of the call equals the result of ample memory. If memory runs out, this
+    /// returns [`out_of_memory`] of whether the call left everything as promised.
+    fn answer(&self, heap: &Refusing<Global>) -> Result<bool, AllocError>;
+}
+
 /// Runs a call repeatedly, and refuses the first request after the first `setup` ones, then the second and so
 /// on, until a run makes all its requests.
 ///
-/// The call returns whether its result equals the result of ample memory. If memory runs out, it returns
-/// [`out_of_memory`] of whether it left everything as promised. The `setup` requests build the values that
-/// the call works on.
-pub fn refused_in_turn<F: Fn(&Refusing<Global>) -> Result<bool, AllocError>>(
+/// The `setup` requests build the values that the call works on.
+pub fn refused_in_turn<C: MemoryCall>(
     alloc: Global,
     setup: u64,
-    call: F,
-) -> Result<Refusals, Fail>
-    requires { F.IsAlwaysCallable call }
-{
+    call: &C,
+) -> Result<Refusals, Fail> {
     let mut refusals = Refusals {
         failed: 0,
         answered: 0,
@@ -71,7 +77,7 @@ pub fn refused_in_turn<F: Fn(&Refusing<Global>) -> Result<bool, AllocError>>(
     for number in 1..MOST_REQUESTS {
         let request = setup.saturating_add(number);
         let heap = Refusing::new(alloc, request);
-        let answer = call(&heap);
+        let answer = call.answer(&heap);
         match (answer, heap.has_refused()) {
             (Ok(false), _) => return Err(RefusalError::WrongAnswer(request).into()),
             (Ok(true), false) => return Ok(refusals),
@@ -85,13 +91,7 @@ pub fn refused_in_turn<F: Fn(&Refusing<Global>) -> Result<bool, AllocError>>(
 
 /// Counts the requests that a call makes after the first `setup` ones. Returns an error if the call succeeds
 /// although a request was refused.
-pub fn requests<F: Fn(&Refusing<Global>) -> Result<bool, AllocError>>(
-    alloc: Global,
-    setup: u64,
-    call: F,
-) -> Result<u64, Fail>
-    requires { F.IsAlwaysCallable call }
-{
+pub fn requests<C: MemoryCall>(alloc: Global, setup: u64, call: &C) -> Result<u64, Fail> {
     let refusals = refused_in_turn(alloc, setup, call)?;
     if refusals.answered != 0 {
         return Err(RefusalError::AnsweredWithoutMemory.into());

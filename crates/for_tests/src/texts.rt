@@ -82,19 +82,23 @@ pub fn bytes(alloc: Global, digits: &str) -> Result<Vec<u8>, Fail> {
     Ok(bytes)
 }
 
+/// A call that writes items into a buffer, and its arguments.
+pub trait BufferCall<T> {
+    /// Returns how many items the call wrote, or how many it needs.
+    fn write(&self, room: &mut [T]) -> Result<usize, usize>;
+}
+
 /// Returns whether a call writes all of `want` into each buffer with enough room, writes nothing into a
-/// shorter one, and changes no other item. The call returns how many items it wrote, or how many it needs.
-pub fn writes_whole<T: Copy + PartialEq, F: Fn(&mut [T]) -> Result<usize, usize>>(
+/// shorter one, and changes no other item.
+pub fn writes_whole<T: Copy + PartialEq, C: BufferCall<T>>(
     alloc: Global,
     want: &[T],
     filler: T,
-    call: F,
-) -> Result<bool, Fail>
-    requires { F.IsAlwaysCallable call }
-{
+    call: &C,
+) -> Result<bool, Fail> {
     for len in 0..want.len().saturating_add(2) {
         let mut room = vec![in alloc; filler; want.len().saturating_add(9)]?;
-        let answer = call(room.as_mut_slice().get_mut(..len).unwrap_or_default());
+        let answer = call.write(room.as_mut_slice().get_mut(..len).unwrap_or_default());
         let is_right = if len < want.len() {
             answer == Err(want.len()) && holds(&room, &[], &filler)
         } else {

@@ -1,6 +1,6 @@
 //! Plans with each memory request refused in turn, for short and for long values.
 
-use for_tests::{Refusing, is_answered, repeated, requests, string};
+use for_tests::{MemoryCall, Refusing, is_answered, repeated, requests, string};
 use std::alloc::{AllocError, Global};
 use std::test::Fail;
 use uefi_boot_plans::{
@@ -37,6 +37,20 @@ struct Values<'a> {
     order: &'a [u8],
     entry: &'a [u8],
     name: CStr16<'a>,
+}
+
+/// A call on these values.
+#[derive(Clone, Copy)]
+struct Planned<'a> {
+    call: Call,
+    values: Values<'a>,
+}
+
+impl MemoryCall for Planned<'_> {
+    /// Returns whether there is a plan, or memory ran out.
+    fn answer(&self, heap: &Refusing<Global>) -> Result<bool, AllocError> {
+        plans(heap, self.call, self.values)
+    }
 }
 
 type Heap<'h> = &'h Refusing<Global>;
@@ -135,7 +149,14 @@ fn wrong_call(alloc: Global, count: u16) -> Result<Option<(Call, u64)>, Fail> {
         name: name.as_cstr16(),
     };
     for (call, want) in ROWS {
-        let found = requests(alloc, 0, |heap| plans(heap, *call, values))?;
+        let found = requests(
+            alloc,
+            0,
+            &Planned {
+                call: *call,
+                values,
+            },
+        )?;
         if found != *want {
             return Ok(Some((*call, found)));
         }

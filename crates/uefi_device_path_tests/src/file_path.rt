@@ -1,10 +1,10 @@
 //! The file paths of device paths, joined from the names in their nodes.
 
-use for_tests::{bytes, has_text, string, writes_whole};
+use for_tests::{BufferCall, bytes, has_text, string, writes_whole};
 use std::test::Fail;
 use uefi_device_path::{
-    DevicePath, DevicePathBuf, DeviceSubType, DeviceType, FilePathCause, FilePathError,
-    FilePathWriteError,
+    DevicePath, DevicePathBuf, DevicePathInstance, DeviceSubType, DeviceType, FilePathCause,
+    FilePathError, FilePathWriteError,
 };
 use uefi_text::CStr16;
 use uefi_text::FromSliceWithNulError::{InteriorNul, InvalidChar, NotNulTerminated};
@@ -36,37 +36,43 @@ fn borrowed(path: Result<CStr16<'_>, FilePathWriteError>) -> Result<usize, usize
     }
 }
 
+/// A call that writes a file path into a buffer, or borrows it from there.
+#[derive(Clone, Copy)]
+enum Call<'a> {
+    Write(DevicePath<'a>),
+    WriteOfInstance(DevicePathInstance<'a>),
+    Borrow(DevicePath<'a>),
+    BorrowOfInstance(DevicePathInstance<'a>),
+}
+
+impl BufferCall<u16> for Call<'_> {
+    fn write(&self, room: &mut [u16]) -> Result<usize, usize> {
+        match *self {
+            Call::Write(path) => needed(path.write_file_path(room)),
+            Call::WriteOfInstance(instance) => needed(instance.write_file_path(room)),
+            Call::Borrow(path) => borrowed(path.file_path_in_buf(room)),
+            Call::BorrowOfInstance(instance) => borrowed(instance.file_path_in_buf(room)),
+        }
+    }
+}
+
 /// Returns whether a path and its only instance have this file path, in memory and in buffers.
 fn joins(rt: &HostRuntime, path: DevicePath<'_>, want: &str) -> Result<bool, Fail> {
     let all = path.instance_iter().next().ok_or("an instance")?;
     let units = string(rt.alloc(), want)?.into_vec_with_nul();
+    for call in [
+        Call::Write(path),
+        Call::WriteOfInstance(all),
+        Call::Borrow(path),
+        Call::BorrowOfInstance(all),
+    ] {
+        if !writes_whole(rt.alloc(), &units, 9, &call)? {
+            return Ok(false);
+        }
+    }
     Ok(
         has_text(path.file_path(rt.alloc())?.to_cstr16(), want)
-            && has_text(all.file_path(rt.alloc())?.to_cstr16(), want)
-            && writes_whole(
-                rt.alloc(),
-                &units,
-                9,
-                |room| needed(path.write_file_path(room)),
-            )?
-            && writes_whole(
-                rt.alloc(),
-                &units,
-                9,
-                |room| needed(all.write_file_path(room)),
-            )?
-            && writes_whole(
-                rt.alloc(),
-                &units,
-                9,
-                |room| borrowed(path.file_path_in_buf(room)),
-            )?
-            && writes_whole(
-                rt.alloc(),
-                &units,
-                9,
-                |room| borrowed(all.file_path_in_buf(room)),
-            )?,
+            && has_text(all.file_path(rt.alloc())?.to_cstr16(), want),
     )
 }
 

@@ -1,7 +1,7 @@
 //! Writing load options: the sample entries again, and each refused field.
 
 use crate::hostile_entries::ROWS;
-use for_tests::{bytes, writes_whole};
+use for_tests::{BufferCall, bytes, writes_whole};
 use std::test::Fail;
 use uefi_device_path::OptionBuildError::{EmptyList, ListTooLong, NulInDescription};
 use uefi_device_path::{DevicePath, LoadOption, LoadOptionBuilder, OptionBuildError};
@@ -12,6 +12,16 @@ pub(crate) fn needed(written: Result<usize, OptionBuildError>) -> Result<usize, 
         Ok(count) => Ok(count),
         Err(OptionBuildError::BufferTooSmall(count)) => Err(count),
         Err(_) => Err(0),
+    }
+}
+
+/// The fields of a load option to write.
+#[derive(Clone, Copy)]
+struct Written<'a>(LoadOptionBuilder<'a>);
+
+impl BufferCall<u8> for Written<'_> {
+    fn write(&self, room: &mut [u8]) -> Result<usize, usize> {
+        needed(self.0.write(room))
     }
 }
 
@@ -26,7 +36,7 @@ fn is_written_again(rt: &HostRuntime, entry: &[u8]) -> Result<bool, Fail> {
     }
     let fields = LoadOptionBuilder::new(option.attributes(), text, &paths, option.optional_data());
     Ok(
-        writes_whole(rt.alloc(), entry, 9, |room| needed(fields.write(room)))?
+        writes_whole(rt.alloc(), entry, 9, &Written(fields))?
             && fields.to_vec(rt.alloc())?.as_slice() == entry,
     )
 }

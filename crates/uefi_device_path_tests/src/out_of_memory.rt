@@ -3,7 +3,7 @@
 
 use crate::option_builder::END;
 use for_tests::{
-    Refusals, Refusing, is_answered, out_of_memory, refused_in_turn, repeated, requests,
+    MemoryCall, Refusals, Refusing, is_answered, out_of_memory, refused_in_turn, repeated, requests,
 };
 use std::alloc::{AllocError, Global};
 use std::test::Fail;
@@ -133,6 +133,12 @@ fn is_refused_at<T: Drop>(read: Result<T, PathTextError>, place: usize) -> bool 
     }
 }
 
+impl MemoryCall for Call<'_> {
+    fn answer(&self, heap: &Refusing<Global>) -> Result<bool, AllocError> {
+        answers(*self, heap)
+    }
+}
+
 /// Returns whether a call gives the result of ample memory, or memory ran out.
 fn answers(call: Call<'_>, heap: &Refusing<Global>) -> Result<bool, AllocError> {
     match call {
@@ -220,7 +226,7 @@ const FAULTS: &[(Call<'static>, u64)] = &[
 #[test]
 fn faults_of_texts(rt: HostRuntime) -> Result<(), Fail> {
     for (row, (call, want)) in FAULTS.iter().enumerate() {
-        let refusals = refused_in_turn(rt.alloc(), 0, |heap| answers(*call, heap))?;
+        let refusals = refused_in_turn(rt.alloc(), 0, call)?;
         let answered = Refusals {
             failed: 0,
             answered: *want,
@@ -233,7 +239,7 @@ fn faults_of_texts(rt: HostRuntime) -> Result<(), Fail> {
 #[test]
 fn requests_of_each_call(rt: HostRuntime) -> Result<(), Fail> {
     for (row, (call, want)) in ROWS.iter().enumerate() {
-        let count = requests(rt.alloc(), 0, |heap| answers(*call, heap))?;
+        let count = requests(rt.alloc(), 0, call)?;
         assert_eq!(rt; count, *want, "{row}");
     }
     Ok(())
@@ -278,7 +284,7 @@ fn file_paths_of_each_size(rt: HostRuntime) -> Result<(), Fail> {
         }
         let bytes = path.as_device_path().as_bytes();
         for call in [Call::FilePath(bytes), Call::InstanceFilePath(bytes)] {
-            let count = requests(rt.alloc(), 0, |heap| answers(call, heap))?;
+            let count = requests(rt.alloc(), 0, &call)?;
             assert_eq!(rt; count, *wanted, "{nodes} {characters} {front}");
         }
     }
@@ -324,7 +330,7 @@ fn texts_of_each_size(rt: HostRuntime) -> Result<(), Fail> {
         } else {
             Call::FromLenientText(&text)
         };
-        let made = requests(rt.alloc(), 0, |heap| answers(call, heap))?;
+        let made = requests(rt.alloc(), 0, &call)?;
         assert_eq!(rt; made, 1, "{piece}");
     }
     Ok(())
@@ -348,9 +354,9 @@ fn is_counted(rt: &HostRuntime, text: &str, optional: &[u8]) -> Result<bool, Fai
     option.extend_from_slice(&unit_bytes(rt.alloc(), text)?)?;
     option.extend_from_slice(END)?;
     option.extend_from_slice(optional)?;
-    let shown = requests(rt.alloc(), 0, |heap| describes(heap, &option, true))?;
+    let shown = requests(rt.alloc(), 0, &Call::DescriptionLossy(&option))?;
     let is_string = text.contains('😀')
-        || requests(rt.alloc(), 0, |heap| describes(heap, &option, false))? == 1;
+        || requests(rt.alloc(), 0, &Call::Description(&option))? == 1;
     Ok(is_string && (text.is_empty() || 2 <= shown))
 }
 
@@ -367,17 +373,24 @@ fn descriptions_of_each_size(rt: HostRuntime) -> Result<(), Fail> {
     Ok(())
 }
 
+/// The fields of a load option to write.
+#[derive(Clone, Copy)]
+struct Written<'a>(LoadOptionBuilder<'a>);
+
+impl MemoryCall for Written<'_> {
+    fn answer(&self, heap: &Refusing<Global>) -> Result<bool, AllocError> {
+        is_answered(self.0.to_vec(heap), OptionBuildError::OutOfMemory)
+    }
+}
+
 /// Returns whether writing an option with a description, paths and optional data of these sizes makes one
 /// request.
 fn is_written(rt: &HostRuntime, len: usize, paths: usize, optional: usize) -> Result<bool, Fail> {
     let description = vec![in rt.alloc(); 0xe9u16; len]?;
     let data = vec![in rt.alloc(); 7u8; optional]?;
     let list = vec![in rt.alloc(); DevicePath::from_bytes(NAMED)?; paths]?;
-    let count = requests(rt.alloc(), 0, |heap| {
-        let fields = LoadOptionBuilder::new(1, &description, &list, &data);
-        is_answered(fields.to_vec(heap), OptionBuildError::OutOfMemory)
-    })?;
-    Ok(count == 1)
+    let written = Written(LoadOptionBuilder::new(1, &description, &list, &data));
+    Ok(requests(rt.alloc(), 0, &written)? == 1)
 }
 
 #[test]
@@ -423,18 +436,11 @@ fn appended_paths(rt: HostRuntime) -> Result<(), Fail> {
         }
         start.extend_from_slice(END)?;
         added.extend_from_slice(END)?;
-        let append = Call::Append(&start, &added);
-        assert_eq!(rt;
-            requests(rt.alloc(), 0, |heap| answers(append, heap))?,
-            *once,
-            "{first}, {second}"
+        let found = (
+            requests(rt.alloc(), 0, &Call::Append(&start, &added))?,
+            requests(rt.alloc(), 0, &Call::AppendTwice(&start, &added))?,
         );
-        let append = Call::AppendTwice(&start, &added);
-        assert_eq!(rt;
-            requests(rt.alloc(), 0, |heap| answers(append, heap))?,
-            *twice,
-            "{first}, {second}"
-        );
+        assert!(rt; found == (*once, *twice), "{first}, {second}: {found:?}");
     }
     Ok(())
 }
@@ -448,7 +454,7 @@ fn names_of_each_size(rt: HostRuntime) -> Result<(), Fail> {
     for count in NAMES {
         let mut name = vec![in rt.alloc(); 0xe9u16; count as usize]?;
         name.push(0)?;
-        let asked = requests(rt.alloc(), 0, |heap| answers(Call::PushFile(&name), heap))?;
+        let asked = requests(rt.alloc(), 0, &Call::PushFile(&name))?;
         assert_eq!(rt; asked, 2, "{count}");
     }
     Ok(())
@@ -457,15 +463,19 @@ fn names_of_each_size(rt: HostRuntime) -> Result<(), Fail> {
 #[test]
 fn long_inputs(rt: HostRuntime) -> Result<(), Fail> {
     let heap = Refusing::new(rt.alloc(), 0);
-    assert!(rt; answers(Call::Push(50_000, &[1, 2]), &heap)?);
+    let is_pushed = answers(Call::Push(50_000, &[1, 2]), &heap)?;
     let mut bytes = Vec::from_slice(rt.alloc(), &[4, 4, 0x66, 0xea])?;
     bytes.extend_from_slice(vec![in rt.alloc(); 0x61u8; 60_000]?.as_slice())?;
     bytes.extend_from_slice(&[0, 0, 0x7f, 0xff, 4, 0])?;
-    assert!(rt; answers(Call::FilePath(&bytes), &heap)?);
+    let is_named = answers(Call::FilePath(&bytes), &heap)?;
     let mut option = Vec::from_slice(rt.alloc(), &[1, 0, 0, 0, 4, 0])?;
     option.extend_from_slice(vec![in rt.alloc(); 0x61u8; 200_000]?.as_slice())?;
     option.extend_from_slice(&[0, 0, 0x7f, 0xff, 4, 0])?;
-    assert!(rt; answers(Call::Description(&option), &heap)?);
-    assert!(rt; answers(Call::DescriptionLossy(&option), &heap)?);
+    let is_described = answers(Call::Description(&option), &heap)?
+        && answers(Call::DescriptionLossy(&option), &heap)?;
+    assert!(rt;
+        is_pushed && is_named && is_described,
+        "{is_pushed} {is_named} {is_described}"
+    );
     Ok(())
 }

@@ -3,7 +3,7 @@
 //! libraries agree.
 
 use crate::fixtures::buffer;
-use for_tests::{Refusing, are_ordered, has_text, out_of_memory, requests, string};
+use for_tests::{MemoryCall, Refusing, are_ordered, has_text, out_of_memory, requests, string};
 use std::alloc::{AllocError, Global};
 use std::cmp::Ordering::{self, Equal, Greater, Less};
 use std::fmt::Write;
@@ -136,24 +136,29 @@ const RENAMED: &[(bool, &str, &str, &str)] = &[
     (true, r"a.b\.c", "d", r"a.b\.c.d"),
 ];
 
-/// Returns whether the extension or the name of a path is replaced, or the path is unchanged when memory ran
-/// out.
-fn takes(
-    heap: &Refusing<Global>,
+/// The replacement of the extension or the name of a path.
+#[derive(Clone, Copy)]
+struct Renaming<'a> {
     is_extension: bool,
-    texts: [CStr16<'_>; 3],
-) -> Result<bool, AllocError> {
-    let [text, other, want] = texts;
-    let mut path = PathBuf::from(heap, text)?;
-    let is_set = if is_extension {
-        path.set_extension(other) == Ok(true)
-    } else {
-        path.set_file_name(other).is_ok()
-    };
-    if is_set {
-        Ok(path.to_cstr16() == want)
-    } else {
-        out_of_memory(path.to_cstr16() == text)
+    text: CStr16<'a>,
+    other: CStr16<'a>,
+    want: CStr16<'a>,
+}
+
+impl MemoryCall for Renaming<'_> {
+    /// Returns whether the extension or the name is replaced, or the path is unchanged when memory ran out.
+    fn answer(&self, heap: &Refusing<Global>) -> Result<bool, AllocError> {
+        let mut path = PathBuf::from(heap, self.text)?;
+        let is_set = if self.is_extension {
+            path.set_extension(self.other) == Ok(true)
+        } else {
+            path.set_file_name(self.other).is_ok()
+        };
+        if is_set {
+            Ok(path.to_cstr16() == self.want)
+        } else {
+            out_of_memory(path.to_cstr16() == self.text)
+        }
     }
 }
 
@@ -162,8 +167,13 @@ fn paths_with_another_name(rt: HostRuntime) -> Result<(), Fail> {
     for (is_extension, text, other, want) in RENAMED {
         let (a, b) = (string(rt.alloc(), text)?, string(rt.alloc(), other)?);
         let c = string(rt.alloc(), want)?;
-        let texts = [a.as_cstr16(), b.as_cstr16(), c.as_cstr16()];
-        let asked = requests(rt.alloc(), 0, |heap| takes(heap, *is_extension, texts))?;
+        let renaming = Renaming {
+            is_extension: *is_extension,
+            text: a.as_cstr16(),
+            other: b.as_cstr16(),
+            want: c.as_cstr16(),
+        };
+        let asked = requests(rt.alloc(), 0, &renaming)?;
         assert!(rt; 1 < asked, "{text}");
     }
     Ok(())

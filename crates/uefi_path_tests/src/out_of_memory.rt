@@ -2,7 +2,9 @@
 //! of ample memory. Calls on a buffer use the buffer's own allocator. One table has all calls. All succeed on
 //! a path of 300,000 characters.
 
-use for_tests::{Refusing, has_text, is_answered, out_of_memory, repeated, requests, string};
+use for_tests::{
+    MemoryCall, Refusing, has_text, is_answered, out_of_memory, repeated, requests, string,
+};
 use std::alloc::{AllocError, Global};
 use std::test::Fail;
 use uefi_path::{CountedUnits, NormalizeError, Path, PathBuf, PathError};
@@ -33,6 +35,7 @@ enum Call {
     Clear,
     IntoCString16,
     Nothing,
+    ReplaceSlashes,
 }
 
 /// Returns whether a path takes over a copy of a string, or the same string comes back when memory ran out.
@@ -101,6 +104,29 @@ fn needs_no_memory(
     Ok(path.parent()?.is_none() && Path::new(text).parent(heap)?.is_none())
 }
 
+/// Returns whether `a/b` becomes a path, or its string comes back with the slash when memory ran out.
+fn replaces_or_keeps(heap: &Refusing<Global>, text: CStr16<'_>) -> Result<bool, AllocError> {
+    let taken = CString16::from_cstr16(heap, text)?;
+    match PathBuf::new_from_cstring16(heap, taken) {
+        Ok(path) => Ok(has_text(path.to_cstr16(), r"a\b")),
+        Err(kept) => out_of_memory(has_text(kept.as_cstr16(), "a/b")),
+    }
+}
+
+/// A call on two texts.
+#[derive(Clone, Copy)]
+struct OnTexts<'a> {
+    call: Call,
+    text: CStr16<'a>,
+    other: CStr16<'a>,
+}
+
+impl MemoryCall for OnTexts<'_> {
+    fn answer(&self, heap: &Refusing<Global>) -> Result<bool, AllocError> {
+        answers(self.call, heap, self.text, self.other)
+    }
+}
+
 /// Returns whether a call gives the result of ample memory, or memory ran out.
 fn answers(
     call: Call,
@@ -134,6 +160,7 @@ fn answers(
         Call::Clear => clears_and_takes(heap, text),
         Call::IntoCString16 => Ok(PathBuf::from(heap, text)?.into_cstring16().eq_cstr16(text)),
         Call::Nothing => needs_no_memory(heap, text, more),
+        Call::ReplaceSlashes => replaces_or_keeps(heap, text),
     }
 }
 
@@ -141,8 +168,12 @@ fn answers(
 fn count_of(rt: &HostRuntime, call: Call, setup: u64, texts: [&str; 2]) -> Result<u64, Fail> {
     let [text, other] = texts;
     let (text, other) = (string(rt.alloc(), text)?, string(rt.alloc(), other)?);
-    let (text, other) = (text.as_cstr16(), other.as_cstr16());
-    requests(rt.alloc(), setup, |heap| answers(call, heap, text, other))
+    let on_texts = OnTexts {
+        call,
+        text: text.as_cstr16(),
+        other: other.as_cstr16(),
+    };
+    requests(rt.alloc(), setup, &on_texts)
 }
 
 /// A call, how many requests precede it, its texts, and the least and the greatest number of its requests. In
@@ -243,24 +274,9 @@ fn requests_of_each_call(rt: HostRuntime) -> Result<(), Fail> {
     Ok(())
 }
 
-/// Returns whether `a/b` becomes a path, or its string comes back with the slash when memory ran out.
-fn replaces_or_keeps(heap: &Refusing<Global>, text: CStr16<'_>) -> Result<bool, AllocError> {
-    let taken = CString16::from_cstr16(heap, text)?;
-    match PathBuf::new_from_cstring16(heap, taken) {
-        Ok(path) => Ok(has_text(path.to_cstr16(), r"a\b")),
-        Err(kept) => out_of_memory(has_text(kept.as_cstr16(), "a/b")),
-    }
-}
-
 #[test]
 fn slashes_after_a_refusal(rt: HostRuntime) -> Result<(), Fail> {
-    let text = string(rt.alloc(), "a/b")?;
-    let asked = requests(
-        rt.alloc(),
-        1,
-        |heap| replaces_or_keeps(heap, text.as_cstr16()),
-    )?;
-    assert!(rt; asked == 1);
+    assert!(rt; count_of(&rt, Call::ReplaceSlashes, 1, ["a/b", ""])? == 1);
     Ok(())
 }
 

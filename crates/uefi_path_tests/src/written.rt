@@ -2,7 +2,7 @@
 
 use crate::normal::NORMAL;
 use crate::parents::PARENTS;
-use for_tests::{says, string, writes_whole};
+use for_tests::{BufferCall, says, string, writes_whole};
 use std::test::Fail;
 use uefi_path::{NormalWriteError, Path};
 use uefi_text::BufferTooSmall;
@@ -28,6 +28,23 @@ fn normal_in(path: Path<'_>, room: &mut [u16]) -> Result<usize, usize> {
     }
 }
 
+/// A call that writes the parent or the normal path of a path.
+#[derive(Clone, Copy)]
+struct Written<'a> {
+    path: Path<'a>,
+    normal: bool,
+}
+
+impl BufferCall<u16> for Written<'_> {
+    fn write(&self, room: &mut [u16]) -> Result<usize, usize> {
+        if self.normal {
+            normal_in(self.path, room)
+        } else {
+            parent_in(self.path, room)
+        }
+    }
+}
+
 /// Returns whether the parent or the normal path of a path is written into each buffer that has room for it,
 /// and every shorter buffer is unchanged. If there is none, every buffer is unchanged.
 fn are_written(
@@ -45,11 +62,7 @@ fn are_written(
     } else {
         path.write_parent(&mut [0; 32]) != Ok(None)
     };
-    let is_right = if normal {
-        writes_whole(rt.alloc(), units, FILLER, |room| normal_in(path, room))?
-    } else {
-        writes_whole(rt.alloc(), units, FILLER, |room| parent_in(path, room))?
-    };
+    let is_right = writes_whole(rt.alloc(), units, FILLER, &Written { path, normal })?;
     Ok(is_right && has_one == want.is_some())
 }
 

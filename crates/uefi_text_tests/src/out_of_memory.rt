@@ -2,7 +2,7 @@
 //! makes. Each call checks its input before it requests memory.
 
 use crate::strs::characters;
-use for_tests::{Refusing, is_answered, out_of_memory, repeated, requests, string};
+use for_tests::{MemoryCall, Refusing, is_answered, out_of_memory, repeated, requests, string};
 use std::alloc::{AllocError, Global};
 use std::fmt::Write;
 use std::iter;
@@ -12,92 +12,6 @@ use uefi_text::{
     CStr16, CString16, Char16, FromSliceUntilNulError as UntilNul,
     FromSliceWithNulError as WithNul, FromStrError, NUL_16, UnalignedSlice,
 };
-
-/// Counts the requests of the calls that create a string from a text, or copy a string's content.
-fn copied(alloc: Global, rust: &str, part: CStr16<'_>) -> Result<[u64; 7], Fail> {
-    Ok([
-        requests(
-            alloc,
-            0,
-            |heap| is_answered(CString16::with_capacity(heap, rust.len()), AllocError),
-        )?,
-        requests(alloc, 0, |heap| {
-            is_answered(
-                CString16::try_from_str(heap, rust),
-                FromStrError::OutOfMemory,
-            )
-        })?,
-        requests(
-            alloc,
-            0,
-            |heap| is_answered(CString16::from_cstr16(heap, part), AllocError),
-        )?,
-        requests(
-            alloc,
-            0,
-            |heap| is_answered(part.to_owned(heap), AllocError),
-        )?,
-        requests(alloc, 0, |heap| {
-            is_answered(
-                part.as_slice().to_cstring16(heap),
-                FromStrError::OutOfMemory,
-            )
-        })?,
-        requests(
-            alloc,
-            0,
-            |heap| is_answered(part.as_bytes(heap), AllocError),
-        )?,
-        requests(
-            alloc,
-            0,
-            |heap| is_answered(part.to_rust_string(heap), AllocError),
-        )?,
-    ])
-}
-
-/// Counts the requests of the calls that read characters, bytes and packed units.
-fn read(alloc: Global, bytes: &[u8], list: &[Char16]) -> Result<[u64; 7], Fail> {
-    let items = UnalignedSlice::from_unit_bytes(bytes).ok_or("units")?;
-    let nothing = UnalignedSlice::<u16>::try_new(bytes, 0).ok_or("no units")?;
-    Ok([
-        requests(alloc, 0, |heap| {
-            is_answered(
-                CStr16::from_char16_until_nul(heap, list),
-                UntilNul::OutOfMemory,
-            )
-        })?,
-        requests(alloc, 0, |heap| {
-            is_answered(
-                CStr16::from_char16_with_nul(heap, list),
-                WithNul::OutOfMemory,
-            )
-        })?,
-        requests(alloc, 0, |heap| {
-            is_answered(
-                CStr16::from_bytes_with_nul(heap, bytes),
-                WithNul::OutOfMemory,
-            )
-        })?,
-        requests(alloc, 0, |heap| {
-            is_answered(
-                CString16::try_from_unaligned(heap, &items),
-                WithNul::OutOfMemory,
-            )
-        })?,
-        requests(
-            alloc,
-            0,
-            |heap| is_answered(items.to_cstring16(heap), WithNul::OutOfMemory),
-        )?,
-        requests(alloc, 0, |heap| is_answered(items.to_vec(heap), AllocError))?,
-        requests(
-            alloc,
-            0,
-            |heap| is_answered(nothing.to_vec(heap), AllocError),
-        )?,
-    ])
-}
 
 /// Creates a string with a text and no spare room.
 fn filled<'a>(
@@ -132,53 +46,76 @@ fn changes(
     part: CStr16<'_>,
     rust: &str,
 ) -> Result<bool, AllocError> {
-    let mut text = filled(heap, part)?;
     let Ok(c) = Char16::try_from('c') else {
         return Ok(false);
     };
     if c == NUL_16 {
         return Ok(false);
     }
-    match change {
+    let mut text = filled(heap, part)?;
+    let changed = match change {
         Change::Clear => {
             text.clear();
-            text.push_str(part)?;
+            text.push_str(part)
         }
-        Change::Push => text.push(c)?,
-        Change::PushStr => text.push_str(part)?,
-        Change::PushPart => text.push_part(part.as_slice())?,
-        Change::PushNothing => text.push_part(part.as_slice().part(0, 0))?,
+        Change::Push => text.push(c),
+        Change::PushStr => text.push_str(part),
+        Change::PushPart => text.push_part(part.as_slice()),
+        Change::PushNothing => text.push_part(part.as_slice().part(0, 0)),
         Change::PushEmpty => match CStr16::from_u16_with_nul(&[0]) {
-            Ok(empty) => text.push_str(empty)?,
-            Err(_) => return Ok(false),
+            Ok(empty) => text.push_str(empty),
+            Err(_) => Err(AllocError),
         },
         Change::Reserve => {
             text.reserve(2)?;
             text.push(c)?;
-            text.push(c)?;
+            text.push(c)
         }
-        Change::WriteStr => return text.write_str(rust).map(|_| true).map_err(|_| AllocError),
-        Change::Extend => text.extend(iter::repeat_n(c, 64))?,
-        Change::ExtendByNone => text.extend(iter::repeat_n(c, 0))?,
-        Change::ExtendByText => text.extend(part.iter())?,
-    }
-    Ok(true)
+        Change::WriteStr => text.write_str(rust).map_err(|_| AllocError),
+        Change::Extend => text.extend(iter::repeat_n(c, 64)),
+        Change::ExtendByNone => text.extend(iter::repeat_n(c, 0)),
+        Change::ExtendByText => text.extend(part.iter()),
+    };
+    is_answered(changed, AllocError)
 }
 
-/// Each change, and the least and the greatest number of its requests.
-const CHANGES: &[(Change, u64, u64)] = &[
-    (Change::Clear, 0, 0),
-    (Change::Push, 1, 1),
-    (Change::PushStr, 1, 1),
-    (Change::PushPart, 1, 1),
-    (Change::PushNothing, 0, 0),
-    (Change::PushEmpty, 0, 0),
-    (Change::Reserve, 1, 1),
-    (Change::WriteStr, 1, 1),
-    (Change::Extend, 1, 96),
-    (Change::ExtendByNone, 0, 0),
-    (Change::ExtendByText, 1, 2),
-];
+/// A text, in each form that a call takes.
+#[derive(Clone, Copy)]
+struct Text<'a> {
+    rust: &'a str,
+    part: CStr16<'a>,
+    list: &'a [Char16],
+    bytes: &'a [u8],
+    items: UnalignedSlice<'a, u16>,
+    no_items: UnalignedSlice<'a, u16>,
+}
+
+/// A call on a text.
+#[derive(Clone, Copy)]
+enum Call {
+    // Calls that create a string from a text, or copy the content of a string.
+    WithCapacity,
+    TryFromStr,
+    FromCStr16,
+    ToOwned,
+    ToCString16,
+    AsBytes,
+    ToRustString,
+    Clone,
+    // Calls that read characters, bytes and packed units.
+    FromChar16UntilNul,
+    FromChar16WithNul,
+    FromBytesWithNul,
+    TryFromUnaligned,
+    ItemsToCString16,
+    ItemsToVec,
+    NoItemsToVec,
+    // Calls that add to other values, without and with room.
+    AddUtf8,
+    AddUtf8InRoom,
+    FillSink,
+    Change(Change),
+}
 
 /// Returns whether the bytes of a text are added to a list of one byte with this much room, or memory ran
 /// out.
@@ -194,38 +131,146 @@ fn fills_sink(heap: &Refusing<Global>, part: CStr16<'_>) -> Result<bool, AllocEr
     Ok(part.as_str_in_buf(&mut sink).map_err(|_| AllocError)? == ())
 }
 
-/// Counts the requests of a copy, and of adding bytes without and with room. The last number is 0 if a sink
-/// requests nothing.
-fn added(alloc: Global, part: CStr16<'_>, room: usize) -> Result<[u64; 4], Fail> {
-    Ok([
-        requests(
-            alloc,
-            1,
-            |heap| is_answered(filled(heap, part)?.clone(), AllocError),
-        )?,
-        requests(alloc, 1, |heap| adds_bytes(heap, part, 1))?,
-        requests(alloc, 1, |heap| adds_bytes(heap, part, room))?,
-        requests(alloc, 0, |heap| fills_sink(heap, part))?.min(1),
-    ])
+/// Returns whether a call that creates a string or copies one succeeds, or memory ran out.
+fn copies(heap: &Refusing<Global>, call: Call, text: &Text<'_>) -> Result<bool, AllocError> {
+    let part = text.part;
+    match call {
+        Call::WithCapacity => {
+            is_answered(CString16::with_capacity(heap, text.rust.len()), AllocError)
+        }
+        Call::TryFromStr => {
+            is_answered(
+                CString16::try_from_str(heap, text.rust),
+                FromStrError::OutOfMemory,
+            )
+        }
+        Call::FromCStr16 => is_answered(CString16::from_cstr16(heap, part), AllocError),
+        Call::ToOwned => is_answered(part.to_owned(heap), AllocError),
+        Call::ToCString16 => {
+            is_answered(
+                part.as_slice().to_cstring16(heap),
+                FromStrError::OutOfMemory,
+            )
+        }
+        Call::AsBytes => is_answered(part.as_bytes(heap), AllocError),
+        Call::ToRustString => is_answered(part.to_rust_string(heap), AllocError),
+        Call::Clone => is_answered(filled(heap, part)?.clone(), AllocError),
+        _ => Ok(false),
+    }
 }
 
+/// Returns whether a call that reads characters, bytes or packed units succeeds, or memory ran out.
+fn reads(heap: &Refusing<Global>, call: Call, text: &Text<'_>) -> Result<bool, AllocError> {
+    match call {
+        Call::FromChar16UntilNul => is_answered(
+            CStr16::from_char16_until_nul(heap, text.list),
+            UntilNul::OutOfMemory,
+        ),
+        Call::FromChar16WithNul => {
+            is_answered(
+                CStr16::from_char16_with_nul(heap, text.list),
+                WithNul::OutOfMemory,
+            )
+        }
+        Call::FromBytesWithNul => {
+            is_answered(
+                CStr16::from_bytes_with_nul(heap, text.bytes),
+                WithNul::OutOfMemory,
+            )
+        }
+        Call::TryFromUnaligned => is_answered(
+            CString16::try_from_unaligned(heap, &text.items),
+            WithNul::OutOfMemory,
+        ),
+        Call::ItemsToCString16 => {
+            is_answered(text.items.to_cstring16(heap), WithNul::OutOfMemory)
+        }
+        Call::ItemsToVec => is_answered(text.items.to_vec(heap), AllocError),
+        Call::NoItemsToVec => is_answered(text.no_items.to_vec(heap), AllocError),
+        _ => Ok(false),
+    }
+}
+
+/// A call on this text.
+#[derive(Clone, Copy)]
+struct OnText<'a> {
+    call: Call,
+    text: Text<'a>,
+}
+
+impl MemoryCall for OnText<'_> {
+    fn answer(&self, heap: &Refusing<Global>) -> Result<bool, AllocError> {
+        let (part, rust) = (self.text.part, self.text.rust);
+        match self.call {
+            Call::AddUtf8 => adds_bytes(heap, part, 1),
+            Call::AddUtf8InRoom => adds_bytes(heap, part, rust.len().saturating_add(1)),
+            Call::FillSink => fills_sink(heap, part),
+            Call::Change(change) => changes(change, heap, part, rust),
+            call => Ok(copies(heap, call, &self.text)? || reads(heap, call, &self.text)?),
+        }
+    }
+}
+
+/// Each call, how many requests precede it, and the least and the greatest number of its requests.
+const CALLS: &[(Call, u64, u64, u64)] = &[
+    (Call::WithCapacity, 0, 1, 1),
+    (Call::TryFromStr, 0, 1, 1),
+    (Call::FromCStr16, 0, 1, 1),
+    (Call::ToOwned, 0, 1, 1),
+    (Call::ToCString16, 0, 1, 1),
+    (Call::AsBytes, 0, 1, 1),
+    (Call::ToRustString, 0, 1, 1),
+    (Call::Clone, 1, 1, 1),
+    (Call::FromChar16UntilNul, 0, 1, 1),
+    (Call::FromChar16WithNul, 0, 1, 1),
+    (Call::FromBytesWithNul, 0, 1, 1),
+    (Call::TryFromUnaligned, 0, 1, 1),
+    (Call::ItemsToCString16, 0, 1, 1),
+    (Call::ItemsToVec, 0, 1, 1),
+    (Call::NoItemsToVec, 0, 0, 0),
+    (Call::AddUtf8, 1, 1, 1),
+    (Call::AddUtf8InRoom, 1, 0, 0),
+    // A sink requests memory, but how often depends on the sink.
+    (Call::FillSink, 0, 1, u64::MAX),
+    (Call::Change(Change::Clear), 1, 0, 0),
+    (Call::Change(Change::Push), 1, 1, 1),
+    (Call::Change(Change::PushStr), 1, 1, 1),
+    (Call::Change(Change::PushPart), 1, 1, 1),
+    (Call::Change(Change::PushNothing), 1, 0, 0),
+    (Call::Change(Change::PushEmpty), 1, 0, 0),
+    (Call::Change(Change::Reserve), 1, 1, 1),
+    (Call::Change(Change::WriteStr), 1, 1, 1),
+    (Call::Change(Change::Extend), 1, 1, 96),
+    (Call::Change(Change::ExtendByNone), 1, 0, 0),
+    (Call::Change(Change::ExtendByText), 1, 1, 2),
+];
+
 /// Returns whether each call on a text makes the expected number of requests.
+fn are_counted(alloc: Global, text: Text<'_>) -> Result<bool, Fail> {
+    for (call, setup, least, most) in CALLS {
+        let count = requests(alloc, *setup, &OnText { call: *call, text })?;
+        if count < *least || *most < count {
+            return Ok(false);
+        }
+    }
+    Ok(true)
+}
+
+/// Checks `are_counted` for a text.
 fn is_counted(rt: &HostRuntime, rust: &str) -> Result<bool, Fail> {
     let owned = string(rt.alloc(), rust)?;
     let part = owned.as_cstr16();
     let bytes = part.as_bytes(rt.alloc())?;
     let list = characters(rt, part.to_u16_slice_with_nul())?;
-    for (change, least, most) in CHANGES {
-        let count = requests(rt.alloc(), 1, |heap| changes(*change, heap, part, rust))?;
-        if count < *least || *most < count {
-            return Ok(false);
-        }
-    }
-    Ok(
-        copied(rt.alloc(), rust, part)? == [1; 7]
-            && read(rt.alloc(), &bytes, &list)? == [1, 1, 1, 1, 1, 1, 0]
-            && added(rt.alloc(), part, rust.len().saturating_add(1))? == [1, 1, 0, 1],
-    )
+    let text = Text {
+        rust,
+        part,
+        list: &list,
+        bytes: &bytes,
+        items: UnalignedSlice::from_unit_bytes(&bytes).ok_or("units")?,
+        no_items: UnalignedSlice::try_new(&bytes, 0).ok_or("no units")?,
+    };
+    are_counted(rt.alloc(), text)
 }
 
 /// How often a piece is repeated in a text: numbers around the blocks that loops over units and bytes
@@ -282,15 +327,41 @@ const VECTORS: &[(&[u16], Option<WithNul>)] = &[
     (&[], Some(NotNulTerminated)),
 ];
 
+/// The units of a vector that a string takes over, and why it is refused, if it is.
+#[derive(Clone, Copy)]
+struct Taken<'a>(&'a [u16], Option<WithNul>);
+
+impl MemoryCall for Taken<'_> {
+    fn answer(&self, heap: &Refusing<Global>) -> Result<bool, AllocError> {
+        takes_over(heap, self.0, self.1)
+    }
+}
+
 /// A string takes over its vector's memory.
 #[test]
 fn requests_for_vectors(rt: HostRuntime) -> Result<(), Fail> {
-    assert!(rt; requests(rt.alloc(), 0, |heap| Ok(CString16::new(heap)?.is_empty()))? == 1);
     for (units, want) in VECTORS {
-        let count = requests(rt.alloc(), 1, |heap| takes_over(heap, units, *want))?;
+        let count = requests(rt.alloc(), 1, &Taken(units, *want))?;
         assert!(rt; count == 0, "{units:?}");
     }
-    assert!(rt; CString16::with_capacity(rt.alloc(), usize::MAX).is_err());
+    Ok(())
+}
+
+/// The creation of an empty string.
+#[derive(Clone, Copy)]
+struct New;
+
+impl MemoryCall for New {
+    fn answer(&self, heap: &Refusing<Global>) -> Result<bool, AllocError> {
+        Ok(CString16::new(heap)?.is_empty())
+    }
+}
+
+#[test]
+fn requests_for_room(rt: HostRuntime) -> Result<(), Fail> {
+    let count = requests(rt.alloc(), 0, &New)?;
+    let is_refused = CString16::with_capacity(rt.alloc(), usize::MAX).is_err();
+    assert!(rt; count == 1 && is_refused, "{count}");
     Ok(())
 }
 
@@ -327,17 +398,6 @@ fn extends(heap: &Refusing<Global>, ab: CStr16<'_>, c: Char16) -> Result<bool, A
     Ok(is_ab_and(text.as_cstr16(), 64))
 }
 
-#[test]
-fn held_after_a_refusal(rt: HostRuntime) -> Result<(), Fail> {
-    let (ab, c) = (
-        CStr16::from_u16_with_nul(&[97, 98, 0])?,
-        Char16::try_from('c')?,
-    );
-    assert!(rt; 1 <= requests(rt.alloc(), 1, |heap| pushes_one_by_one(heap, ab, c))?);
-    assert!(rt; 1 <= requests(rt.alloc(), 1, |heap| extends(heap, ab, c))?);
-    Ok(())
-}
-
 /// Returns whether texts, bytes and packed units are refused because of their characters.
 fn refuses(heap: &Refusing<Global>, items: UnalignedSlice<'_, u16>, bytes: &[u8]) -> bool {
     let want = Some(InvalidChar(0));
@@ -355,13 +415,62 @@ fn refuses_characters(heap: &Refusing<Global>, string: CStr16<'_>, open: &[Char1
         && string.as_slice_with_nul().to_cstring16(heap).err() == Some(FromStrError::InteriorNul)
 }
 
+/// The text `ab`, the character `c`, and whether 64 of these are pushed one by one.
+#[derive(Clone, Copy)]
+struct Growing<'a>(CStr16<'a>, Char16, bool);
+
+impl MemoryCall for Growing<'_> {
+    fn answer(&self, heap: &Refusing<Global>) -> Result<bool, AllocError> {
+        if self.2 {
+            pushes_one_by_one(heap, self.0, self.1)
+        } else {
+            extends(heap, self.0, self.1)
+        }
+    }
+}
+
+#[test]
+fn held_after_a_refusal(rt: HostRuntime) -> Result<(), Fail> {
+    let (ab, c) = (
+        CStr16::from_u16_with_nul(&[97, 98, 0])?,
+        Char16::try_from('c')?,
+    );
+    let pushed = requests(rt.alloc(), 1, &Growing(ab, c, true))?;
+    let extended = requests(rt.alloc(), 1, &Growing(ab, c, false))?;
+    assert!(rt; 1 <= pushed && 1 <= extended, "{pushed} {extended}");
+    Ok(())
+}
+
+/// Units and bytes that are no string.
+#[derive(Clone, Copy)]
+struct Refused<'a>(UnalignedSlice<'a, u16>, &'a [u8]);
+
+impl MemoryCall for Refused<'_> {
+    fn answer(&self, heap: &Refusing<Global>) -> Result<bool, AllocError> {
+        Ok(refuses(heap, self.0, self.1))
+    }
+}
+
+/// A string, and characters without a NUL.
+#[derive(Clone, Copy)]
+struct RefusedCharacters<'a>(CStr16<'a>, &'a [Char16]);
+
+impl MemoryCall for RefusedCharacters<'_> {
+    fn answer(&self, heap: &Refusing<Global>) -> Result<bool, AllocError> {
+        Ok(refuses_characters(heap, self.0, self.1))
+    }
+}
+
 #[test]
 fn refused_without_a_request(rt: HostRuntime) -> Result<(), Fail> {
-    let (bytes, alloc) = (&[0, 0xd8, 0, 0], rt.alloc());
+    let bytes = &[0, 0xd8, 0, 0];
     let items = UnalignedSlice::from_unit_bytes(bytes).ok_or("units")?;
     let open = characters(&rt, &[97])?;
     let string = CStr16::from_u16_with_nul(&[97, 0])?;
-    assert!(rt; requests(alloc, 0, |heap| Ok(refuses(heap, items, bytes)))? == 0);
-    assert!(rt; requests(alloc, 0, |heap| Ok(refuses_characters(heap, string, &open)))? == 0);
+    let counts = [
+        requests(rt.alloc(), 0, &Refused(items, bytes))?,
+        requests(rt.alloc(), 0, &RefusedCharacters(string, &open))?,
+    ];
+    assert!(rt; counts == [0, 0], "{counts:?}");
     Ok(())
 }

@@ -1,6 +1,6 @@
 //! Lists of commands, with each memory request refused in turn, and the parents of paths, as texts.
 
-use for_tests::{Refusing, has_text, out_of_memory, requests, string};
+use for_tests::{MemoryCall, Refusing, has_text, out_of_memory, requests, string};
 use std::alloc::{AllocError, Global};
 use std::test::Fail;
 use uefi_path::{Path, PathBuf};
@@ -52,7 +52,7 @@ fn command<'a>(verb: &str, text: CStr16<'a>) -> PathCommand<'a> {
 
 /// Returns whether commands leave the text whose index is the number of commands that were done: all of them,
 /// or those before memory ran out.
-pub(crate) fn runs(
+fn runs(
     heap: &Refusing<Global>,
     commands: &[PathCommand<'_>],
     texts: &[CString16],
@@ -73,6 +73,19 @@ pub(crate) fn runs(
     }
 }
 
+/// Commands, and the text of the path before the first and after each.
+#[derive(Clone, Copy)]
+pub(crate) struct CommandRun<'a> {
+    pub(crate) commands: &'a [PathCommand<'a>],
+    pub(crate) texts: &'a [CString16],
+}
+
+impl MemoryCall for CommandRun<'_> {
+    fn answer(&self, heap: &Refusing<Global>) -> Result<bool, AllocError> {
+        runs(heap, self.commands, self.texts)
+    }
+}
+
 /// Returns how many requests the first `count` commands of a row make, if they leave the row's texts.
 fn are_run(rt: &HostRuntime, start: &str, steps: &[Step], count: usize) -> Result<u64, Fail> {
     let (mut given, mut texts) = (
@@ -87,7 +100,11 @@ fn are_run(rt: &HostRuntime, start: &str, steps: &[Step], count: usize) -> Resul
     for ((verb, _, _), text) in steps.iter().zip(&given).take(count) {
         commands.push(command(verb, text.as_cstr16()))?;
     }
-    requests(rt.alloc(), 0, |heap| runs(heap, &commands, &texts))
+    let run = CommandRun {
+        commands: &commands,
+        texts: &texts,
+    };
+    requests(rt.alloc(), 0, &run)
 }
 
 /// The first `taking` commands and the initial path make all requests.

@@ -1,9 +1,11 @@
 //! What programs do with paths, with each memory request refused in turn until a run makes all of them; and
 //! how many requests each call makes.
 
-use crate::commands::runs;
+use crate::commands::CommandRun;
 use crate::streams::{FailingReader, KINDS, SHORT};
-use for_tests::{Refusing, is_answered, out_of_memory, refused_in_turn, requests, string};
+use for_tests::{
+    MemoryCall, Refusing, is_answered, out_of_memory, refused_in_turn, requests, string,
+};
 use std::alloc::{AllocError, Global};
 use std::test::Fail;
 use uefi_path::{Path, PathBuf};
@@ -12,6 +14,26 @@ use upath::{
     JudgeError, PathCommand, StreamFault, Watched, all_parents, judge, pieces, run_streams,
     run_text,
 };
+
+/// A call that requests memory, and its arguments.
+#[derive(Clone, Copy)]
+enum Call<'a> {
+    Judge(&'a [u8]),
+    /// Lines, and what they print.
+    RunText(&'a [u8], &'a [u8]),
+    /// The memory of the writer, lines, and what they print.
+    RunStreams(Global, &'a [u8], &'a [u8]),
+}
+
+impl MemoryCall for Call<'_> {
+    fn answer(&self, heap: &Refusing<Global>) -> Result<bool, AllocError> {
+        match *self {
+            Call::Judge(bytes) => judges(heap, bytes),
+            Call::RunText(input, output) => Ok(run_text(heap, input)?.as_slice() == output),
+            Call::RunStreams(alloc, input, output) => writes(heap, alloc, (input, output)),
+        }
+    }
+}
 
 /// Returns the texts of a path: empty, then `a`, then with another `b` pushed each time.
 fn texts_of_pushes(alloc: Global) -> Result<Vec<CString16>, Fail> {
@@ -35,7 +57,11 @@ fn requests_of_commands(rt: HostRuntime) -> Result<(), Fail> {
     let mut long = [PathCommand::Push(Path::new(b)); 65];
     long[0] = PathCommand::From(a);
     let texts = texts_of_pushes(rt.alloc())?;
-    assert!(rt; 2 <= requests(rt.alloc(), 1, |heap| runs(heap, &long, &texts))?);
+    let run = CommandRun {
+        commands: &long,
+        texts: &texts,
+    };
+    assert!(rt; 2 <= requests(rt.alloc(), 1, &run)?);
     Ok(())
 }
 
@@ -62,10 +88,15 @@ fn judges(heap: &Refusing<Global>, bytes: &[u8]) -> Result<bool, AllocError> {
     }
 }
 
-/// Returns whether the parents of a path are listed, or memory ran out.
-fn has_parents(heap: &Refusing<Global>, text: CStr16<'_>) -> Result<bool, AllocError> {
-    let path = PathBuf::from(heap, text)?;
-    is_answered(all_parents(heap, &path), AllocError)
+/// The text of a path whose parents are listed.
+#[derive(Clone, Copy)]
+struct Parents<'a>(CStr16<'a>);
+
+impl MemoryCall for Parents<'_> {
+    fn answer(&self, heap: &Refusing<Global>) -> Result<bool, AllocError> {
+        let path = PathBuf::from(heap, self.0)?;
+        is_answered(all_parents(heap, &path), AllocError)
+    }
 }
 
 /// Returns whether a run over streams writes the output, or nothing when memory ran out. The reader returns 5
@@ -101,40 +132,50 @@ const OUTPUT: &[u8] =
       parents 4\n| a\xc3\xa9\\c\\b\\c\n| a\xc3\xa9\\c\\b\n| a\xc3\xa9\\c\n| a\xc3\xa9\n\
       = a\xc3\xa9\\c\\b\\c\\d\n= a\xc3\xa9\\c\\b\\c\ngreater\nok\n= \npath is empty\n";
 
-/// Each refused request ends its run.
 #[test]
-fn requests_of_each_call(rt: HostRuntime) -> Result<(), Fail> {
-    let alloc = rt.alloc();
+fn requests_for_bytes(rt: HostRuntime) -> Result<(), Fail> {
     for (bytes, want) in JUDGED {
         assert_eq!(rt;
-            requests(alloc, 0, |heap| judges(heap, bytes))?,
+            requests(rt.alloc(), 0, &Call::Judge(bytes))?,
             *want,
             "{bytes:?}"
         );
     }
-    let text = string(alloc, r"a\b\c")?;
-    assert!(rt; 2 <= requests(alloc, 2, |heap| has_parents(heap, text.as_cstr16()))?);
-    let run = requests(
-        alloc,
-        0,
-        |heap| Ok(run_text(heap, INPUT)?.as_slice() == OUTPUT),
-    )?;
-    assert!(rt; 6 <= run && 7 <= requests(alloc, 0, |heap| writes(heap, alloc, (INPUT, OUTPUT)))?);
-    assert!(rt; 3 <= requests(alloc, 0, |heap| writes(heap, alloc, SHORT[0]))?);
     Ok(())
 }
 
-/// Returns whether `pieces` lists the components of a path as `want`, or memory ran out.
-fn lists(
-    heap: &Refusing<Global>,
-    path: Path<'_>,
-    want: &[Char16Slice<'_>],
-) -> Result<bool, AllocError> {
-    Ok(pieces(heap, path)?.as_slice() == want)
+/// Each refused request ends its run.
+#[test]
+fn requests_of_runs(rt: HostRuntime) -> Result<(), Fail> {
+    let alloc = rt.alloc();
+    let text = string(alloc, r"a\b\c")?;
+    let (short, wanted) = SHORT[0];
+    let counts = [
+        requests(alloc, 2, &Parents(text.as_cstr16()))?,
+        requests(alloc, 0, &Call::RunText(INPUT, OUTPUT))?,
+        requests(alloc, 0, &Call::RunStreams(alloc, INPUT, OUTPUT))?,
+        requests(alloc, 0, &Call::RunStreams(alloc, short, wanted))?,
+    ];
+    let [parents, run, streams, few] = counts;
+    assert!(rt;
+        2 <= parents && 6 <= run && 7 <= streams && 3 <= few,
+        "{counts:?}"
+    );
+    Ok(())
 }
 
-/// Checks `lists` with the request of this number and the next one both refused. Returns `None` if the call
-/// makes no such request.
+/// A path, and the components that `pieces` lists.
+#[derive(Clone, Copy)]
+struct Listed<'a>(Path<'a>, &'a [Char16Slice<'a>]);
+
+impl MemoryCall for Listed<'_> {
+    fn answer(&self, heap: &Refusing<Global>) -> Result<bool, AllocError> {
+        Ok(pieces(heap, self.0)?.as_slice() == self.1)
+    }
+}
+
+/// Returns whether `pieces` lists the components of a path as `want`, or memory ran out, with the request of
+/// this number and the next one both refused. Returns `None` if the call makes no such request.
 fn lists_twice_refused(
     alloc: Global,
     number: u64,
@@ -160,7 +201,7 @@ fn requests_for_components(rt: HostRuntime) -> Result<(), Fail> {
     let text = string(rt.alloc(), r"a\\\\\\\\\\b\c\d\e\f\g\h\i\j\k\l")?;
     let path = Path::new(text.as_cstr16());
     let want = pieces(rt.alloc(), path)?;
-    let refusals = refused_in_turn(rt.alloc(), 0, |heap| lists(heap, path, &want))?;
+    let refusals = refused_in_turn(rt.alloc(), 0, &Listed(path, &want))?;
     assert!(rt; refusals.failed != 0 || refusals.answered != 0);
     let mut refused = 0u64;
     for number in 1..100u64 {
