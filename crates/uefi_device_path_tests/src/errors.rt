@@ -297,23 +297,27 @@ const EXPECTED: &[(Expected, &str)] = &[
 #[test]
 fn printed_for_users(rt: HostRuntime) {
     let alloc = rt.alloc();
-    assert_eq!(rt; find_unsaid(alloc, NODES), None);
-    assert_eq!(rt; find_unsaid(alloc, CONVERSIONS), None);
-    assert_eq!(rt; find_unsaid(alloc, PATHS), None);
-    assert_eq!(rt; find_unsaid(alloc, FILE_PATHS), None);
-    assert_eq!(rt; find_unsaid(alloc, FILE_PATH_CAUSES), None);
-    assert_eq!(rt; find_unsaid(alloc, FILE_PATH_WRITES), None);
-    assert_eq!(rt; find_unsaid(alloc, LOAD_OPTION_CAUSES), None);
-    assert_eq!(rt; find_unsaid(alloc, LOAD_OPTIONS), None);
+    assert!(rt;
+        find_unsaid(alloc, NODES) == None
+            && find_unsaid(alloc, CONVERSIONS) == None
+            && find_unsaid(alloc, PATHS) == None
+            && find_unsaid(alloc, FILE_PATHS) == None
+            && find_unsaid(alloc, FILE_PATH_CAUSES) == None
+            && find_unsaid(alloc, FILE_PATH_WRITES) == None
+            && find_unsaid(alloc, LOAD_OPTION_CAUSES) == None
+            && find_unsaid(alloc, LOAD_OPTIONS) == None
+    );
 }
 
 #[test]
 fn printed_of_writers_and_readers(rt: HostRuntime) {
     let alloc = rt.alloc();
-    assert_eq!(rt; find_unsaid(alloc, BUILDS), None);
-    assert_eq!(rt; find_unsaid(alloc, GROWS), None);
-    assert_eq!(rt; find_unsaid(alloc, PUSHED_TEXTS), None);
-    assert_eq!(rt; find_unsaid(alloc, OPTION_BUILDS), None);
-    assert_eq!(rt; find_unsaid(alloc, TEXTS), None);
-    assert_eq!(rt; find_unsaid(alloc, EXPECTED), None);
+    assert!(rt;
+        find_unsaid(alloc, BUILDS) == None
+            && find_unsaid(alloc, GROWS) == None
+            && find_unsaid(alloc, PUSHED_TEXTS) == None
+            && find_unsaid(alloc, OPTION_BUILDS) == None
+            && find_unsaid(alloc, TEXTS) == None
+            && find_unsaid(alloc, EXPECTED) == None
+    );
 }

@@ -102,9 +102,11 @@ fn are_printed(
 
 #[test]
 fn paths(rt: HostRuntime) -> Result<(), Fail> {
-    assert!(rt; are_printed(&rt, PATHS, false, false)?);
-    assert!(rt; are_printed(&rt, DISPLAY_ONLY, true, false)?);
-    assert!(rt; are_printed(&rt, SHORTCUTS, false, true)?);
+    assert!(rt;
+        are_printed(&rt, PATHS, false, false)?
+            && are_printed(&rt, DISPLAY_ONLY, true, false)?
+            && are_printed(&rt, SHORTCUTS, false, true)?
+    );
     Ok(())
 }
 

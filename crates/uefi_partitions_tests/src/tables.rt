@@ -173,9 +173,11 @@ fn mbr_disks(rt: HostRuntime) -> Result<(), Fail> {
             assert!(rt; has_record(&mbr, *disk, number, listed), "{name} {number}");
         }
         let short = Mbr::from_block(first.get(..511).unwrap_or(&[])).err();
-        assert_eq!(rt; short, Some(MbrError::ShortBlock));
-        assert!(rt; needs_byte(rt.alloc(), &first, 510)?);
-        assert!(rt; needs_byte(rt.alloc(), &first, 511)?);
+        assert!(rt;
+            short == Some(MbrError::ShortBlock)
+                && needs_byte(rt.alloc(), &first, 510)?
+                && needs_byte(rt.alloc(), &first, 511)?
+        );
     }
     Ok(())
 }

@@ -78,7 +78,9 @@ fn printed_refusals(rt: HostRuntime) -> Result<(), Fail> {
     assert!(rt; prints(rt.alloc(), &illegal, want));
     let climbs = NormalizeError::Invalid(PathError::ClimbsAboveRoot);
     let want = "path climbs above the root|Invalid(ClimbsAboveRoot)";
-    assert!(rt; prints(rt.alloc(), &climbs, want));
-    assert!(rt; says(rt.alloc(), &NormalizeError::OutOfMemory, "out of memory"));
+    assert!(rt;
+        prints(rt.alloc(), &climbs, want)
+            && says(rt.alloc(), &NormalizeError::OutOfMemory, "out of memory")
+    );
     Ok(())
 }

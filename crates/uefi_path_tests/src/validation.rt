@@ -151,22 +151,24 @@ fn denied_characters(rt: HostRuntime) {
     for (character, want) in CHARACTER_DENY_LIST.iter().zip(numbers) {
         assert!(rt; u16::from(*character) == *want, "{want}");
     }
-    assert!(rt; CHARACTER_DENY_LIST.len() == numbers.len());
-    assert!(rt; separator_str().to_u16_slice() == [92u16].as_slice());
+    assert!(rt;
+        CHARACTER_DENY_LIST.len() == numbers.len()
+            && separator_str().to_u16_slice() == [92u16].as_slice()
+    );
 }
 
 #[test]
 fn printed_errors(rt: HostRuntime) -> Result<(), Fail> {
     let (illegal, last) = (Char16::try_from('>')?, Char16::try_from(0xffffu16)?);
     let empty = PathError::EmptyComponent;
-    assert!(rt; says(rt.alloc(), &PathError::Empty, "path is empty"));
-    assert!(rt; says(rt.alloc(), &empty, "path contains an empty component"));
     assert!(rt;
-        says(
-            rt.alloc(),
-            &PathError::ClimbsAboveRoot,
-            "path climbs above the root"
-        )
+        says(rt.alloc(), &PathError::Empty, "path is empty")
+            && says(rt.alloc(), &empty, "path contains an empty component")
+            && says(
+                rt.alloc(),
+                &PathError::ClimbsAboveRoot,
+                "path climbs above the root"
+            )
     );
     for (character, number) in [(illegal, 62), (last, 65535)] {
         let want = format!(in rt.alloc(); "path contains an illegal character (value {number})")?;

@@ -58,10 +58,12 @@ fn fits_in<const LEN: usize>(string: CStr16<'_>, before: &str, after: &str, all:
 fn texts_as_sinks(rt: HostRuntime) -> Result<(), Fail> {
     let (owned, empty) = (string(rt.alloc(), "aébc")?, string(rt.alloc(), "")?);
     let string = owned.as_cstr16();
-    assert!(rt; fits_in::<4>(string, "", "aéb", false));
-    assert!(rt; fits_in::<5>(string, "", "aébc", true));
-    assert!(rt; fits_in::<4>(string, "x", "xaé", false));
-    assert!(rt; fits_in::<0>(empty.as_cstr16(), "", "", true));
+    assert!(rt;
+        fits_in::<4>(string, "", "aéb", false)
+            && fits_in::<5>(string, "", "aébc", true)
+            && fits_in::<4>(string, "x", "xaé", false)
+            && fits_in::<0>(empty.as_cstr16(), "", "", true)
+    );
     let mut text = String::new(rt.alloc());
     text.push('x')?;
     let is_whole = string.as_str_in_buf(&mut text).is_ok();
@@ -73,9 +75,11 @@ fn texts_as_sinks(rt: HostRuntime) -> Result<(), Fail> {
 #[test]
 fn sinks_that_refuse_at_each_character(rt: HostRuntime) -> Result<(), Fail> {
     let string = CStr16::from_u16_with_nul(&[97, 98, 99, 0])?;
-    assert!(rt; takes_letters::<0>(string, ""));
-    assert!(rt; takes_letters::<1>(string, "a"));
-    assert!(rt; takes_letters::<2>(string, "ab"));
-    assert!(rt; takes_letters::<3>(string, "abc"));
+    assert!(rt;
+        takes_letters::<0>(string, "")
+            && takes_letters::<1>(string, "a")
+            && takes_letters::<2>(string, "ab")
+            && takes_letters::<3>(string, "abc")
+    );
     Ok(())
 }

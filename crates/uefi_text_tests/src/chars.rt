@@ -79,10 +79,12 @@ fn code_units_as_characters(rt: HostRuntime) {
 
 #[test]
 fn printed_characters(rt: HostRuntime) -> Result<(), Fail> {
-    assert!(rt; prints(rt.alloc(), &Char8::from(65), "A|'A'"));
-    assert!(rt; prints(rt.alloc(), &Char8::from(0xe9), "é|'é'"));
-    assert!(rt; prints(rt.alloc(), &NUL_8, "\0|'\\0'"));
-    assert!(rt; prints(rt.alloc(), &Char16::try_from('ꋃ')?, "ꋃ|'ꋃ'"));
-    assert!(rt; prints(rt.alloc(), &Char16::try_from('\n')?, "\n|'\\n'"));
+    assert!(rt;
+        prints(rt.alloc(), &Char8::from(65), "A|'A'")
+            && prints(rt.alloc(), &Char8::from(0xe9), "é|'é'")
+            && prints(rt.alloc(), &NUL_8, "\0|'\\0'")
+            && prints(rt.alloc(), &Char16::try_from('ꋃ')?, "ꋃ|'ꋃ'")
+            && prints(rt.alloc(), &Char16::try_from('\n')?, "\n|'\\n'")
+    );
     Ok(())
 }

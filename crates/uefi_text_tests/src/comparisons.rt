@@ -58,9 +58,11 @@ fn keys_of_sets(rt: HostRuntime) -> Result<(), Fail> {
         string(rt.alloc(), "a")?,
     ];
     let same = owned[2].as_cstr16();
-    assert!(rt; are_keys(rt.alloc(), [a, b, same])?);
-    assert!(rt; are_keys(rt.alloc(), [a.as_slice(), b.as_slice(), same.as_slice()])?);
-    assert!(rt; are_keys(rt.alloc(), owned)?);
+    assert!(rt;
+        are_keys(rt.alloc(), [a, b, same])?
+            && are_keys(rt.alloc(), [a.as_slice(), b.as_slice(), same.as_slice()])?
+            && are_keys(rt.alloc(), owned)?
+    );
     let bytes = CStr8::from_bytes_with_nul(b"a\0")?;
     let keys = [bytes, CStr8::from_bytes_with_nul(&[0])?, bytes];
     assert!(rt; are_keys(rt.alloc(), keys)?);

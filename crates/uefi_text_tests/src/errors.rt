@@ -80,14 +80,14 @@ fn printed_for_users(rt: HostRuntime) {
         FromStrError::InteriorNul,
         FromStrError::OutOfMemory,
     ];
-    assert!(rt; say(alloc, &texts, FROM_STR));
-    assert!(rt; say(alloc, &[CharConversionError], "CharConversionError;"));
     assert!(rt;
-        say(
-            alloc,
-            &[BufferTooSmall(7)],
-            "buffer too small: 7 units are needed;"
-        )
+        say(alloc, &texts, FROM_STR)
+            && say(alloc, &[CharConversionError], "CharConversionError;")
+            && say(
+                alloc,
+                &[BufferTooSmall(7)],
+                "buffer too small: 7 units are needed;"
+            )
     );
 }
 

@@ -34,12 +34,14 @@ fn hold<T: Packed + PartialEq>(bytes: &[u8], numbers: &[T]) -> bool {
 
 #[test]
 fn items_at_any_place(rt: HostRuntime) {
-    assert!(rt; hold(&BYTES, &NUMBERS));
-    assert!(rt; hold(&BYTES_AFTER_ONE[1..], &NUMBERS));
-    assert!(rt; hold(&BYTES_AFTER_ONE[1..], &NUMBERS[..0]));
-    assert!(rt; hold(&[0xff, 0], &[255u8, 0]));
-    assert!(rt; hold(&[0x10, 0x11, 0x12], &[0x1110u16]));
-    assert!(rt; hold(&[1, 2, 3, 4, 5, 6, 7, 8], &[0x0807060504030201u64]));
+    assert!(rt;
+        hold(&BYTES, &NUMBERS)
+            && hold(&BYTES_AFTER_ONE[1..], &NUMBERS)
+            && hold(&BYTES_AFTER_ONE[1..], &NUMBERS[..0])
+            && hold(&[0xff, 0], &[255u8, 0])
+            && hold(&[0x10, 0x11, 0x12], &[0x1110u16])
+            && hold(&[1, 2, 3, 4, 5, 6, 7, 8], &[0x0807060504030201u64])
+    );
 }
 
 /// Bytes, a number of items, and whether they have room for that many items of two bytes, and of eight.
@@ -92,8 +94,11 @@ fn are_copied(rt: &HostRuntime, items: UnalignedSlice<'_, u32>, want: &[u32; 3])
 #[test]
 fn items_in_turn_and_copied(rt: HostRuntime) {
     let items: UnalignedSlice<u32> = UnalignedSlice::new(&BYTES_AFTER_ONE[1..], 3);
-    assert!(rt; gives(items.iter(), &NUMBERS) && items.into_iter().eq(NUMBERS));
-    assert!(rt; are_copied(&rt, items, &NUMBERS));
+    assert!(rt;
+        gives(items.iter(), &NUMBERS)
+            && items.into_iter().eq(NUMBERS)
+            && are_copied(&rt, items, &NUMBERS)
+    );
 }
 
 #[test]

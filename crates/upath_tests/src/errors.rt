@@ -8,15 +8,15 @@ use upath::{JudgeError, PathCommand, RunFault, StreamFault};
 
 #[test]
 fn printed_errors(rt: HostRuntime) {
-    assert!(rt; says(rt.alloc(), &JudgeError::OutOfMemory, "out of memory"));
-    assert!(rt; prints(rt.alloc(), &StreamFault::Read, "a read failed|Read"));
-    assert!(rt; prints(rt.alloc(), &StreamFault::Write, "a write failed|Write"));
     assert!(rt;
-        prints(
-            rt.alloc(),
-            &StreamFault::OutOfMemory,
-            "out of memory|OutOfMemory"
-        )
+        says(rt.alloc(), &JudgeError::OutOfMemory, "out of memory")
+            && prints(rt.alloc(), &StreamFault::Read, "a read failed|Read")
+            && prints(rt.alloc(), &StreamFault::Write, "a write failed|Write")
+            && prints(
+                rt.alloc(),
+                &StreamFault::OutOfMemory,
+                "out of memory|OutOfMemory"
+            )
     );
     let want = "out of memory after 12 commands|RunFault { done: 12 }";
     assert!(rt; prints(rt.alloc(), &RunFault { done: 12 }, want));

@@ -12,8 +12,10 @@ use upath::{PathCommand, all_parents, pieces, run_commands};
 fn long_lists(rt: HostRuntime) -> Result<(), Fail> {
     let text = repeated(rt.alloc(), r"\a", 50_000)?;
     let long = string(rt.alloc(), &text)?;
-    assert!(rt; accepts(&rt, &long.as_cstr16().as_bytes(rt.alloc())?, &text));
-    assert!(rt; pieces(rt.alloc(), Path::new(long.as_cstr16()))?.len() == 50_000);
+    assert!(rt;
+        accepts(&rt, &long.as_cstr16().as_bytes(rt.alloc())?, &text)
+            && pieces(rt.alloc(), Path::new(long.as_cstr16()))?.len() == 50_000
+    );
     let mut text = repeated(rt.alloc(), "ab", 50_000)?;
     text.push_str(r"\c\d")?;
     let path = PathBuf::from(rt.alloc(), string(rt.alloc(), &text)?.as_cstr16())?;
@@ -94,7 +96,8 @@ fn each_verb_on_many_names(rt: HostRuntime) -> Result<(), Fail> {
     let plain = names.strip_prefix(r"\").unwrap_or("");
     let input = format!(in rt.alloc(); "from {names}\npieces\ncheck\nnorm\neq {plain}\n")?;
     let want = format!(in rt.alloc(); "= {names}\npieces 50000\n{lines}ok\n= {plain}\nequal\n")?;
-    assert!(rt; prints(&rt, input.as_bytes(), &want));
-    assert!(rt; writes(&rt, input.as_bytes(), want.as_bytes()));
+    assert!(rt;
+        prints(&rt, input.as_bytes(), &want) && writes(&rt, input.as_bytes(), want.as_bytes())
+    );
     Ok(())
 }
