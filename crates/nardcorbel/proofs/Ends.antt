@@ -269,7 +269,7 @@ parsed_ok style text buffer n new four room left =
         fits nodes (nat_lt (length buffer) (length content)) refl
         (subst (λ (k : ℕ). Leaves (bytes_unless (refused k) content) (ended buffer) (Ok n) new) size left)
 
--- an error leaves a buffer as it was, which is no longer than the one in which the text was read
+-- an error leaves a buffer unchanged, which is no longer than the one in which the text was read
 pub parsed_err : (style : TextStyle) (text old buffer : List ℕ) (error : PushTextError) (new : List ℕ) → length old < 2 ^ 63 → BeginWithPath old []
     → length buffer ≤ length old → Leaves (text_pushed style text old) old (Err error) new
     → (new ≡ old) × Leaves (text_parsed style text buffer) buffer (Err error) buffer
