@@ -9,6 +9,7 @@ ghost use Rattle.uefi_text.specs.Units.{nul_terminated};
 ghost use Rattle.uefi_text.specs.Views.{text_of};
 
 use std::fmt;
+use uefi_text::text_sink::{Printed, TextSink, print};
 use uefi_text::{BufferTooSmall, CStr16};
 
 /// The way in which firmware uses a load option.
@@ -286,14 +287,26 @@ impl LoadOptionName {
     }
 }
 
-/// Writes the name.
+/// Puts the name.
+impl Printed for LoadOptionName {
+    ghost printed = { name_text };
+
+    #[tactic(auto, using(uefi_text::proofs::Puts::puts))]
+    fn put<S: TextSink>(&self, sink: &mut S) {
+        let [a, b, c, d] = digits(self.number);
+        sink.put_str(self.kind.word());
+        sink.put_char(char::from(a));
+        sink.put_char(char::from(b));
+        sink.put_char(char::from(c));
+        sink.put_char(char::from(d));
+    }
+}
+
+/// Prints the name.
 impl fmt::Display for LoadOptionName {
     ghost output = { λ name. Some (name_text name) };
 
     fn fmt<W: fmt::Write>(&self, f: &mut fmt::Formatter<W>) -> fmt::Result {
-        let word = self.kind.word();
-        let [a, b, c, d] = digits(self.number);
-        let (a, b, c, d) = (char::from(a), char::from(b), char::from(c), char::from(d));
-        write!(f, "{word}{a}{b}{c}{d}")
+        print(f, self)
     }
 }

@@ -9,7 +9,7 @@ use Rattle.std.specs.Prelude.{All, encode_utf8, nat_lt}
 use Rattle.std.specs.Str.{chars, encode_utf8_all, IsUtf8}
 use Rattle.uefi_field_texts.specs.ShownTexts.{IsShown, IsShownChar}
 use Rattle.uefi_field_texts.proofs.ShownTexts.{printable_char}
-use Rattle.uefi_device_path.specs.LibefivarTexts.{all_lowered, commas_after, commas_left, lowered, lowered_text}
+use Rattle.uefi_device_path.specs.LibefivarTexts.{all_lowered, cased, commas_after, commas_left, commas_to_come, lowered, lowered_text}
 
 -- the commas that are still to come after two parts
 pub commas_left-append : (n : ℕ) (a b : List ℕ) → commas_left (commas_left n a) b ≡ commas_left n (a ++ b)
@@ -39,6 +39,25 @@ pub commas_left-texts : (n : ℕ) (a b : List ℕ) → IsUtf8 a
     → commas_left (commas_left n (chars a)) (chars b) ≡ commas_left n (chars (a ++ b))
 commas_left-texts n a b utf8 =
     commas_left-append n (chars a) (chars b) ∙ ap (commas_left n) (sym (chars-append a b utf8))
+
+-- the same of texts that are lowered or unchanged
+pub cased-nil : (lowers : Bool) (n : ℕ) → cased lowers n [] ≡ []
+cased-nil true n = lowered_text-nil n
+cased-nil false n = refl
+
+pub come-nil : (lowers : Bool) (n : ℕ) → commas_to_come lowers n [] ≡ n
+come-nil true n = ap (commas_left n) chars-nil
+come-nil false n = refl
+
+pub cased-append : (lowers : Bool) (n : ℕ) (a b : List ℕ) → IsUtf8 a
+    → cased lowers n a ++ cased lowers (commas_to_come lowers n a) b ≡ cased lowers n (a ++ b)
+cased-append true n a b utf8 = lowered_text-append n a b utf8
+cased-append false n a b utf8 = refl
+
+pub come-append : (lowers : Bool) (n : ℕ) (a b : List ℕ) → IsUtf8 a
+    → commas_to_come lowers (commas_to_come lowers n a) b ≡ commas_to_come lowers n (a ++ b)
+come-append true n a b utf8 = commas_left-texts n a b utf8
+come-append false n a b utf8 = refl
 
 -- the characters of a text of one
 one_char : (c : ℕ) → IsScalar c → chars (encode_utf8 c) ≡ c ∷ []

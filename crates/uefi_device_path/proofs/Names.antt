@@ -5,8 +5,11 @@ use Rattle.std.proofs.lemmas.List.{append-nil}
 use Rattle.std.proofs.lemmas.List.Elements.{All-append, All-cons, All-head, All-nil, All-tail}
 use Rattle.uefi_device_nodes.specs.Nodes.{Node, node_bytes}
 use Rattle.uefi_device_path.specs.Paths.{AreNodes, nodes_bytes, nodes_in}
+use Rattle.uefi_device_path.specs.FilePathBuffers.{WriteRefusedFor}
 use Rattle.uefi_device_path.specs.FilePaths.{FileRefusedFor, IsReadable, file_path, with_node}
 use Rattle.uefi_device_path.specs.declared.errors.FilePathError.{FilePathError}
+use Rattle.uefi_device_path.specs.declared.errors.FilePathWriteError.{FilePathWriteError}
+use Rattle.uefi_device_path.specs.declared.errors.FilePathWriteError.TheVariants.{BufferTooSmall, Name}
 use Rattle.uefi_device_path.proofs.Splits.{after_first, nodes_in-nil}
 
 -- these nodes of the bytes were passed, and their names are the path
@@ -47,7 +50,7 @@ pub named_all : (bytes : List ℕ) (ns : List Node) (rest path : List ℕ) → N
 named_all bytes ns rest path named none =
     named.shown ∙ ap (λ ms. ns ++ ms) (nodes_in-nil rest none) ∙ append-nil ns
 
-readable_at : (before : List Node) (node : Node) (after : List Node) → All IsReadable (before ++ node ∷ after) → IsReadable node
+pub readable_at : (before : List Node) (node : Node) (after : List Node) → All IsReadable (before ++ node ∷ after) → IsReadable node
 readable_at [] node after all = All-head IsReadable node after all
 readable_at (n ∷ before) node after all = readable_at before node after (All-tail IsReadable n (before ++ node ∷ after) all)
 
@@ -57,3 +60,9 @@ named_unrefused nodes error all refused =
     let why = refused.3 in
     let none = readable_at refused.0 refused.1 refused.2 (subst (All IsReadable) why.split all) why.file in
     absurd (cc (none, why.cause))
+
+-- and neither is their file path if it has room
+pub never_refused : (nodes : List Node) (room : ℕ) (error : FilePathWriteError) → All IsReadable nodes → room ≡ length (file_path nodes) + 1
+    → WriteRefusedFor nodes room error → ⊥
+never_refused nodes room (Name error) all is refused = named_unrefused nodes error all refused
+never_refused nodes room (BufferTooSmall needed) all is (readable, enough, less) = absurd (omega (arith, enough, less, is))

@@ -1,17 +1,21 @@
--- A file path that is written into a caller's buffer, unit by unit.
-use Rattle.std.specs.Prelude.{◌≡◌, ℕ, ◌+◌, ◌<◌, List, All, length}
-use Rattle.uefi_text.specs.UnitTexts.{AreSunk}
+-- A file path that is put into a sink, name by name.
+use Rattle.std.specs.Prelude.{◌≡◌, ℕ, ◌+◌, ◌<◌, ◌==◌, List, ◌++◌, All, length}
 use Rattle.uefi_path.specs.Pushing.{needs_separator}
 use Rattle.uefi_device_nodes.specs.Nodes.{Node}
 use Rattle.uefi_device_path.specs.FilePaths.{FileRefusedFor, IsReadable, file_path}
 use Rattle.uefi_device_path.specs.declared.errors.FilePathWriteError.{FilePathWriteError}
 use Rattle.uefi_device_path.specs.declared.errors.FilePathWriteError.TheVariants.{BufferTooSmall, Name}
-use Rattle.uefi_device_path.specs.declared.file_path.Written.{Written}
+use Rattle.uefi_device_path.specs.declared.file_path.PathEnd.{PathEnd}
 
--- a path was added to what a buffer was given, which was `old` before
-pub record IsWritten (path : List ℕ) (written : Written) (old buffer : List ℕ) : Type 0 where
-  pub sunk : AreSunk path old buffer written.len
-  pub missing : written.is_missing ≡ needs_separator path
+-- a path ends like this
+pub record EndsAs (path : List ℕ) (end : PathEnd) : Type 0 where
+  pub empty : end.is_empty ≡ (length path == 0)
+  pub missing : end.is_open ≡ needs_separator path
+
+-- with this text added, a path becomes `next`, and ends like this
+pub record IsAdded (path added next : List ℕ) (end : PathEnd) : Type 0 where
+  pub whole : next ≡ path ++ added
+  pub ends : EndsAs next end
 
 -- no file path of these nodes is written into `room` places, for this error: a malformed name comes
 -- first

@@ -29,6 +29,13 @@ commas_left commas (c ∷ cs) = commas_left (commas_after commas c) cs
 unfoldable pub lowered_text : ℕ → List ℕ → List ℕ
 lowered_text commas text = encode_utf8_all (all_lowered commas (chars text))
 
+-- a text that is lowered in this way, or is unchanged, and the commas that are still to come after it
+abbrev pub cased : Bool → ℕ → List ℕ → List ℕ
+cased lowers commas text = if lowers then lowered_text commas text else text
+
+abbrev pub commas_to_come : Bool → ℕ → List ℕ → ℕ
+commas_to_come lowers commas text = if lowers then commas_left commas (chars text) else commas
+
 -- the test for a node of a partition
 abbrev pub is_partition : Node → Bool
 is_partition node = is_kind MEDIA_TYPE HARD_DRIVE HARD_DRIVE_LEAST node

@@ -4,8 +4,9 @@
 ghost use Rattle.std.specs.Prelude.{◌≡◌, ℕ, ◌+◌, ◌<◌, ◌≤◌, ◌^◌, ◌↔◌, ◌++◌, List, All, length, drop, IfOk, IfErr, IsErr, IsOk, OnErr, OnOk, nat_eq, Some, false};
 ghost use Rattle.uefi_device_path.specs.FilePathBuffers.{WriteRefusedFor};
 ghost use Rattle.uefi_text.specs.Units.{IsText, nul_terminated};
+ghost use Rattle.std.specs.Str.{encode_utf8_all};
 ghost use Rattle.uefi_text.specs.Views.{text_of};
-ghost use Rattle.uefi_device_path.specs.FilePaths.{FilePathRefusedFor, IsReadable, file_path};
+ghost use Rattle.uefi_device_path.specs.FilePaths.{FilePathRefusedFor, FileRefusedFor, IsReadable, file_path};
 ghost use Rattle.uefi_device_nodes.specs.Nodes.{IsInner, Node, end_entire, node_bytes};
 ghost use Rattle.uefi_device_path.specs.Paths.{BeginWith, BeginWithPath, IsPath, nodes_in, path_bytes, without_end};
 ghost use Rattle.uefi_device_nodes.specs.NodeFaults.{fault_place};
@@ -21,7 +22,7 @@ ghost use Rattle.std.specs.Cmp.{on_per, partial_equiv_from_equiv};
 ghost use Rattle.std.specs.Cmp.Lexicographic.{nat_list_eq_equiv, pointwise, on_texts_equal};
 
 use crate::errors::{DevicePathError, FilePathCause, FilePathError, FilePathWriteError};
-use crate::file_path::{file_path_in, write_file_path_in};
+use crate::file_path::{FilePathText, file_path_in, write_file_path_in};
 use crate::instance::DevicePathInstanceIterator;
 use crate::laws::text_lengths;
 use crate::node_iterator::DevicePathNodeIterator;
@@ -45,7 +46,7 @@ pub struct DevicePath<'a> {
 }
 
 impl<'a> DevicePath<'a> {
-    ghost use Rattle.uefi_device_path.specs.Views.{instance_nodes, instances_left, nodes_left, nodes_of, printed_by_libefivar, printed_path};
+    ghost use Rattle.uefi_device_path.specs.Views.{instance_nodes, instances_left, nodes_left, nodes_of, printed_by_libefivar, printed_file_path, printed_path};
 
     /// Returns the device path that bytes consist of.
     pub(crate) fn of_path(bytes: &'a [u8]) -> Self
@@ -212,6 +213,23 @@ impl<'a> DevicePath<'a> {
         ensures refusal { IfErr result (λ error. FilePathRefusedFor (nodes_of self.now) error) }
     {
         file_path_in(alloc, &self.bytes[..self.bytes.len() - 4])
+    }
+
+    /// Returns a value that prints the file path, which [`DevicePath::file_path`] makes, for a `{}` of a
+    /// format. Fails if that call refuses a name, for the same node. Does not allocate.
+    ///
+    /// ```rust
+    /// let path = DevicePathBuf::from_text(rt.alloc(), r"SD(0x1)/\efi\boot/\a.efi")?;
+    /// let file = path.as_device_path().display_file_path()?;
+    /// assert_eq!(rt; format!(in rt.alloc(); "{file}")?.as_str(), r"\efi\boot\a.efi");
+    /// ```
+    pub fn display_file_path(&self) -> Result<FilePathText<'a>, FilePathError>
+        ensures ok { IfOk result (λ text. printed_file_path text
+            ≡ encode_utf8_all (file_path (nodes_of self.now))) }
+        ensures accepted { OnOk result (All IsReadable (nodes_of self.now)) }
+        ensures refusal { IfErr result (λ error. FileRefusedFor (nodes_of self.now) error) }
+    {
+        FilePathText::of(&self.bytes[..self.bytes.len() - 4])
     }
 
     /// Writes the file path, which [`DevicePath::file_path`] makes, to the start of a buffer, with

@@ -28,6 +28,7 @@
 
 mod around_nodes;
 pub mod build;
+mod cased_texts;
 mod checked_nodes;
 mod device_path;
 mod device_path_buf;
@@ -65,6 +66,7 @@ pub use errors::{
     LoadOptionCause, LoadOptionError, NodeConversionError, NodeError, OptionBuildError,
 };
 pub use extent::{PathCut, PathExtent};
+pub use file_path::FilePathText;
 pub use instance::{DevicePathInstance, DevicePathInstanceIterator};
 pub use load_option::LoadOption;
 pub use load_option_builder::LoadOptionBuilder;
@@ -77,6 +79,9 @@ pub use path_list::{DevicePaths, check_paths};
 pub use path_text::{LibefivarText, PathText, TEXT_UNITS_PER_BYTE};
 pub use text_errors::{Choice, Expected, PathTextError, PushTextError, TextFault};
 pub use text_in_buf::{push_lenient_text_in_buf, push_libefivar_text_in_buf, push_text_in_buf};
+// The C library uses this, so that it has the code that prints nodes once.
+#[doc(hidden)]
+pub use cased_texts::AsInPath;
 // The C library uses this; callers in Rattle have a call for each style.
 #[doc(hidden)]
 pub use text_in_buf::{push_any_text_in_buf, push_styled_text_in_buf};

@@ -11,6 +11,7 @@ ghost use Rattle.uefi_device_path.specs.LibefivarTexts.{libefivar_node_text};
 ghost use Rattle.uefi_device_path.specs.PathTexts.{instance_text_by, libefivar_text, nodes_text, path_text_by, text_room};
 ghost use Rattle.uefi_text.specs.Packed.{IsByte};
 
+use crate::cased_texts::put_unchanged;
 use crate::instance::cut_instance;
 use crate::libefivar_nodes;
 use std::fmt;
@@ -68,8 +69,8 @@ impl NodeForm for Specified {
     ghost node_text = { λ form. node_text form.display_only.0 form.allow_shortcuts.0 };
 
     fn put_node<S: TextSink>(self, sink: &mut S, node: DevicePathNode<'_>) {
-        node.display(self.display_only, self.allow_shortcuts)
-            .put(sink);
+        let text = node.display(self.display_only, self.allow_shortcuts);
+        put_unchanged(sink, &text);
     }
 }
 

@@ -1,89 +1,52 @@
--- One more node has a name, or is the first that has none.
-use Rattle.std.proofs.Common.{◌≡◌, ◌≢◌, ◌∙◌, ap, sym, subst, ◌+◌, ◌∷◌, [], ◌++◌, All, length, arith, length-append}
+-- What one more node adds is put.
+use Rattle.std.proofs.Common.{◌≢◌, ◌∙◌, ap, sym, subst, ◌∷◌, [], ◌++◌, All, length, arith}
 use Rattle.std.proofs.lemmas.Grind.{common_steps}
-use Rattle.uefi_text.proofs.SunkUnits.{sunk_whole}
-use Rattle.uefi_text.specs.Units.{IsText}
+use Rattle.std.proofs.lemmas.Str.{encodes-append}
+use Rattle.std.specs.Str.{encode_utf8_all}
+use Rattle.uefi_text.proofs.Puts.{puts_as, puts_two}
 use Rattle.uefi_device_nodes.specs.NodeViews.{node_of}
-use Rattle.uefi_device_path.specs.FilePathBuffers.{IsWritten}
+use Rattle.uefi_device_path.specs.FilePathBuffers.{EndsAs}
 use Rattle.uefi_device_path.specs.FilePaths.{IsReadable, file_path}
-use Rattle.uefi_device_path.proofs.Names.{file_path_more, named_all, named_more}
+use Rattle.uefi_device_path.proofs.Names.{file_path_more, named_all, named_more, readable_at}
 use Rattle.uefi_device_path.proofs.Splits.{after_first, no_fault-AreNodes}
 use Rattle.uefi_device_path.proofs.file_path.put_file_path.Goals as goal
 
 pub take_first-requires : goal.take_first-requires
-take_first-requires c =
+take_first-requires g c =
     let rest = c.loop-rest.rest.now in
     let some : length rest ≢ 0 = λ e. grind (arith, common_steps) in
     no_fault-AreNodes rest c.loop-rest.invariant.left some
 
-pub returns-in-Err-clause-refusal : goal.returns-in-Err-clause-refusal
-returns-in-Err-clause-refusal c =
-    let rest = c.loop-rest.rest.now in
-    let node = node_of c.take_first.result.0 in
+pub put_node-end-requires : goal.put_node-end-requires
+put_node-end-requires g c =
     let so_far = c.loop-rest.invariant in
-    let named = so_far.named in
-    let first = after_first rest c.take_first.result.1.now node so_far.left c.take_first.ensures.split in
-    let long = named.long in (
-      so_far.nodes,
-      node,
-      _,
-      record {
-        split = named.shown ∙ ap (λ ms. so_far.nodes ++ ms) first.1;
-        readable = named.readable;
-        file = c.in-Err.ensures.file;
-        cause = c.in-Err.ensures.refusal;
-        offset = omega (arith, long);
-      },
-    )
+    let node = node_of c.take_first.result.0 in
+    let first = after_first c.loop-rest.rest.now c.take_first.result.1.now node so_far.left c.take_first.ensures.split in
+    readable_at so_far.nodes node _ (subst (All IsReadable) (so_far.named.shown ∙ ap (λ ms. so_far.nodes ++ ms) first.1) c.requires.readable)
 
 pub loop-rest-preserved : goal.loop-rest-preserved
-loop-rest-preserved c =
-    let bytes = c.args.bytes.now in
+loop-rest-preserved g c =
     let rest = c.loop-rest.rest.now in
     let node = node_of c.take_first.result.0 in
-    let after = c.take_first.result.1.now in
     let so_far = c.loop-rest.invariant in
     let nodes = so_far.nodes in
-    let first = after_first rest after node so_far.left c.take_first.ensures.split in
-    let made = file_path_more nodes node in
-    let more = named_more bytes nodes node rest after (file_path nodes) (file_path (nodes ++ node ∷ [])) so_far.named so_far.left
-    c.take_first.ensures.split c.in-Ok.ensures.readable made in
-    let cut : length rest ≡ length node.content + 4 + length after =
-    ap length c.take_first.ensures.split ∙ omega (arith, length-append node.content after) in
-    let short = so_far.short in
-    let wrote = subst (λ us. IsWritten us c.in-Ok.more c.args.buffer.now c.put_node.new.buffer) (sym made)
-    (c.in-Ok.ensures.written (file_path nodes) c.args.buffer.now so_far.written) in
+    let first = after_first rest c.take_first.result.1.now node so_far.left c.take_first.ensures.split in
+    let readable : IsReadable node =
+    readable_at nodes node _ (subst (All IsReadable) (so_far.named.shown ∙ ap (λ ms. nodes ++ ms) first.1) c.requires.readable) in
+    let more = file_path_more nodes node in
+    let added = c.put_node-end.ensures (file_path nodes) so_far.ends in
     record {
-      short = omega (arith, short, cut, c.in-Ok.ensures.len);
       left = first.0;
       nodes = nodes ++ node ∷ [];
-      named = more;
-      exact = grind (arith, common_steps, wrote.sunk.count, short, cut, c.in-Ok.ensures.len);
-      text = subst IsText (sym made) (c.in-Ok.ensures.text (file_path nodes) so_far.text);
-      written = wrote;
+      named = named_more c.args.bytes.now nodes node rest c.take_first.result.1.now (file_path nodes) (file_path (nodes ++ node ∷ []))
+          so_far.named so_far.left c.take_first.ensures.split readable more;
+      ends = subst (λ path. EndsAs path c.put_node-end.result) (sym more) added.1.ends;
+      put = puts_two _ _ _ _ _ _ _ so_far.put added.2
+          (sym (encodes-append (file_path nodes) added.0) ∙ ap encode_utf8_all (sym added.1.whole ∙ sym more));
     }
 
-pub returns-clause-len : goal.returns-clause-len
-returns-clause-len c =
+pub returns : goal.returns
+returns g c =
     let so_far = c.loop-rest.invariant in
     let all = named_all c.args.bytes.now so_far.nodes c.loop-rest.rest.now (file_path so_far.nodes) so_far.named (grind (arith, common_steps)) in
-    so_far.exact ∙ ap (λ ns. length (file_path ns)) (sym all)
-
-pub returns-clause-text : goal.returns-clause-text
-returns-clause-text c =
-    let so_far = c.loop-rest.invariant in
-    let all = named_all c.args.bytes.now so_far.nodes c.loop-rest.rest.now (file_path so_far.nodes) so_far.named (grind (arith, common_steps)) in
-    subst (λ ns. IsText (file_path ns)) (sym all) so_far.text
-
-pub returns-clause-readable : goal.returns-clause-readable
-returns-clause-readable c =
-    let so_far = c.loop-rest.invariant in
-    let all = named_all c.args.bytes.now so_far.nodes c.loop-rest.rest.now (file_path so_far.nodes) so_far.named (grind (arith, common_steps)) in
-    let readable = so_far.named.readable in
-    subst (All IsReadable) (sym all) readable
-
-pub returns-clause-buffer : goal.returns-clause-buffer
-returns-clause-buffer c = λ fits.
-    let so_far = c.loop-rest.invariant in
-    let all = named_all c.args.bytes.now so_far.nodes c.loop-rest.rest.now (file_path so_far.nodes) so_far.named (grind (arith, common_steps)) in
-    sunk_whole _ _ _ _ so_far.written.sunk (ap (λ ns. length (file_path ns)) (sym all) ∙ fits) ∙ ap file_path (sym all)
+    puts_as _ _ _ _ _ so_far.put (ap (λ ns. encode_utf8_all (file_path ns)) (sym all))

@@ -1,76 +1,37 @@
--- One more unit of the name is added.
-use Rattle.std.proofs.Common.{rules, ◌≡◌, ◌∙◌, ap, sym, refl, subst, ◌-◌, ◌<◌, ◌≤◌, ◌∷◌, [], ◌++◌, ℕ, zero, suc, List, None, Option, Some, get_or, length, take, drop, arith}
+-- One more unit of the name is put.
+use Rattle.std.proofs.Common.{◌∙◌, ap, sym, ◌<◌, ◌≤◌, [], length, take, drop, arith}
+use Rattle.std.proofs.Output.{writes_in_calls_nil}
 use Rattle.std.proofs.lemmas.Grind.{common_steps}
-use Rattle.std.proofs.lemmas.List.{get_or-take}
-use Rattle.std.specs.Prelude.{IsSome, option_map, slice_get}
-use Rattle.uefi_path.specs.Separators.{with_separators}
-use Rattle.uefi_text.specs.Units.{without_nul}
+use Rattle.std.specs.Str.{encode_utf8_all}
+use Rattle.uefi_path.specs.Separators.{separator, slash, with_separators}
+use Rattle.uefi_text.proofs.PrintedTexts.{encode_utf8_all-push}
+use Rattle.uefi_text.proofs.Puts.{puts_as, puts_two}
+use Rattle.uefi_text.specs.Units.{replaced, without_nul}
 use Rattle.uefi_text.specs.Views.{items_of}
-use Rattle.uefi_device_path.specs.FilePathBuffers.{IsWritten}
 use Rattle.uefi_device_path.proofs.BufferPaths.{units_all, units_more, units_none}
 use Rattle.uefi_device_path.proofs.file_path.put_units.Goals as goal
 
-at_get : (items : List ℕ) (place other : ℕ) → place < length items → slice_get items place ≡ Some (get_or items place other)
-at_get [] place other within = absurd (omega (arith, within))
-at_get (x ∷ xs) zero other within = refl
-at_get (x ∷ xs) (suc i) other within = at_get xs i other (omega (arith, within))
-
-found : {A : Type 0} (number : A → ℕ) (item : Option A) (items : List ℕ) (place : ℕ) → option_map number item ≡ slice_get items place
-    → place < length items → IsSome item
-found number None items place e within = absurd (cc (e, at_get items place 0 within))
-found number (Some x) items place e within = search rules
-
-unit_at : (items : List ℕ) (place unit : ℕ) → slice_get items place ≡ Some unit → place < length items - 1
-    → get_or (take (length items - 1) items) place unit ≡ unit
-unit_at items place unit is within =
-    let found : Some (get_or items place unit) ≡ Some unit = sym (at_get items place unit (omega (arith, within))) ∙ is in
-    let at : get_or items place unit ≡ unit = cc in
-    get_or-take (length items - 1) items place unit within ∙ at
-
 pub loop-place-init : goal.loop-place-init
-loop-place-init c =
+loop-place-init g c =
     let text = without_nul (items_of c.args.name.now) in
-    record {
-      long = omega arith;
-      within = (let some : 1 ≤ length (items_of c.args.name.now) = grind (arith, common_steps) in omega (arith, some));
-      written = λ path old so_far. subst (λ us. IsWritten us c.args.written old c.args.buffer.now) (sym (units_none path text c.args.start)) so_far;
-    }
-
-pub unwrap-unit-requires : goal.unwrap-unit-requires
-unwrap-unit-requires c =
-    found _ c.get.result (items_of c.args.name.now) c.loop-place.place c.get.ensures (omega (arith, c.loop-place-test.true, c.len-place-end.ensures))
+    record { put = puts_as _ _ _ _ _ (writes_in_calls_nil _ _) (sym (ap encode_utf8_all (units_none [] text c.args.start))) }
 
 pub loop-place-preserved : goal.loop-place-preserved
-loop-place-preserved c =
-    let items = items_of c.args.name.now in
+loop-place-preserved g c =
+    let text = without_nul (items_of c.args.name.now) in
+    let start = c.args.start in
     let place = c.loop-place.place in
-    let unit = c.unwrap-unit.result in
-    let long = c.loop-place.invariant.long in
-    let count : length (without_nul items) ≡ length items - 1 = grind (arith, common_steps) in
-    let within : place < length items - 1 = omega (arith, c.loop-place-test.true, c.len-place-end.ensures) in
-    let got : slice_get items place ≡ Some unit = sym c.get.ensures ∙ ap (λ o. option_map (λ (n : ℕ). n) o) c.unwrap-unit.ensures in
-    let is : get_or (without_nul items) place unit ≡ unit = unit_at items place unit got within in
+    let unit = c.unit_at.result in
+    let within : place < length text = grind (arith, common_steps, c.loop-place-test.true, c.len-place-end.ensures) in
+    let so_far = with_separators (drop start (take place text)) in
     record {
-      long = omega (arith, long, c.put_unit-made.ensures.len);
-      within = omega (arith, within);
-      written = λ path old so_far.
-          subst (λ us. IsWritten us c.put_unit-made.result old c.put_unit-made.new.buffer)
-          (ap (λ u. (path ++ with_separators (drop c.args.start (take place (without_nul items)))) ++ u ∷ []) c.with_separator.ensures
-          ∙ units_more path (without_nul items) c.args.start place unit c.loop-place.auto.place (omega (arith, within, count)) is)
-          (c.put_unit-made.ensures.written _ old (c.loop-place.invariant.written path old so_far));
+      put = puts_two _ _ _ _ _ _ _ c.loop-place.invariant.put c.put_unit.ensures
+          (sym (encode_utf8_all-push so_far (replaced slash separator unit))
+          ∙ ap encode_utf8_all (units_more [] text start place unit c.loop-place.auto.place within (sym c.unit_at.ensures.unit)));
     }
 
-pub returns-clause-written : goal.returns-clause-written
-returns-clause-written c = λ path old so_far.
-    let items = items_of c.args.name.now in
-    let count : length (without_nul items) ≡ length items - 1 = grind (arith, common_steps) in
-    subst (λ us. IsWritten us c.loop-place.made old c.loop-place.buffer)
-    (units_all path (without_nul items) c.args.start c.loop-place.place (omega (arith, count, c.loop-place-test.false, c.len-place-end.ensures)))
-    (c.loop-place.invariant.written path old so_far)
-
-pub returns-clause-len : goal.returns-clause-len
-returns-clause-len c =
-    let items = items_of c.args.name.now in
-    let long = c.loop-place.invariant.long in
-    let within = c.loop-place.invariant.within in
-    omega (arith, long, within)
+pub returns : goal.returns
+returns g c =
+    let text = without_nul (items_of c.args.name.now) in
+    let long : length text ≤ c.loop-place.place = grind (arith, common_steps, c.loop-place-test.false, c.len-place-end.ensures) in
+    puts_as _ _ _ _ _ c.loop-place.invariant.put (ap encode_utf8_all (units_all [] text c.args.start c.loop-place.place long))

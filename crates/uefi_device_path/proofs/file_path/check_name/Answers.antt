@@ -6,7 +6,7 @@ use Rattle.uefi_device_nodes.specs.FileNodes.{is_file}
 use Rattle.uefi_device_nodes.specs.NodeViews.{node_of}
 use Rattle.uefi_device_path.specs.FilePaths.{name_in, with_node}
 use Rattle.uefi_device_path.proofs.BufferPaths.{text_after}
-use Rattle.uefi_device_path.proofs.file_path.put_node.Goals as goal
+use Rattle.uefi_device_path.proofs.file_path.check_name.Goals as goal
 
 pub returns-in-Ok-clause-text : goal.returns-in-Ok-clause-text
 returns-in-Ok-clause-text c = λ path is_text.
