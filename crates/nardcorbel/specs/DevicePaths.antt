@@ -36,9 +36,10 @@ abbrev pub GivesFilePath : List Node → Result (List ℕ) FilePathError → Typ
 GivesFilePath nodes (Ok path) = All IsReadable nodes × (path ≡ file_path nodes)
 GivesFilePath nodes (Err error) = FileRefusedFor nodes error
 
--- what becomes of it
-abbrev pub file_outcome : Result (List ℕ) FilePathError → Outcome
-file_outcome file = when_read (result_map_both (λ path. path) nameless_refusal file) Text
+-- what becomes of it, in an encoding
+abbrev pub file_outcome : (List ℕ → List ℕ) → Result (List ℕ) FilePathError → Outcome
+file_outcome encode file =
+    when_read (result_map_both (λ path. path) nameless_refusal file) (λ path. Text (encode path))
 
 -- where the parts of a load option stand in its bytes, one after the other, and how long they are
 pub record HasParts (entry : Entry) (parts : LoadOptionParts) : Type 0 where

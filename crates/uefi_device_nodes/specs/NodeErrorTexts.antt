@@ -16,6 +16,7 @@ node_error_text node.BeyondEnd = codes "device path node extends past the end of
 
 -- the text of an error for a node that is not of a kind
 abbrev pub node_conversion_error_text : NodeConversionError → List ℕ
-node_conversion_error_text conversion.DifferentType = codes "device path node has a different type or sub-type"
+node_conversion_error_text conversion.DifferentType =
+    codes "device path node has a different type or sub-type"
 node_conversion_error_text conversion.InvalidLength = codes "device path node has an invalid length"
 node_conversion_error_text conversion.UnsupportedType = codes "unknown device path node type"

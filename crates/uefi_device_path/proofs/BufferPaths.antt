@@ -1,6 +1,6 @@
 -- A file path that is written unit by unit.
 use Rattle.std.proofs.Common.{◌≡◌, ◌∙◌, ap, sym, refl, subst, inl, inr, ℕ, ◌+◌, ◌-◌, ◌/◌, ◌<◌, ◌≤◌, ◌==◌, Bool, ◌&&◌, false, nat_lt, if◌then◌else◌, List, [], ◌∷◌, ◌++◌, fold, length, get_or, take, drop, append_assoc, arith}
-use Rattle.std.proofs.lemmas.Bool.{cases_Bool, le-ltb, lt-ltb}
+use Rattle.std.proofs.lemmas.Bool.{cases_Bool, lt-ltb}
 use Rattle.std.proofs.lemmas.Grind.{common_steps}
 use Rattle.std.proofs.lemmas.List.{append-nil, length-append, length-take, drop-append-le, drop_all, map-append, take-append-drop, take_all, take_more}
 use Rattle.std.proofs.lemmas.Bool.Decides.{nat_tests}
@@ -89,20 +89,6 @@ name_after_parts (u ∷ us) (v ∷ w ∷ name) = elim (cases_Bool (becomes_separ
     | inr none ↦ rw none refl
   ])
 ]
-
--- a name that adds nothing
-before_none : (path : List ℕ) → before_name path false ≡ path
-before_none path = elim (cases_Bool (needs_separator path)) [
-  | inl missing ↦ rw missing refl
-  | inr none ↦ rw none refl
-]
-
-pub none_added : (path name : List ℕ) → length name ≤ start_of path name → name_after path name ≡ path
-none_added path name few =
-    name_after_parts path name
-    ∙ ap (λ b. before_name path b ++ with_separators (drop (start_of path name) name)) (le-ltb (start_of path name) (length name) few)
-    ∙ ap (λ us. before_name path false ++ with_separators us) (drop_all (start_of path name) name few)
-    ∙ append-nil (before_name path false) ∙ before_none path
 
 -- what another adds: the separator that is missing, and its units
 abbrev pub added_by : List ℕ → List ℕ → List ℕ

@@ -216,7 +216,7 @@ impl<'a> DevicePath<'a> {
     }
 
     /// Returns a value that prints the file path, which [`DevicePath::file_path`] makes, for a `{}` of a
-    /// format. Fails if that call refuses a name, for the same node. Does not allocate.
+    /// format. Fails if that call rejects a name, for the same node. Does not allocate.
     ///
     /// ```rust
     /// let path = DevicePathBuf::from_text(rt.alloc(), r"SD(0x1)/\efi\boot/\a.efi")?;
@@ -235,7 +235,7 @@ impl<'a> DevicePath<'a> {
     /// Writes the file path, which [`DevicePath::file_path`] makes, to the start of a buffer, with
     /// a NUL, and returns its length without the NUL. The rest of the buffer is unchanged.
     ///
-    /// Fails with `Name` if that call refuses a name, for the same node, and otherwise with
+    /// Fails with `Name` if that call rejects a name, for the same node, and otherwise with
     /// `BufferTooSmall` if the buffer is too small. The buffer is then unchanged. Does not
     /// allocate.
     ///

@@ -1,9 +1,8 @@
 -- The digits of a block of bytes.
-use Rattle.std.proofs.Common.{◌≡◌, ◌∙◌, ap, sym, suc, ℕ, ◌+◌, ◌*◌, ◌-◌, ◌/◌, ◌%◌, ◌<◌, true, List, [], ◌∷◌, ◌++◌, length, take, drop, reverse, get_or, set, arith}
+use Rattle.std.proofs.Common.{◌≡◌, ◌∙◌, ap, sym, suc, ℕ, ◌+◌, ◌*◌, ◌-◌, ◌/◌, ◌%◌, ◌<◌, true, List, [], ◌∷◌, ◌++◌, length, take, drop, get_or, set, arith}
 use Rattle.std.specs.Fmt.{digit_glyph}
 use Rattle.std.specs.Str.{IsUtf8}
 use Rattle.std.proofs.lemmas.Grind.{common_steps}
-use Rattle.std.proofs.lemmas.List.{get_or-reverse, length-reverse, take_more, take_more_set}
 use Rattle.uefi_text.proofs.UnitBytes.{set_two}
 use Rattle.uefi_field_texts.specs.FieldTexts.{hex_bytes, hex_two}
 use Rattle.uefi_field_texts.proofs.GuidTexts.{two_digits}
@@ -33,13 +32,3 @@ byte_written bytes digits i within small room so_far =
     ∙ ap (λ (xs : List ℕ). xs ++ high ∷ low ∷ []) so_far
     ∙ ap (λ (xs : List ℕ). hex_bytes (take i bytes) ++ xs) (sym (two_digits byte small))
     ∙ byte_more hex_two [] bytes i within
-
--- one byte more is turned
-pub byte_turned : (bytes turned : List ℕ) (i : ℕ) → i < length bytes → i < length turned → take i turned ≡ take i (reverse bytes)
-    → take (i + 1) (set turned i (get_or bytes (length bytes - 1 - i) 0)) ≡ take (i + 1) (reverse bytes)
-byte_turned bytes turned i within room so_far =
-    let byte = get_or bytes (length bytes - 1 - i) 0 in
-    take_more_set turned i byte room
-    ∙ ap (λ (xs : List ℕ). xs ++ byte ∷ []) so_far
-    ∙ ap (λ (x : ℕ). take i (reverse bytes) ++ x ∷ []) (sym (get_or-reverse bytes i 0 within))
-    ∙ sym (take_more (reverse bytes) i 0 (omega (arith, within, length-reverse bytes)))

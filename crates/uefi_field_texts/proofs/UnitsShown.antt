@@ -1,9 +1,8 @@
 -- What is printed of units, character by character.
-use Rattle.std.proofs.Common.{◌≡◌, ℕ, ◌≤◌, ◌<◌, ◌+◌, ◌&&◌, Bool, false, true, if◌then◌else◌, List, [], ◌∷◌, ◌++◌, codes, length, drop, take, set, slice_index, ap, refl, sym, ◌∙◌, arith, append_assoc}
+use Rattle.std.proofs.Common.{◌≡◌, ℕ, ◌≤◌, ◌+◌, ◌&&◌, Bool, false, true, if◌then◌else◌, List, [], ◌∷◌, ◌++◌, codes, length, drop, take, slice_index, ap, refl, sym, ◌∙◌, arith, append_assoc}
 use Rattle.std.proofs.lemmas.Bool.{and_parts}
 use Rattle.std.proofs.lemmas.Bool.Decides.{nat_tests}
-use Rattle.std.proofs.lemmas.List.{append-nil, drop-drop, drop_all, get_or-drop, length-drop, take-append-drop, take_more, take_more_set}
-use Rattle.std.proofs.lemmas.List.Folds.{list_all-append}
+use Rattle.std.proofs.lemmas.List.{append-nil, drop-drop, drop_all, take-append-drop}
 use Rattle.std.specs.Char.Utf16.{is_high_surrogate, is_low_surrogate, lone_unit_char, utf16_chars, utf16_lossy_chars}
 use Rattle.std.specs.Option.{unwrap_or}
 use Rattle.std.specs.List.{concat, flat_map, list_all}
@@ -43,21 +42,6 @@ shown_run us i n e =
     ap (λ (vs : List ℕ). take n (drop i us) ++ shown_units vs) (sym (drop-drop n i us))
     ∙ printable_front (take n (drop i us)) (drop n (drop i us)) e
     ∙ ap shown_units (take-append-drop n (drop i us))
-
--- one unit more of a run
-pub run_more : (us run : List ℕ) (i n : ℕ) → i + n < length us → n < length run → take n run ≡ take n (drop i us)
-    → take (n + 1) (set run n (slice_index us (i + n))) ≡ take (n + 1) (drop i us)
-run_more us run i n inside room same =
-    let unit = slice_index us (i + n) in
-    take_more_set run n unit room ∙ ap (λ (xs : List ℕ). xs ++ unit ∷ []) same
-    ∙ ap (λ (u : ℕ). take n (drop i us) ++ u ∷ []) (sym (get_or-drop i us n 0))
-    ∙ sym (take_more (drop i us) n 0 (omega (arith, length-drop i us, inside)))
-
-pub printable_more : (us : List ℕ) (i n : ℕ) → i + n < length us → list_all is_printable (take n (drop i us)) ≡ true
-    → is_printable (slice_index us (i + n)) ≡ true → list_all is_printable (take (n + 1) (drop i us)) ≡ true
-printable_more us i n inside e more =
-    let here = take_more (drop i us) n 0 (omega (arith, length-drop i us, inside)) ∙ ap (λ (u : ℕ). take n (drop i us) ++ u ∷ []) (get_or-drop i us n 0) in
-    ap (list_all is_printable) here ∙ list_all-append is_printable (take n (drop i us)) (slice_index us (i + n) ∷ []) ∙ (λ k. e k && (more k && true))
 
 -- it is a Rust text
 pub printable_utf8 : (text : List ℕ) → list_all is_printable text ≡ true → IsUtf8 text

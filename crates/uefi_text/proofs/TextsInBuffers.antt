@@ -1,7 +1,7 @@
 -- Texts that are written with a NUL into a caller's buffer: what is returned, and what the buffer becomes.
-use Rattle.std.proofs.Common.{◌≡◌, ℕ, ◌+◌, ◌-◌, ◌<◌, ◌≤◌, ◌^◌, List, [], ◌∷◌, ◌++◌, Ok, Err, inl, inr, add-one, append_assoc, drop, get_or, set, length, min, length-append, ap, refl, sym, ◌∙◌, arith}
+use Rattle.std.proofs.Common.{◌≡◌, ℕ, ◌+◌, ◌-◌, ◌<◌, ◌≤◌, ◌^◌, List, [], ◌∷◌, ◌++◌, Ok, Err, add-one, append_assoc, drop, get_or, set, length, min, length-append, ap, refl, sym, ◌∙◌, arith}
 use Rattle.std.proofs.Math.Seq.{drop-cons, set-append_seam}
-use Rattle.std.proofs.lemmas.Bool.{cases_lt, le-ltb, lt-ltb}
+use Rattle.std.proofs.lemmas.Bool.{le-ltb, lt-ltb}
 use Rattle.std.proofs.lemmas.Grind.{common_steps}
 use Rattle.uefi_text.specs.UnalignedCStr16.{with_prefix}
 use Rattle.uefi_text.specs.Units.{nul_terminated}
@@ -64,15 +64,3 @@ counted_needed text buffer len needed count full is =
 pub counted_unchanged : (text buffer : List ℕ) (len : ℕ) → len ≡ min (length text) (2 ^ 64 - 1) → length buffer ≤ len
     → buffer ≡ with_prefix (nul_terminated text) buffer
 counted_unchanged text buffer len count full = text_short text buffer (counted_short text buffer len count full).0
-
--- what is returned says whether the text had room
-pub was_written : (text buffer : List ℕ) (len : ℕ) → Ok len ≡ written_len text buffer
-    → (len ≡ length text) × (length text < length buffer)
-was_written text buffer len is = elim (cases_lt (length text) (length buffer)) [
-  | inl room ↦
-      let fits = lt-ltb (length text) (length buffer) room in
-      (grind (arith, common_steps, is, fits), room)
-  | inr full ↦
-      let short = le-ltb (length text) (length buffer) (omega (arith, full)) in
-      absurd (grind (arith, common_steps, is, short))
-]
