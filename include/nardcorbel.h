@@ -19,18 +19,18 @@
  *     }
  *
  * Which call for which job
- *   boot entries      nard_load_option_read, _next_path, _write; nard_boot_name_read, nard_boot_order_read
- *   device paths      nard_device_path_check, _size, _next_node, _file_path_utf16, _is_expansion, _strip_prefix
+ *   boot entries      nard_load_option_read, _next_path, _description, _write; nard_boot_name_read, nard_boot_order_read
+ *   device paths      nard_device_path_check, _size, _next_node, _file_path, _is_expansion, _strip_prefix
  *   nodes             nard_node_number, nard_node_format, and the types and fields of nardcorbel_nodes.h
  *   text of paths     nard_device_path_format, _parse, _push_text, _text_extent, _explain
  *   building paths    nard_device_path_init, _push, _append, _push_text
  *   file paths        nard_path_check, _normalize, _push, _join, _parent, _next_component, _equal, _compare, _matches
- *   strings           nard_string_check, _length, _equal, _compare, _matches, _from_utf8, _to_utf8
+ *   strings           nard_string_check, _length, _equal, _compare, _matches, _from_utf8, _to_utf8; nard_packed_escape
  *   FAT file names    nard_fat_name_check, _equal, _is_short; nard_fat_from_string, nard_string_from_fat
  *
  * Text
  *   Text is UTF-8 in `char` and UTF-16 in nard_char16. Calls on strings, file paths and file names use UTF-16, as firmware stores
- *   them. Calls on the text of device paths use UTF-8; where both exist, the call for UTF-16 has the suffix _utf16.
+ *   them. Text of device paths and boot entries is UTF-8. Where both exist, the call for UTF-16 has the suffix _utf16.
  *
  *   A text is passed as a pointer and the number of its elements. For UTF-16 the text ends earlier if it contains a NUL. Pass
  *   NARD_NUL_TERMINATED as the number if a NUL ends the text. A "string" is a UTF-16 text without surrogates (0xd800 to 0xdfff);
@@ -313,6 +313,18 @@ NARD_MUST_USE nard_status NARD_CALL nard_units_from_bytes(const uint8_t *bytes, 
 NARD_MUST_USE nard_status NARD_CALL nard_packed_length(const uint8_t *bytes, size_t bytes_size, size_t *length);
 
 /*
+ * Converts the UTF-16 text in bytes, at any address, up to its NUL, to UTF-8 that you can show on a terminal. Each surrogate without a
+ * partner becomes U+FFFD. Control characters, and characters that change the direction of text, are escaped as \u{1B}. An odd byte at
+ * the end is ignored.
+ *
+ * Returns
+ *   NARD_OK
+ *   NARD_BUFFER_TOO_SMALL   capacity <= *size
+ */
+NARD_MUST_USE nard_status NARD_CALL nard_packed_escape(const uint8_t *bytes, size_t bytes_size,
+                                                       char *buffer, size_t capacity, size_t *size);
+
+/*
  * Converts UTF-8 to a NUL-terminated string.
  *
  * Returns
@@ -338,8 +350,8 @@ NARD_MUST_USE nard_status NARD_CALL nard_string_to_utf8(const nard_char16 *text,
 /*
  * Converts a text to UTF-8, with a NUL, whatever it contains: each surrogate without a partner becomes U+FFFD.
  *
- * The result may contain control characters, such as ESC, and characters that change the direction of text. Replace them before you
- * show a description or a file name to a person, as examples/boot_entry.c does.
+ * The result may contain control characters, such as ESC, and characters that change the direction of text. To
+ * show a text on a terminal, use nard_packed_escape.
  *
  * Returns
  *   NARD_OK
@@ -361,7 +373,8 @@ bool NARD_CALL nard_utf8_is_latin1(const char *text, size_t text_size);
 
 /*
  * Checks that the NUL-terminated string at the start of `path` is the path of a file: components without illegal characters, with
- * one `\` between each two, and at most one at the start. A `/` is illegal: nard_path_normalize accepts it.
+ * one `\` between each two, and at most one at the start. A `/` is illegal: nard_path_normalize_utf16 accepts it. To validate a path in
+ * UTF-8, normalize it with nard_path_normalize.
  *
  *   *length      receives the length of the path
  *   *character   receives the character that is not allowed, or 0
@@ -469,18 +482,18 @@ NARD_MUST_USE nard_status NARD_CALL nard_path_parent(const nard_char16 *path, si
  *                                    as nard_path_check of the path with each `/` replaced, but *fault is unchanged
  *   NARD_BUFFER_TOO_SMALL            capacity <= *length
  */
-NARD_MUST_USE nard_status NARD_CALL nard_path_normalize(const nard_char16 *path, size_t path_length, nard_char16 *buffer,
+NARD_MUST_USE nard_status NARD_CALL nard_path_normalize_utf16(const nard_char16 *path, size_t path_length, nard_char16 *buffer,
                                                         size_t capacity, size_t *length, size_t *fault, nard_char16 *character);
 
 /*
  * Writes the normal form of a path in UTF-8 to a buffer, as UTF-16. A capacity of 2 * path_size + 2 is enough for every path: the call
  * first writes the path to the second half of the buffer, from buffer[capacity / 2] on, as nard_string_from_utf8 does, and then its
- * normal form to the first half, as nard_path_normalize does. If the first step fails, the whole buffer is unchanged, and if the
+ * normal form to the first half, as nard_path_normalize_utf16 does. If the first step fails, the whole buffer is unchanged, and if the
  * second one fails, the first half is.
  *
- * Returns as nard_string_from_utf8 for the second half, and otherwise as nard_path_normalize for the first half.
+ * Returns as nard_string_from_utf8 for the second half, and otherwise as nard_path_normalize_utf16 for the first half.
  */
-NARD_MUST_USE nard_status NARD_CALL nard_path_normalize_utf8(const char *path, size_t path_size, nard_char16 *buffer,
+NARD_MUST_USE nard_status NARD_CALL nard_path_normalize(const char *path, size_t path_size, nard_char16 *buffer,
                                                              size_t capacity, size_t *length, size_t *fault, nard_char16 *character);
 
 /* ---- Names on FAT volumes (section 13.3) ---- */
@@ -620,16 +633,19 @@ NARD_MUST_USE nard_status NARD_CALL nard_device_path_next_node(const uint8_t *pa
 NARD_MUST_USE nard_status NARD_CALL nard_node_number(const uint8_t *data, size_t data_size, uint32_t field, uint64_t *number);
 
 /*
- * Writes the file path of a device path, as UTF-16: the names of all nodes that name files, with each `/` replaced and one `\` between
- * two names. The result is not checked: call nard_path_check before you open the file.
+ * Writes the file path of a device path: the names of all nodes that name files, with each `/` replaced and one `\` between two names.
+ * The path is not checked, and may contain control characters. Before you open the file, validate it with nard_path_check, or with
+ * nard_path_normalize if it is UTF-8.
  *
  * Returns
  *   NARD_OK
  *   an error                as nard_device_path_check, at *fault
  *   NARD_ODD_BYTES, NARD_NO_NUL, NARD_INVALID_CHAR, NARD_INTERIOR_NUL
  *                           the data of a file node, at *fault, is not a NUL-terminated string
- *   NARD_BUFFER_TOO_SMALL   capacity <= *length
+ *   NARD_BUFFER_TOO_SMALL   capacity <= *size or *length
  */
+NARD_MUST_USE nard_status NARD_CALL nard_device_path_file_path(const uint8_t *path, size_t path_size, char *buffer,
+                                                               size_t capacity, size_t *size, size_t *fault);
 NARD_MUST_USE nard_status NARD_CALL nard_device_path_file_path_utf16(const uint8_t *path, size_t path_size, nard_char16 *buffer,
                                                                      size_t capacity, size_t *length, size_t *fault);
 
@@ -896,6 +912,16 @@ static inline NARD_MUST_USE nard_status nard_load_option_read(const uint8_t *byt
 }
 
 /*
+ * Writes the description of a load option that nard_load_option_read gave, as nard_packed_escape does: you can show it on a terminal.
+ * This function is C: it is tested, not proved.
+ */
+static inline NARD_MUST_USE nard_status nard_load_option_description(const struct nard_load_option *option,
+                                                                     char *buffer, size_t capacity, size_t *size)
+{
+    return nard_packed_escape(option->description, 2 * option->description_length, buffer, capacity, size);
+}
+
+/*
  * Moves `path` and `path_size` of a load option that nard_load_option_read gave to the next device path of its list. Returns NARD_END
  * after the last one; the option is then unchanged. This function is C: it is tested, not proved.
  */
@@ -962,8 +988,9 @@ NARD_MUST_USE nard_status NARD_CALL nard_boot_name_read_utf16(const nard_char16 
  * Returns
  *   NARD_OK
  *   NARD_NOT_A_NAME         the kind is above 3
- *   NARD_BUFFER_TOO_SMALL   capacity <= *length
+ *   NARD_BUFFER_TOO_SMALL   capacity <= *size or *length
  */
+NARD_MUST_USE nard_status NARD_CALL nard_boot_name_write(uint32_t kind, uint16_t number, char *buffer, size_t capacity, size_t *size);
 NARD_MUST_USE nard_status NARD_CALL nard_boot_name_write_utf16(uint32_t kind, uint16_t number,
                                                                nard_char16 *buffer, size_t capacity, size_t *length);
 

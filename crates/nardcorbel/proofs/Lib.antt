@@ -7,3 +7,4 @@ mod FirstUnits
 mod Halves
 pub mod Rooms
 mod Ends
+mod KindNumbers

@@ -17,6 +17,7 @@ ghost use Rattle.nardcorbel.specs.declared.outcomes.Refusal.{Refusal};
 
 use crate::outcomes::{read_string, report_written};
 use crate::reasons::{BUFFER_TOO_SMALL, END, NOT_A_NAME, ODD_BYTES, OK};
+use crate::utf8_buffers::write_utf8;
 use uefi_boot_variables::order_edits::{contains, insert, move_to_front, remove};
 use uefi_boot_variables::{LoadOptionKind, LoadOptionName, LoadOrder};
 
@@ -124,12 +125,32 @@ pub extern "C" fn nard_boot_name_read_utf16(units: &[u16], kind: &mut u32, numbe
     }
 }
 
-/// Writes the name of the load option with a kind and a number as a string to the start of a
+/// Writes the name of the load option with a kind and a number, in UTF-8 and with a NUL, to the start of a
 /// buffer.
 ///
 /// A kind above 3 is rejected as `NOT_A_NAME`, and `len` is unchanged. Otherwise `len` becomes the length
-/// of the name in units, and a buffer with at most that many places is rejected as `BUFFER_TOO_SMALL`. If
-/// the call fails, the buffer is unchanged. Units after the NUL are never changed. Does not allocate.
+/// of the name, and a buffer with at most that many places is rejected as `BUFFER_TOO_SMALL`. If the call
+/// fails, the buffer is unchanged. Bytes after the NUL are never changed. Does not allocate.
+#[unsafe(no_mangle)]
+pub extern "C" fn nard_boot_name_write(
+    kind: u32,
+    number: u16,
+    buffer: &mut [u8],
+    len: &mut usize,
+) -> u32
+    ensures unknown { (fault : ℕ) → 3 < kind → Shows (Refused (refusal_for NOT_A_NAME))
+        len.old fault buffer.old result len.new fault buffer.new }
+    ensures name { (fault : ℕ) → (name : LoadOptionName) → kind ≡ kind_number name.kind
+        → number ≡ name.number → Shows (Text (name_text name))
+        len.old fault buffer.old result len.new fault buffer.new }
+{
+    let Some(kind) = kind_of(kind) else {
+        return NOT_A_NAME;
+    };
+    report_written(write_utf8(buffer, &LoadOptionName { kind, number }), len)
+}
+
+/// Writes the name of a load option as a string, as [`nard_boot_name_write`] writes it in UTF-8.
 #[unsafe(no_mangle)]
 pub extern "C" fn nard_boot_name_write_utf16(
     kind: u32,

@@ -137,7 +137,7 @@ pub extern "C" fn nard_path_parent(
 /// call fails, the buffer is unchanged. Units after the NUL are never changed. `character` becomes 0
 /// unless a character is not allowed. Does not allocate.
 #[unsafe(no_mangle)]
-pub extern "C" fn nard_path_normalize(
+pub extern "C" fn nard_path_normalize_utf16(
     path: &[u16],
     buffer: &mut [u16],
     len: &mut usize,
@@ -170,14 +170,14 @@ pub extern "C" fn nard_path_normalize(
 
 /// Writes the normal path of a path in UTF-8, and a NUL, to the start of a buffer, by two calls.
 /// `nard_string_from_utf8` writes the path as a string into the second half of the buffer, which
-/// has one place more if the number of places is odd. [`nard_path_normalize`] then makes the normal
+/// has one place more if the number of places is odd. [`nard_path_normalize_utf16`] then makes the normal
 /// path from that string in the first half.
 ///
 /// Each call fails in its half as it does in a buffer. Twice as many places as bytes, and two more,
 /// are enough for any path. `character` becomes 0 unless a character is not allowed. Does not
 /// allocate.
 #[unsafe(no_mangle)]
-pub extern "C" fn nard_path_normalize_utf8(
+pub extern "C" fn nard_path_normalize(
     bytes: &[u8],
     buffer: &mut [u16],
     len: &mut usize,
@@ -211,5 +211,5 @@ pub extern "C" fn nard_path_normalize_utf8(
         *fault = string_fault;
         return reason;
     }
-    nard_path_normalize(second, first, len, fault, character)
+    nard_path_normalize_utf16(second, first, len, fault, character)
 }

@@ -16,7 +16,8 @@ use crate::outcomes::{read_path, refuse, report};
 use crate::reasons::{BUFFER_TOO_SMALL, UNKNOWN_STYLE};
 use crate::text_styles::{Form, printed_form};
 use crate::utf8_buffers::write_utf8;
-use uefi_device_path::{AllowShortcuts, DevicePathNode, DisplayOnly};
+use uefi_device_path::{AllowShortcuts, AsInPath, DevicePathNode, DisplayOnly};
+use uefi_text::write_units;
 
 /// Writes the text of the device path at the start of bytes, and a NUL, to the start of a buffer, as
 /// UTF-8.
@@ -124,7 +125,7 @@ pub extern "C" fn nard_node_format(
     match form {
         Form::Specified(display_only, allow_shortcuts) => {
             let text = node.display(DisplayOnly(display_only), AllowShortcuts(allow_shortcuts));
-            report(write_utf8(buffer, &text), len, fault)
+            report(write_utf8(buffer, &AsInPath(text)), len, fault)
         }
         Form::Libefivar => UNKNOWN_STYLE,
     }
@@ -154,15 +155,8 @@ pub extern "C" fn nard_node_format_utf16(
     };
     match form {
         Form::Specified(display_only, allow_shortcuts) => {
-            let (display_only, allow_shortcuts) = (
-                DisplayOnly(display_only),
-                AllowShortcuts(allow_shortcuts),
-            );
-            report(
-                node.write_text(buffer, display_only, allow_shortcuts),
-                len,
-                fault,
-            )
+            let text = node.display(DisplayOnly(display_only), AllowShortcuts(allow_shortcuts));
+            report(write_units(buffer, &AsInPath(text)), len, fault)
         }
         Form::Libefivar => UNKNOWN_STYLE,
     }

@@ -1,6 +1,7 @@
 //! Device paths in bytes that C holds: a check that bytes begin with one, its nodes, and the file that
 //! it names.
 ghost use Rattle.std.specs.Prelude.{◌≡◌, ◌≢◌, ◌+◌, ◌<◌, ◌≤◌, ◌++◌, ◌∷◌, [], ℕ, All, List, None, Some, Err, Ok, Result, drop, length};
+ghost use Rattle.std.specs.Str.{encode_utf8_all};
 ghost use Rattle.uefi_device_path.specs.NodeFaults.{fault_place, node_fault};
 ghost use Rattle.uefi_device_path.specs.NodeError.{NodeError};
 ghost use Rattle.uefi_device_path.specs.Nodes.{IsInner, Node, end_entire, node_bytes};
@@ -20,6 +21,7 @@ ghost use Rattle.nardcorbel.specs.declared.outcomes.Refusal.{Refusal};
 
 use crate::outcomes::{Refusal, read_path, refuse, refuse_room, report};
 use crate::reasons::{END, NO_END_NODE, OK, node_reason};
+use crate::utf8_buffers::write_utf8;
 use uefi_device_path::{DevicePath, DevicePathNode, FilePathWriteError, PathExtent, fault_place};
 
 /// Checks that bytes begin with a device path.
@@ -163,16 +165,41 @@ pub extern "C" fn nard_device_path_next_node(
     }
 }
 
-/// Writes the file path of the device path at the start of bytes, as
-/// [`DevicePath::write_file_path`] does, and a NUL to the start of a buffer.
+/// Writes the file path of the device path at the start of bytes, in UTF-8 and with a NUL, to the start of a
+/// buffer: the names of its nodes that name files, as [`DevicePath::display_file_path`] joins them.
 ///
 /// Bytes that do not begin with a device path are rejected as by [`nard_device_path_check`]. Then a
 /// node that should name a file and whose data is not a string is rejected: as `ODD_BYTES` if the
 /// data has an odd length, and otherwise as by `nard_string_check`; `fault` becomes the offset of the
-/// data. Otherwise `len` becomes the number of units of the file path, without its NUL, and a buffer
+/// data. Otherwise `len` becomes the number of bytes of the file path, without its NUL, and a buffer
 /// with at most that many places is rejected as `BUFFER_TOO_SMALL`. If the call fails, the buffer is
-/// unchanged. Units after the NUL are never changed. Does not allocate (UEFI Specification 2.10,
+/// unchanged. Bytes after the NUL are never changed. Does not allocate (UEFI Specification 2.10,
 /// section 10.3.5.4).
+#[unsafe(no_mangle)]
+pub extern "C" fn nard_device_path_file_path(
+    bytes: &[u8],
+    buffer: &mut [u8],
+    len: &mut usize,
+    fault: &mut usize,
+) -> u32
+    ensures no_path { (refusal : Refusal) → read_path bytes.now ≡ Err refusal
+        → Shows (Refused refusal) len.old fault.old buffer.old result len.new fault.new buffer.new }
+    ensures path { (nodes : List Node) → read_path bytes.now ≡ Ok nodes
+        → (file : Result (List ℕ) FilePathError) × GivesFilePath nodes file × Shows
+        (file_outcome encode_utf8_all file) len.old fault.old buffer.old result len.new fault.new buffer.new }
+{
+    let path = match read_path(bytes) {
+        Ok(path) => path,
+        Err(refusal) => return refuse(refusal, len, fault),
+    };
+    match path.display_file_path() {
+        Ok(text) => report(write_utf8(buffer, &text), len, fault),
+        Err(error) => refuse(error, len, fault),
+    }
+}
+
+/// Writes the file path of the device path at the start of bytes as a string, as
+/// [`nard_device_path_file_path`] writes it in UTF-8. `len` is a number of units.
 #[unsafe(no_mangle)]
 pub extern "C" fn nard_device_path_file_path_utf16(
     bytes: &[u8],
@@ -183,8 +210,8 @@ pub extern "C" fn nard_device_path_file_path_utf16(
     ensures no_path { (refusal : Refusal) → read_path bytes.now ≡ Err refusal
         → Shows (Refused refusal) len.old fault.old buffer.old result len.new fault.new buffer.new }
     ensures path { (nodes : List Node) → read_path bytes.now ≡ Ok nodes
-        → (file : Result (List ℕ) FilePathError) × GivesFilePath nodes file
-        × Shows (file_outcome file) len.old fault.old buffer.old result len.new fault.new buffer.new }
+        → (file : Result (List ℕ) FilePathError) × GivesFilePath nodes file × Shows
+        (file_outcome (λ path. path) file) len.old fault.old buffer.old result len.new fault.new buffer.new }
     ensures length { (nodes : List Node) → read_path bytes.now ≡ Ok nodes → All IsReadable nodes
         → len.new ≡ length (file_path nodes) }
 {

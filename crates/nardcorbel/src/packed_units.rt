@@ -1,10 +1,17 @@
 //! Code units that are packed in bytes, as in the tables and device paths of firmware.
 ghost use Rattle.std.specs.Prelude.{◌≡◌, ◌≢◌, ◌↔◌, ℕ, ◌+◌, ◌/◌, ◌%◌, ◌≤◌, ◌++◌, List, drop, length};
+ghost use Rattle.uefi_field_texts.specs.FieldTexts.{utf16_text};
 ghost use Rattle.uefi_text.specs.PackedStrings.{SplitsUntilNul};
 ghost use Rattle.uefi_text.specs.UnitBytes.{units_of_bytes};
+ghost use Rattle.nardcorbel.specs.Outcomes.{Shows};
+ghost use Rattle.nardcorbel.specs.Outcomes.Outcome.{Text};
 
+use crate::outcomes::report_written;
 use crate::reasons::{BUFFER_TOO_SMALL, NO_NUL, ODD_BYTES, OK};
+use crate::utf8_buffers::write_utf8;
+use uefi_field_texts::shown_texts::put_utf16_text;
 use uefi_text::UnalignedSlice;
+use uefi_text::text_sink::{Printed, TextSink};
 use uefi_text::unaligned_slice::read_items;
 
 /// Copies the code units that bytes encode, two bytes each, the low byte first, to the start of a
@@ -58,4 +65,34 @@ pub extern "C" fn nard_packed_length(bytes: &[u8], len: &mut usize) -> u32
         }
         None => NO_NUL,
     }
+}
+
+/// A text in UTF-16, as bytes, of which control characters are escaped.
+#[derive(Clone, Copy)]
+struct EscapedText<'a> {
+    bytes: &'a [u8],
+}
+
+impl<'a> Printed for EscapedText<'a> {
+    ghost printed = { λ text. utf16_text text.bytes.now };
+
+    fn put<S: TextSink>(&self, sink: &mut S) {
+        put_utf16_text(sink, self.bytes);
+    }
+}
+
+/// Writes the text that bytes encode in UTF-16, up to the first NUL, in UTF-8 and with a NUL, to the start
+/// of a buffer, as the names in device paths are printed: each surrogate without a partner is U+FFFD, and
+/// control characters and characters that change the direction of text are escaped, such as `\u{1B}`.
+///
+/// The bytes may begin at any address. An odd byte at the end is ignored. `len` becomes the number of bytes
+/// of the text, without its NUL, at most `usize::MAX - 1`, and a buffer with at most that many places is
+/// rejected as `BUFFER_TOO_SMALL`. If the call fails, the buffer is unchanged. Bytes after the NUL are never
+/// changed. Does not allocate.
+#[unsafe(no_mangle)]
+pub extern "C" fn nard_packed_escape(bytes: &[u8], buffer: &mut [u8], len: &mut usize) -> u32
+    ensures { (fault : ℕ) → Shows (Text (utf16_text bytes.now)) len.old fault buffer.old
+        result len.new fault buffer.new }
+{
+    report_written(write_utf8(buffer, &EscapedText { bytes }), len)
 }

@@ -4,7 +4,7 @@
 //! The text of units is the units before their first NUL, or all units if there is no NUL. Only the
 //! checks reject units; the other calls accept surrogates too, because names on FAT volumes may have
 //! them.
-ghost use Rattle.std.specs.Prelude.{◌≡◌, ◌↔◌, ◌++◌, drop, length, true, All, IsTrue, ◌<◌};
+ghost use Rattle.std.specs.Prelude.{◌≡◌, ◌≢◌, ◌↔◌, ◌++◌, drop, length, true, IsTrue};
 ghost use Rattle.std.specs.Cmp.Lexicographic.{slice_cmp};
 ghost use Rattle.std.specs.Ordering.{nat_cmp};
 ghost use Rattle.std.specs.Str.{IsAscii};
@@ -12,14 +12,14 @@ ghost use Rattle.uefi_text.specs.Case.{caseless_order, lowers, uppers};
 ghost use Rattle.uefi_text.specs.FromSliceWithNul.{with_nul_refusal};
 ghost use Rattle.uefi_text.specs.Patterns.{Matches};
 ghost use Rattle.uefi_text.specs.Units.{BeginsWithString, IsString, without_nul};
-ghost use Rattle.nardcorbel.specs.Outcomes.{ShowsNumber, when_read, refusal_at, unless};
+ghost use Rattle.nardcorbel.specs.Outcomes.{ShowsNumber, when_read, unless};
 ghost use Rattle.nardcorbel.specs.Outcomes.Outcome.{Number};
 ghost use Rattle.nardcorbel.specs.Reading.{read_string};
 ghost use Rattle.nardcorbel.specs.Reasons.{order_number};
 ghost use Rattle.nardcorbel.specs.Refusals.{with_nul_refused};
 ghost use Rattle.nardcorbel.specs.Strings.{text_until_nul};
 
-use crate::outcomes::{Refusal, read_string, refuse, report};
+use crate::outcomes::{Refusal, read_string, refuse};
 use crate::reasons::{OK, order_number, with_nul_reason};
 use uefi_text::case::{cmp_ignore_case, eq_ignore_case, make_lowercase, make_uppercase, upper};
 use uefi_text::laws::pattern_rules;
@@ -93,12 +93,28 @@ pub extern "C" fn nard_string_length(units: &[u16], len: &mut usize, fault: &mut
     }
 }
 
+/// Returns `true` only if the first units already show that two texts differ without case. Most texts that
+/// differ do so there, before the ends of both are searched.
+#[inline(always)]
+fn begin_apart(first: &[u16], second: &[u16]) -> bool
+    ensures { result ≡ true → uppers (text_until_nul first.now) ≢ uppers (text_until_nul second.now) }
+{
+    if first.is_empty() || second.is_empty() {
+        return false;
+    }
+    upper(first[0]) != upper(second[0])
+}
+
 /// Returns whether two texts are the same. Does not allocate.
 #[unsafe(no_mangle)]
 pub extern "C" fn nard_string_equal(first: &[u16], second: &[u16]) -> bool
     ensures { IsTrue result ↔ (text_until_nul first.now ≡ text_until_nul second.now) }
 {
-    until_nul(first) == until_nul(second)
+    if begin_apart(first, second) {
+        return false;
+    }
+    // If all units are the same, no end is searched.
+    first == second || until_nul(first) == until_nul(second)
 }
 
 /// Returns the order of two texts, by code unit: -1, 0 or 1 if the first is less, equal or greater.
@@ -124,7 +140,11 @@ pub extern "C" fn nard_string_is_ascii(units: &[u16]) -> bool
 pub extern "C" fn nard_string_equal_ignore_case(first: &[u16], second: &[u16]) -> bool
     ensures { IsTrue result ↔ (uppers (text_until_nul first.now) ≡ uppers (text_until_nul second.now)) }
 {
-    eq_ignore_case(until_nul(first), until_nul(second))
+    if begin_apart(first, second) {
+        return false;
+    }
+    // If all units are the same, no end is searched.
+    eq_ignore_case(first, second) || eq_ignore_case(until_nul(first), until_nul(second))
 }
 
 /// Returns the order of two texts without case, as `StriColl` does: -1, 0 or 1 if the first is

@@ -1,21 +1,15 @@
--- A kind has a number of at most 3, and no other kind has it.
+-- No other kind has the number of a kind.
 use Rattle.std.proofs.Common.{◌≡◌, ◌∙◌, ◌≤◌, ◌<◌, ◌^◌, ◌++◌, ℕ, List, ap, arith, length, length-append, subst}
 use Rattle.std.proofs.lemmas.Grind.{common_steps}
 use Rattle.uefi_boot_variables.specs.Names.{four_digits, name_text, word_of}
 use Rattle.uefi_boot_variables.specs.declared.variable_names.LoadOptionKind.{LoadOptionKind}
 use Rattle.uefi_boot_variables.specs.declared.variable_names.LoadOptionKind.TheVariants.{Boot, Driver, SysPrep, PlatformRecovery}
 use Rattle.uefi_boot_variables.specs.declared.variable_names.LoadOptionName.{LoadOptionName}
-use Rattle.nardcorbel.specs.BootVariables.{kind_number}
+use Rattle.nardcorbel.proofs.KindNumbers.{at_most}
 use Rattle.nardcorbel.specs.Outcomes.{Shows}
 use Rattle.nardcorbel.specs.Outcomes.Outcome.{Text}
 use Rattle.nardcorbel.proofs.Written.{text_written}
 use Rattle.nardcorbel.proofs.boot_variables.nard_boot_name_write_utf16.Goals as goal
-
-at_most : (kind : LoadOptionKind) → kind_number kind ≤ 3
-at_most Boot = omega arith
-at_most Driver = omega arith
-at_most SysPrep = omega arith
-at_most PlatformRecovery = omega arith
 
 short : (name : LoadOptionName) → length (name_text name) < 2 ^ 63
 short name = omega (arith, length-append (word_of name.kind) (four_digits name.number), word name.kind)

@@ -20,8 +20,8 @@ returns-in-Specified-clause-shows c =
     let first : first_node c.args.bytes.now ≡ node_of c.in-Ok.found =
     ap first_node c.in-Ok.ensures.ok ∙ first-node_bytes (node_of c.in-Ok.found) c.in-Ok.field-0-1.now in
     let none : node_fault c.args.bytes.now ≡ None = sym c.in-Ok.ensures.refusal in
-    rw (sym c.printed_form.ensures ∙ c.in-Some.is, c.in-Specified.is, none, first)
-    (text_shown _ c.args.buffer.now _ _ c.args.len.now c.args.fault.now _ _ _ (grind (arith, common_steps)) c.write_text.ensures.len c.write_text.ensures.buffer c.report.ensures.shows)
+    rw (sym c.printed_form.ensures ∙ c.in-Some.is, c.in-Specified.is, none, first, ← c.display-text.ensures)
+    (text_shown _ c.args.buffer.now _ _ c.args.len.now c.args.fault.now _ _ _ (grind (arith, common_steps)) c.write_units.ensures.len c.write_units.ensures.buffer c.report.ensures.shows)
 
 pub returns-in-Err-clause-room_is_enough : goal.returns-in-Err-clause-room_is_enough
 unfolding read_node
@@ -39,7 +39,7 @@ returns-in-Specified-clause-room_is_enough c = λ room same.
     let first : first_node c.args.bytes.now ≡ node_of c.in-Ok.found =
     ap first_node c.in-Ok.ensures.ok ∙ first-node_bytes (node_of c.in-Ok.found) c.in-Ok.field-0-1.now in
     let none : node_fault c.args.bytes.now ≡ None = sym c.in-Ok.ensures.refusal in
-    let shown = text_shown _ c.args.buffer.now _ _ c.args.len.now c.args.fault.now _ _ _ (grind (arith, common_steps)) c.write_text.ensures.len c.write_text.ensures.buffer c.report.ensures.shows in
+    let shown = text_shown _ c.args.buffer.now _ _ c.args.len.now c.args.fault.now _ _ _ (grind (arith, common_steps)) c.write_units.ensures.len c.write_units.ensures.buffer c.report.ensures.shows in
     node_has_room (node_text display_only shortcuts) (node_texts_fit display_only shortcuts)
     c.args.bytes.now c.args.buffer.now (All-from_get_or IsByte c.args.bytes.now 0 (λ k within. omega (arith, c.type_inv.bytes k))) room
-    (rw (none, first) (sym shown.reason ∙ same))
+    (rw (none, first, ← c.display-text.ensures) (sym shown.reason ∙ same))

@@ -22,7 +22,8 @@ returns-in-Ok-write_file_path-clause-path c = λ nodes e.
     let room : length made < length buffer = omega (arith, written.len, written.room) in
     let same : nodes_of c.in-Ok.path ≡ nodes = cc (c.in-Ok.ensures.ok, e) in
     subst (λ (ns : List Node). (file : Result (List ℕ) FilePathError) × GivesFilePath ns file
-    × Shows (file_outcome file) c.args.len.now c.args.fault.now buffer c.report.result c.report.new.len c.report.new.fault c.write_file_path.new.buffer) same (
+    × Shows (file_outcome (λ path. path) file)
+    c.args.len.now c.args.fault.now buffer c.report.result c.report.new.len c.report.new.fault c.write_file_path.new.buffer) same (
       Ok made,
       (written.accepted, refl),
       record {
@@ -45,7 +46,8 @@ returns-in-Err-BufferTooSmall-clause-path c = λ nodes e.
     let same : nodes_of c.in-Ok.path ≡ nodes = cc (c.in-Ok.ensures.ok, e) in
     let said = c.refuse_room.ensures.shows in
     subst (λ (ns : List Node). (file : Result (List ℕ) FilePathError) × GivesFilePath ns file
-    × Shows (file_outcome file) c.args.len.now c.args.fault.now buffer c.refuse_room.result c.refuse_room.new.len c.refuse_room.new.fault c.write_file_path.new.buffer) same (
+    × Shows (file_outcome (λ path. path) file)
+    c.args.len.now c.args.fault.now buffer c.refuse_room.result c.refuse_room.new.len c.refuse_room.new.fault c.write_file_path.new.buffer) same (
       Ok made,
       (small.0, refl),
       record {
@@ -65,7 +67,8 @@ returns-in-Err-Name-clause-path c = λ nodes e.
     let same : nodes_of c.in-Ok.path ≡ nodes = cc (c.in-Ok.ensures.ok, e) in
     let said = c.refuse-in-Err-Name.ensures in
     subst (λ (ns : List Node). (file : Result (List ℕ) FilePathError) × GivesFilePath ns file
-    × Shows (file_outcome file) c.args.len.now c.args.fault.now buffer c.refuse-in-Err-Name.result c.refuse-in-Err-Name.new.len c.refuse-in-Err-Name.new.fault c.write_file_path.new.buffer) same (
+    × Shows (file_outcome (λ path. path) file)
+    c.args.len.now c.args.fault.now buffer c.refuse-in-Err-Name.result c.refuse-in-Err-Name.new.len c.refuse-in-Err-Name.new.fault c.write_file_path.new.buffer) same (
       Err c.in-Err-Name.error,
       fault,
       record { reason = said.reason; len = said.len; fault = said.fault; buffer = c.in-Err-Name.ensures.err },

@@ -17,7 +17,7 @@ use Rattle.nardcorbel.specs.Reading.{string_of_utf8}
 use Rattle.nardcorbel.specs.Reasons.{path_reason}
 use Rattle.nardcorbel.proofs.Halves.{enough_halves, halves, has_string, reads_written, refused_kept, string_fits, wrote_string}
 use Rattle.nardcorbel.proofs.Judged.{has_room}
-use Rattle.nardcorbel.proofs.buffers.nard_path_normalize_utf8.Goals as goal
+use Rattle.nardcorbel.proofs.buffers.nard_path_normalize.Goals as goal
 
 pub returns-then-reason-ne-OK-clause-string : goal.returns-then-reason-ne-OK-clause-string
 returns-then-reason-ne-OK-clause-string c =
@@ -62,7 +62,7 @@ returns-then-reason-ne-OK-clause-enough c = λ big utf8 is_text valid.
 pub returns-clause-string : goal.returns-clause-string
 returns-clause-string c =
     let cut = c.split_at_mut-first.ensures in
-    (halves c.args.buffer.now _ _ (c.nard_path_normalize.auto.buffer ∙ ap length cut.front) (c.nard_string_from_utf8-reason.auto.buffer ∙ ap length cut.back)).1
+    (halves c.args.buffer.now _ _ (c.nard_path_normalize_utf16.auto.buffer ∙ ap length cut.front) (c.nard_string_from_utf8-reason.auto.buffer ∙ ap length cut.back)).1
     ∙ c.nard_string_from_utf8-reason.ensures.shows.buffer ∙ ap (buffer_shown (string_of_utf8 c.args.bytes.now)) cut.back
 
 pub returns-clause-refused : goal.returns-clause-refused
@@ -78,8 +78,8 @@ returns-clause-path c = λ has.
     let fits = has_string c.args.bytes.now c.split_at_mut-first.result.1.now (subst (HasStringIn c.args.bytes.now) (sym cut.back) has) in
     let wrote = c.nard_string_from_utf8-reason.ensures.shows.buffer ∙ wrote_string c.args.bytes.now c.split_at_mut-first.result.1.now fits in
     let reads = reads_written text c.split_at_mut-first.result.1.now written fits.text fits.room wrote in
-    let there = rw reads at c.nard_path_normalize.ensures.path in
-    let front = (halves c.args.buffer.now _ _ (c.nard_path_normalize.auto.buffer ∙ ap length cut.front) (c.nard_string_from_utf8-reason.auto.buffer ∙ ap length cut.back)).0 in
+    let there = rw reads at c.nard_path_normalize_utf16.ensures.path in
+    let front = (halves c.args.buffer.now _ _ (c.nard_path_normalize_utf16.auto.buffer ∙ ap length cut.front) (c.nard_string_from_utf8-reason.auto.buffer ∙ ap length cut.back)).0 in
     record {
       reason = there.reason ∙ ap (reason_shown (normalized text)) cut.front;
       len = there.len;
@@ -92,7 +92,7 @@ returns-clause-character c = λ has.
     let cut = c.split_at_mut-first.ensures in
     let fits = has_string c.args.bytes.now c.split_at_mut-first.result.1.now (subst (HasStringIn c.args.bytes.now) (sym cut.back) has) in
     let wrote = c.nard_string_from_utf8-reason.ensures.shows.buffer ∙ wrote_string c.args.bytes.now c.split_at_mut-first.result.1.now fits in
-    c.nard_path_normalize.ensures.character (chars c.args.bytes.now)
+    c.nard_path_normalize_utf16.ensures.character (chars c.args.bytes.now)
     (reads_written (chars c.args.bytes.now) c.split_at_mut-first.result.1.now _ fits.text fits.room wrote)
 
 pub returns-clause-enough : goal.returns-clause-enough
@@ -118,5 +118,5 @@ returns-clause-length c = λ normal has is.
     let cut = c.split_at_mut-first.ensures in
     let fits = has_string c.args.bytes.now c.split_at_mut-first.result.1.now (subst (HasStringIn c.args.bytes.now) (sym cut.back) has) in
     let wrote = c.nard_string_from_utf8-reason.ensures.shows.buffer ∙ wrote_string c.args.bytes.now c.split_at_mut-first.result.1.now fits in
-    c.nard_path_normalize.ensures.length (chars c.args.bytes.now) normal
+    c.nard_path_normalize_utf16.ensures.length (chars c.args.bytes.now) normal
     (reads_written (chars c.args.bytes.now) c.split_at_mut-first.result.1.now _ fits.text fits.room wrote) is
