@@ -241,28 +241,6 @@ API uint16_t efi_loadopt_pathlen(const uint8_t *opt, ssize_t limit)
 }
 
 /*
- * Writes UTF-16 of any address as texts of device paths have it, at most 8 elements for each: \u{N} for a character that a terminal
- * could obey.
- */
-static size_t escape(const uint8_t *bytes, size_t count, nard_char16 *shown)
-{
-    size_t length = 0;
-    for (size_t i = 0; i < count; i++) {
-        unsigned unit = bytes[2 * i] | (unsigned)bytes[2 * i + 1] << 8;
-        char text[] = "\\u{FFFF}";
-        if (unit < 0x20 || (0x7f <= unit && unit < 0xa0) || unit == 0x61c || (unit & ~1U) == 0x200e || (0x2028 <= unit && unit < 0x202f)
-            || (0x2066 <= unit && unit < 0x206a)) {
-            snprintf(text, sizeof text, "\\u{%X}", unit);
-            for (const char *it = text; *it; it++)
-                shown[length++] = (nard_char16)*it;
-        } else {
-            shown[length++] = (nard_char16)unit;
-        }
-    }
-    return length;
-}
-
-/*
  * The description, or of a malformed load option what there is of it, as a program can print it: anyone who writes variables chooses
  * its characters. It lasts until the next call.
  */
@@ -270,8 +248,8 @@ API const unsigned char *efi_loadopt_desc(const uint8_t *opt, ssize_t limit)
 {
     static _Thread_local char *kept;
     struct nard_load_option option;
-    size_t start = 6, count = 0, length;
-    nard_char16 *shown;
+    const ssize_t start = 6;
+    size_t size = start < limit ? (size_t)(limit - start) : 0, length = 0;
     free(kept);
     kept = NULL;
     if (limit < 0) {
@@ -279,14 +257,10 @@ API const unsigned char *efi_loadopt_desc(const uint8_t *opt, ssize_t limit)
         return NULL;
     }
     read_option(opt, (size_t)limit, &option);
-    if (start < (size_t)limit && nard_packed_length(opt + start, (size_t)limit - start, &count) != NARD_OK)
-        count = ((size_t)limit - start) / 2;
-    shown = malloc((8 * count + 1) * sizeof *shown);
-    length = shown ? escape(opt + start, count, shown) : 0;
-    kept = shown ? malloc(3 * length + 1) : NULL;
-    if (kept && nard_string_to_utf8_lossy(shown, length, kept, 3 * length + 1, NULL) != NARD_OK)
+    if (nard_packed_escape(size ? opt + start : opt, size, NULL, 0, &length) == NARD_BUFFER_TOO_SMALL)
+        kept = malloc(length + 1);
+    if (kept && nard_packed_escape(size ? opt + start : opt, size, kept, length + 1, NULL) != NARD_OK)
         *kept = 0;
-    free(shown);
     return (unsigned char *)kept;
 }
 

@@ -542,35 +542,43 @@ ConvertDeviceNodeToText (
            );
 }
 
-STATIC
-nard_status
-Parse (
-  IN  CONST CHAR16  *Text,
-  OUT UINT8         *Buffer  OPTIONAL,
-  IN  UINTN         Capacity,
-  OUT UINTN         *Size
-  )
-{
-  return nard_device_path_parse_utf16 (Text, NARD_NUL_TERMINATED, NARD_STYLE_TYPED, Buffer, Capacity, Size, NULL);
-}
-
 EFI_DEVICE_PATH_PROTOCOL *
 EFIAPI
 ConvertTextToDevicePath (
   IN CONST CHAR16  *TextDevicePath
   )
 {
-  UINT8  *Buffer;
-  UINTN  Size;
+  EFI_DEVICE_PATH_PROTOCOL  *Path;
+  CHAR8                     *Text;
+  UINT8                     *Buffer;
+  UINTN                     Length;
+  UINTN                     Size;
 
-  if ((TextDevicePath == NULL) || (*TextDevicePath == 0) ||
-      (Parse (TextDevicePath, NULL, 0, &Size) != NARD_BUFFER_TOO_SMALL))
-  {
+  if ((TextDevicePath == NULL) || (*TextDevicePath == 0)) {
     return NULL;
   }
 
-  Buffer = AllocatePool (Size);
-  return Buffer == NULL ? NULL : Built (Parse (TextDevicePath, Buffer, Size, &Size), Buffer);
+  //
+  // The library's reader of UTF-8 is smaller than that of UTF-16.
+  //
+  Length = 3 * StrLen (TextDevicePath) + 1;
+  Text   = AllocatePool (Length);
+  if (Text == NULL) {
+    return NULL;
+  }
+
+  Path = NULL;
+  if ((nard_string_to_utf8 (TextDevicePath, NARD_NUL_TERMINATED, Text, Length, &Length, NULL) == NARD_OK) &&
+      (nard_device_path_parse (Text, Length, NARD_STYLE_TYPED, NULL, 0, &Size, NULL) == NARD_BUFFER_TOO_SMALL))
+  {
+    Buffer = AllocatePool (Size);
+    if (Buffer != NULL) {
+      Path = Built (nard_device_path_parse (Text, Length, NARD_STYLE_TYPED, Buffer, Size, NULL, NULL), Buffer);
+    }
+  }
+
+  FreePool (Text);
+  return Path;
 }
 
 EFI_DEVICE_PATH_PROTOCOL *
