@@ -154,7 +154,7 @@ static void texts(const char *name, const char *of)
     compare(what, our_printer, their_printer);
 }
 
-/* Times a text as people write it, beside EDK II's reading of the printed text of the same path. */
+/* Times text as people type it, compared with EDK II reading the printed text of the same path. */
 static void written(const char *name, const char *of, const char *printed)
 {
     uint8_t paths[2][256];
@@ -225,7 +225,7 @@ int main(int argc, char **argv)
     texts("a boot entry", "PciRoot(0x0)/Pci(0x1F,0x2)/Sata(0x0,0xFFFF,0x0)"
         "/HD(1,GPT,76543210-BA98-FEDC-0102-030405060708,0x800,0x64000)/\\EFI\\BOOT\\BOOTX64.EFI");
     texts("two nodes", "PciRoot(0x0)/Pci(0x1F,0x2)");
-    written("a boot entry as people write it", "pciroot(0)/pci(31, 2)/sata(0,65535,0)"
+    written("a boot entry as people type it", "pciroot(0)/pci(31, 2)/sata(0,65535,0)"
         "/hd(1,gpt,76543210-ba98-fedc-0102-030405060708,2048,409600)/\\EFI\\BOOT\\BOOTX64.EFI",
         "PciRoot(0x0)/Pci(0x1F,0x2)/Sata(0x0,0xFFFF,0x0)"
         "/HD(1,GPT,76543210-BA98-FEDC-0102-030405060708,0x800,0x64000)/\\EFI\\BOOT\\BOOTX64.EFI");

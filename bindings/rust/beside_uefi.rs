@@ -1,7 +1,7 @@
 //! Compares this crate with the crate `uefi`: every call that both have, with the same random inputs, which have NULs, surrogates,
 //! characters above U+FFFF, separators, and buffers of each size. `bindings/rust/check ARCHIVE CRATE` builds and runs it.
 //!
-//! The answers are results, buffers, errors and what they display. Where docs/DIFFERENCES.md says that answers differ, they must.
+//! The answers are results, buffers, errors and what they display. Where README.md says that answers differ, they must.
 
 use std::collections::BTreeMap;
 use std::fmt::{self, Write};
@@ -454,7 +454,7 @@ macro_rules! answers_of {
 answers_of!(nardcorbel);
 answers_of!(uefi);
 
-/// Returns whether docs/DIFFERENCES.md says that the answers to a call differ.
+/// Returns whether README.md says that the answers to a call differ.
 fn differ(call: &str, input: &Input) -> bool {
     let text = |units: &[u16]| String::from_utf16(&units[..units.len() - 1]).unwrap();
     let slashes = |units: &[u16]| text(units).replace('/', "\\");
@@ -526,9 +526,9 @@ fn main() {
                 eprintln!(
                     "{call}: '{one}', and '{two}' by uefi, although {}",
                     if known {
-                        "DIFFERENCES has a row"
+                        "README has a row"
                     } else {
-                        "DIFFERENCES has no row"
+                        "README has no row"
                     }
                 );
                 eprintln!("text {text:?} {other_text:?}, units {units:x?}, strings {string:x?} {other:x?}, bytes {bytes:x?}, room {room}");
@@ -546,7 +546,7 @@ fn main() {
         .map(|(call, count)| format!("{call} {count}"))
         .collect();
     println!(
-        "{total} answers of {} calls, {failed} of them errors; those differ that DIFFERENCES names: {}",
+        "{total} answers of {} calls, {failed} of them errors; those differ that README names: {}",
         compared.len(),
         rows.join(", ")
     );

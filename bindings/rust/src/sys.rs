@@ -88,6 +88,8 @@ call!(nard_units_from_bytes(bytes: &[u8], buffer: &mut [u16]) -> Result<usize, E
     as (bytes.as_ptr(), bytes.len(), buffer.as_mut_ptr(), buffer.len(), &mut said.length) to said.result);
 call!(nard_packed_length(bytes: &[u8]) -> Result<usize, Error>
     as (bytes.as_ptr(), bytes.len(), &mut said.length) to said.result);
+call!(nard_packed_escape(bytes: &[u8], buffer: &mut [u8]) -> Result<usize, Error>
+    as (bytes.as_ptr(), bytes.len(), buffer.as_mut_ptr(), buffer.len(), &mut said.length) to said.text);
 call!(nard_string_from_utf8(text: &[u8], buffer: &mut [u16]) -> Result<usize, Error>
     as (text.as_ptr(), text.len(), buffer.as_mut_ptr(), buffer.len(), &mut said.length, &mut said.fault) to said.text);
 call!(nard_string_to_utf8(text: &[u16], buffer: &mut [u8]) -> Result<usize, Error>
@@ -120,9 +122,9 @@ call!(nard_path_join(path: &[u16], other: &[u16], buffer: &mut [u16]) -> Result<
     as (path.as_ptr(), path.len(), other.as_ptr(), other.len(), buffer.as_mut_ptr(), buffer.len(), &mut said.length, &mut said.fault) to said.text);
 call!(nard_path_parent(path: &[u16], buffer: &mut [u16]) -> Result<usize, Error>
     as (path.as_ptr(), path.len(), buffer.as_mut_ptr(), buffer.len(), &mut said.length, &mut said.fault) to said.text);
-call!(nard_path_normalize(path: &[u16], buffer: &mut [u16]) -> Result<usize, Error>
+call!(nard_path_normalize_utf16(path: &[u16], buffer: &mut [u16]) -> Result<usize, Error>
     as (path.as_ptr(), path.len(), buffer.as_mut_ptr(), buffer.len(), &mut said.length, &mut said.fault, &mut said.character) to said.text);
-call!(nard_path_normalize_utf8(path: &[u8], buffer: &mut [u16]) -> Result<usize, Error>
+call!(nard_path_normalize(path: &[u8], buffer: &mut [u16]) -> Result<usize, Error>
     as (path.as_ptr(), path.len(), buffer.as_mut_ptr(), buffer.len(), &mut said.length, &mut said.fault, &mut said.character) to said.text);
 call!(nard_fat_name_check(name: &[u16]) -> Result<usize, Error>
     as (name.as_ptr(), name.len(), &mut said.length, &mut said.fault, &mut said.character) to said.result);
@@ -142,6 +144,8 @@ call!(nard_device_path_next_node(path: &[u8], offset: &mut usize, node: &mut Dev
     as (path.as_ptr(), path.len(), offset, node, &mut said.fault) to said.status);
 call!(nard_node_number(data: &[u8], field: u32, number: &mut u64) -> u32
     as (data.as_ptr(), data.len(), field, number));
+call!(nard_device_path_file_path(path: &[u8], buffer: &mut [u8]) -> Result<usize, Error>
+    as (path.as_ptr(), path.len(), buffer.as_mut_ptr(), buffer.len(), &mut said.length, &mut said.fault) to said.text);
 call!(nard_device_path_file_path_utf16(path: &[u8], buffer: &mut [u16]) -> Result<usize, Error>
     as (path.as_ptr(), path.len(), buffer.as_mut_ptr(), buffer.len(), &mut said.length, &mut said.fault) to said.text);
 call!(nard_device_path_format(path: &[u8], style: u32, buffer: &mut [u8]) -> Result<usize, Error>
@@ -184,6 +188,8 @@ call!(nard_boot_name_read(text: &[u8], kind: &mut u32, number: &mut u16) -> u32
     as (text.as_ptr(), text.len(), kind, number));
 call!(nard_boot_name_read_utf16(text: &[u16], kind: &mut u32, number: &mut u16) -> u32
     as (text.as_ptr(), text.len(), kind, number));
+call!(nard_boot_name_write(kind: u32, number: u16, buffer: &mut [u8]) -> Result<usize, Error>
+    as (kind, number, buffer.as_mut_ptr(), buffer.len(), &mut said.length) to said.text);
 call!(nard_boot_name_write_utf16(kind: u32, number: u16, buffer: &mut [u16]) -> Result<usize, Error>
     as (kind, number, buffer.as_mut_ptr(), buffer.len(), &mut said.length) to said.text);
 call!(nard_boot_order_read(order: &[u8], index: usize, number: &mut u16) -> u32

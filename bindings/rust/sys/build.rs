@@ -86,7 +86,7 @@ fn main() {
         matches!(&*processor, "x86_64" | "aarch64") && matches!(&*system, "linux" | "uefi");
     if !is_known && given.is_empty() && variable("DOCS_RS").is_empty() {
         eprintln!(
-            "nardcorbel-sys: there is no static library for {target}, only for Linux and UEFI on x86_64 and aarch64 (set \
+            "nardcorbel-sys: no static library for {target}, only for Linux and UEFI on x86_64 and aarch64 (set \
              NARDCORBEL_LIB_DIR to the directory of a libnardcorbel.a of your own)"
         );
         exit(1);
@@ -142,7 +142,7 @@ fn main() {
         );
         exit(1);
     } else {
-        println!("cargo:warning=there is no {file} for {target}: set NARDCORBEL_LIB_DIR to its directory before you link a program");
+        println!("cargo:warning={file} for {target} not found (set NARDCORBEL_LIB_DIR to its directory before you link a program)");
         println!("cargo:rustc-link-lib=dylib={MISSING}");
     }
 }

@@ -83,6 +83,7 @@ extern "C" {
     pub fn nard_string_matches(text: *const u16, text_length: usize, pattern: *const u16, pattern_length: usize) -> bool;
     pub fn nard_units_from_bytes(bytes: *const u8, bytes_size: usize, buffer: *mut u16, capacity: usize, length: *mut usize) -> u32;
     pub fn nard_packed_length(bytes: *const u8, bytes_size: usize, length: *mut usize) -> u32;
+    pub fn nard_packed_escape(bytes: *const u8, bytes_size: usize, buffer: *mut u8, capacity: usize, size: *mut usize) -> u32;
     pub fn nard_string_from_utf8(text: *const u8, text_size: usize, buffer: *mut u16, capacity: usize, length: *mut usize, fault: *mut usize) -> u32;
     pub fn nard_string_to_utf8(text: *const u16, text_length: usize, buffer: *mut u8, capacity: usize, size: *mut usize, fault: *mut usize) -> u32;
     pub fn nard_string_to_utf8_lossy(text: *const u16, text_length: usize, buffer: *mut u8, capacity: usize, size: *mut usize) -> u32;
@@ -99,8 +100,8 @@ extern "C" {
     pub fn nard_path_push(buffer: *mut u16, capacity: usize, path_length: usize, other: *const u16, other_length: usize, length: *mut usize, fault: *mut usize) -> u32;
     pub fn nard_path_join(path: *const u16, path_length: usize, other: *const u16, other_length: usize, buffer: *mut u16, capacity: usize, length: *mut usize, fault: *mut usize) -> u32;
     pub fn nard_path_parent(path: *const u16, path_length: usize, buffer: *mut u16, capacity: usize, length: *mut usize, fault: *mut usize) -> u32;
-    pub fn nard_path_normalize(path: *const u16, path_length: usize, buffer: *mut u16, capacity: usize, length: *mut usize, fault: *mut usize, character: *mut u16) -> u32;
-    pub fn nard_path_normalize_utf8(path: *const u8, path_size: usize, buffer: *mut u16, capacity: usize, length: *mut usize, fault: *mut usize, character: *mut u16) -> u32;
+    pub fn nard_path_normalize_utf16(path: *const u16, path_length: usize, buffer: *mut u16, capacity: usize, length: *mut usize, fault: *mut usize, character: *mut u16) -> u32;
+    pub fn nard_path_normalize(path: *const u8, path_size: usize, buffer: *mut u16, capacity: usize, length: *mut usize, fault: *mut usize, character: *mut u16) -> u32;
     pub fn nard_fat_name_check(name: *const u16, name_length: usize, length: *mut usize, fault: *mut usize, character: *mut u16) -> u32;
     pub fn nard_fat_name_equal(first: *const u16, first_length: usize, second: *const u16, second_length: usize) -> bool;
     pub fn nard_fat_name_is_short(name: *const u16, name_length: usize) -> bool;
@@ -110,6 +111,7 @@ extern "C" {
     pub fn nard_device_path_needs(path: *const u8, path_size: usize, offset: *mut usize, needed: *mut usize, fault: *mut usize) -> u32;
     pub fn nard_device_path_next_node(path: *const u8, path_size: usize, offset: *mut usize, node: *mut nard_device_node, fault: *mut usize) -> u32;
     pub fn nard_node_number(data: *const u8, data_size: usize, field: u32, number: *mut u64) -> u32;
+    pub fn nard_device_path_file_path(path: *const u8, path_size: usize, buffer: *mut u8, capacity: usize, size: *mut usize, fault: *mut usize) -> u32;
     pub fn nard_device_path_file_path_utf16(path: *const u8, path_size: usize, buffer: *mut u16, capacity: usize, length: *mut usize, fault: *mut usize) -> u32;
     pub fn nard_device_path_format(path: *const u8, path_size: usize, style: u32, buffer: *mut u8, capacity: usize, size: *mut usize, fault: *mut usize) -> u32;
     pub fn nard_device_path_format_utf16(path: *const u8, path_size: usize, style: u32, buffer: *mut u16, capacity: usize, length: *mut usize, fault: *mut usize) -> u32;
@@ -131,6 +133,7 @@ extern "C" {
     pub fn nard_load_option_write(attributes: u32, description: *const u16, description_length: usize, path: *const u8, path_size: usize, optional_data: *const u8, optional_data_size: usize, buffer: *mut u8, capacity: usize, size: *mut usize, fault: *mut usize) -> u32;
     pub fn nard_boot_name_read(text: *const u8, text_size: usize, kind: *mut u32, number: *mut u16) -> u32;
     pub fn nard_boot_name_read_utf16(text: *const u16, text_length: usize, kind: *mut u32, number: *mut u16) -> u32;
+    pub fn nard_boot_name_write(kind: u32, number: u16, buffer: *mut u8, capacity: usize, size: *mut usize) -> u32;
     pub fn nard_boot_name_write_utf16(kind: u32, number: u16, buffer: *mut u16, capacity: usize, length: *mut usize) -> u32;
     pub fn nard_boot_order_read(order: *const u8, order_size: usize, index: usize, number: *mut u16) -> u32;
     pub fn nard_boot_order_insert(order: *mut u16, capacity: usize, count: *mut usize, index: usize, number: u16) -> u32;

@@ -278,7 +278,7 @@ impl Path {
     /// # Ok::<(), nardcorbel::Error>(())
     /// ```
     pub fn normalize_in_buf<'a>(&self, buffer: &'a mut [u16]) -> Result<&'a Self, Error> {
-        let length = sys::nard_path_normalize(self.units(), buffer)
+        let length = sys::nard_path_normalize_utf16(self.units(), buffer)
             .map_err(|error| located(error, self.0.chars(), true))?;
         Ok(written(length, buffer))
     }
@@ -297,7 +297,7 @@ impl Path {
     /// # Ok::<(), nardcorbel::Error>(())
     /// ```
     pub fn normalize_str_in_buf<'a>(text: &str, buffer: &'a mut [u16]) -> Result<&'a Self, Error> {
-        let length = sys::nard_path_normalize_utf8(text.as_bytes(), buffer).map_err(|error| {
+        let length = sys::nard_path_normalize(text.as_bytes(), buffer).map_err(|error| {
             match error.reason {
                 // Each half of the buffer needs as much.
                 Reason::BufferTooSmall => Error::new(error.reason, error.place.saturating_mul(2)),
