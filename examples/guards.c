@@ -96,8 +96,10 @@ COMPARES(string_equal) COMPARES(string_compare) COMPARES(string_equal_ignore_cas
 COMPARES(string_matches) COMPARES(path_equal) COMPARES(path_compare) COMPARES(path_equal_ignore_case) COMPARES(path_matches)
 COMPARES(fat_name_equal) COMPARES(string_equal_until_nul) COMPARES(device_path_is_expansion)
 FINDS(string_check) FINDS(string_length) FINDS(device_path_check)
-WRITES(string_from_utf8) WRITES(string_to_utf8) WRITES(path_parent) WRITES(device_path_file_path_utf16)
+WRITES(string_from_utf8) WRITES(string_to_utf8) WRITES(path_parent)
+WRITES(device_path_file_path) WRITES(device_path_file_path_utf16)
 CONVERTS(units_from_bytes) CONVERTS(fat_from_string) CONVERTS(string_from_fat) CONVERTS(string_to_utf8_lossy)
+CONVERTS(packed_escape)
 FORMATS(device_path_format, device_path_format, number) FORMATS(device_path_format_utf16, device_path_format_utf16, number)
 FORMATS(node_format, node_format, number) FORMATS(node_format_utf16, node_format_utf16, number)
 FORMATS(device_path_parse, device_path_parse, number) FORMATS(device_path_parse_utf16, device_path_parse_utf16, number)
@@ -117,8 +119,8 @@ CALL(path_next_component, IN(0), length, (size_t *)buffer.at, (size_t *)buffer.a
 CALL(path_push, OUT, number, IN(0), length, fault)
 CALL(device_path_needs, IN(0), length, (size_t *)buffer.at, fault)
 CALL(path_join, IN(0), IN(1), OUT, length, fault)
+CALL(path_normalize_utf16, IN(0), OUT, length, fault, JUDGED)
 CALL(path_normalize, IN(0), OUT, length, fault, JUDGED)
-CALL(path_normalize_utf8, IN(0), OUT, length, fault, JUDGED)
 CALL(fat_name_check, IN(0), length, fault, JUDGED)
 CALL(device_path_text_extent, IN(0), number, length, fault)
 CALL(node_number, IN(0), number, buffer.at)
@@ -127,6 +129,7 @@ CALL(device_path_push, OUT, number >> 16, number & 0xffff, IN(0), length, fault)
 CALL(device_path_append, OUT, number, IN(0), length, fault)
 CALL(load_option_write, number, IN(0), IN(1), IN(2), OUT, length, fault)
 CALL(device_path_strip_prefix, IN(0), IN(1), length)
+CALL(boot_name_write, number >> 16, (nard_char16)number, OUT, length)
 CALL(boot_name_write_utf16, number >> 16, (nard_char16)number, OUT, length)
 CALL(version)
 
@@ -274,16 +277,16 @@ static const struct row rows[] = {
     ROW(path_parent, TEXT, .in = {UNITS(u"\\a/b\\c\\d")}, .out = UNITS(u"a\\b\\c")),
     ROW(path_parent, TEXT, .in = {UNITS(u"a\\\\b\\\\c")}, .out = UNITS(u"a\\b\\")),
     FAULT(path_parent, REFUSED, NO_PARENT, UNCHANGED, .in = {UNITS(u"\\a")}), BAD_UNITS(path_parent, REFUSED),
-    ROW(path_normalize, TEXT, .in = {UNITS(u"\\a\\.\\b\\..\\c")}, .out = UNITS(u"a\\c")),
-    ROW(path_normalize, TEXT, .in = {UNITS(u"a\\..")}, .out = UNITS(u"\\")),
-    ROW(path_normalize, TEXT, .in = {UNITS(u"/efi/boot\\../x/.")}, .out = UNITS(u"efi\\x")),
-    FAULT(path_normalize, REFUSED, CLIMBS_ABOVE_ROOT, UNCHANGED, .in = {UNITS(u"/..")}),
-    FAULT(path_normalize, REFUSED, EMPTY_COMPONENT, UNCHANGED, .in = {UNITS(u"a\\\\")}),
-    FAULT(path_normalize, REFUSED, ILLEGAL_CHAR, UNCHANGED, .in = {UNITS(u"a\\?")}, .character = '?'),
-    BAD_UNITS(path_normalize, REFUSED),
-    FAULT(path_normalize_utf8, REFUSED, NOT_UTF8, 1, .in = {BYTES("?\xe2\x82")}),
-    FAULT(path_normalize_utf8, REFUSED, INVALID_CHAR, 1, .in = {BYTES("?\xf0\x9f\x98\x80")}),
-    FAULT(path_normalize_utf8, REFUSED, INTERIOR_NUL, 2, .in = {BYTES("..\0")}),
+    ROW(path_normalize_utf16, TEXT, .in = {UNITS(u"\\a\\.\\b\\..\\c")}, .out = UNITS(u"a\\c")),
+    ROW(path_normalize_utf16, TEXT, .in = {UNITS(u"a\\..")}, .out = UNITS(u"\\")),
+    ROW(path_normalize_utf16, TEXT, .in = {UNITS(u"/efi/boot\\../x/.")}, .out = UNITS(u"efi\\x")),
+    FAULT(path_normalize_utf16, REFUSED, CLIMBS_ABOVE_ROOT, UNCHANGED, .in = {UNITS(u"/..")}),
+    FAULT(path_normalize_utf16, REFUSED, EMPTY_COMPONENT, UNCHANGED, .in = {UNITS(u"a\\\\")}),
+    FAULT(path_normalize_utf16, REFUSED, ILLEGAL_CHAR, UNCHANGED, .in = {UNITS(u"a\\?")}, .character = '?'),
+    BAD_UNITS(path_normalize_utf16, REFUSED),
+    FAULT(path_normalize, REFUSED, NOT_UTF8, 1, .in = {BYTES("?\xe2\x82")}),
+    FAULT(path_normalize, REFUSED, INVALID_CHAR, 1, .in = {BYTES("?\xf0\x9f\x98\x80")}),
+    FAULT(path_normalize, REFUSED, INTERIOR_NUL, 2, .in = {BYTES("..\0")}),
     ROW(fat_name_check, READ, .in = {UNITS(u" a. ")}, .place = 4),
     FAULT(fat_name_check, READ, NAME_EMPTY, UNCHANGED, .in = {UNITS(u"..")}),
     FAULT(fat_name_check, READ, ILLEGAL_CHAR, UNCHANGED, .in = {UNITS(u"a|*")}, .character = '|'), BAD_UNITS(fat_name_check, READ),
@@ -324,6 +327,10 @@ static const struct row rows[] = {
     FAULT(device_path_next_node, STEP, NODE_BEYOND_END, 8, .in = {BYTES(BEYOND)}, .number = 6, .out = NO_SIZES(3)),
     FAULT(device_path_next_node, STEP, NO_END_NODE, 6, .in = {BYTES(PCI)}, .number = 6, .out = NO_SIZES(3)),
     FAULT(device_path_next_node, STEP, NO_END_NODE, 77, .in = {BYTES(PCI)}, .number = 77, .out = NO_SIZES(3)),
+    ROW(device_path_file_path, TEXT, .in = {BYTES(PCI FILE_A "\4\4\12\0/\0\xe9\0\0\0" END)}, .out = BYTES("\\a\\\xc3\xa9\0")),
+    FAULT(device_path_file_path, REFUSED, ODD_BYTES, 10, .in = {BYTES(PCI "\4\4\5\0a" END)}),
+    FAULT(device_path_file_path, REFUSED, INVALID_CHAR, 4, .in = {BYTES("\4\4\10\0\0\xd8\0\0" END)}),
+    BAD_PATHS(device_path_file_path, REFUSED),
     ROW(device_path_file_path_utf16, TEXT, .in = {BYTES(PCI FILE_A "\4\4\12\0/\0b\0\0\0" END)}, .out = UNITS(u"\\a\\b")),
     FAULT(device_path_file_path_utf16, REFUSED, ODD_BYTES, 10, .in = {BYTES(PCI "\4\4\5\0a" END)}),
     FAULT(device_path_file_path_utf16, REFUSED, INVALID_CHAR, 4, .in = {BYTES("\4\4\10\0\0\xd8\0\0" END)}),
@@ -518,6 +525,13 @@ static const struct row rows[] = {
     FAULT(boot_name_read_utf16, READ, NOT_A_NAME, UNCHANGED, .in = {UNITS(u"BootOrder")}, .out = NO_KIND),
     FAULT(boot_name_read_utf16, READ, NO_NUL, UNCHANGED, .in = {OPEN(u"Boot0001")}, .out = NO_KIND),
     FAULT(boot_name_read_utf16, READ, INVALID_CHAR, UNCHANGED, .in = {UNITS(u"Boot\xd800")}, .out = NO_KIND),
+    ROW(boot_name_write, TEXT, .number = 0x1001f, .out = BYTES("Driver001F\0")),
+    ROW(boot_name_write, TEXT, .number = 0x3abcd, .out = BYTES("PlatformRecoveryABCD\0")),
+    FAULT(boot_name_write, REFUSED, NOT_A_NAME, UNCHANGED, .number = 0x40000),
+    ROW(packed_escape, TEXT, .in = {BYTES("a\0\x1b\0\x2e\x20\0\xd8\xe9\0\0\0b\0")},
+        .out = BYTES("a\\u{1B}\\u{202E}\xef\xbf\xbd\xc3\xa9\0")),
+    ROW(packed_escape, TEXT, .in = {BYTES("=\xd8\0\xdex")}, .out = BYTES("\xf0\x9f\x98\x80\0")),
+    ROW(packed_escape, TEXT, .in = {BYTES("")}, .out = BYTES("\0")),
     ROW(boot_name_write_utf16, TEXT, .number = 0x001f, .out = UNITS(u"Boot001F")),
     ROW(boot_name_write_utf16, TEXT, .number = 0x3abcd, .out = UNITS(u"PlatformRecoveryABCD")),
     FAULT(boot_name_write_utf16, REFUSED, NOT_A_NAME, UNCHANGED, .number = 0x40000),
@@ -708,10 +722,10 @@ static void try_halves(const struct halves *it, size_t room)
         memcpy(wanted + middle, it->string.at, it->string.count * sizeof *wanted);
     if (has_normal)
         memcpy(wanted, it->normal.at, it->normal.count * sizeof *wanted);
-    nard_status reason = nard_path_normalize_utf8(bytes, it->bytes.count, units, room, length, fault, refused);
+    nard_status reason = nard_path_normalize(bytes, it->bytes.count, units, room, length, fault, refused);
     if (reason != wanted_reason || *length != wanted_length || *fault != UNCHANGED || *refused != (has_string ? it->character : 0) ||
         (!is_uninitialized && room != 0 && memcmp(units, wanted, room * sizeof *wanted) != 0)) {
-        printf("path_normalize_utf8, line %d, room %zu: WRONG: %s at %zu\n", it->line, room, nard_status_text(reason), *length);
+        printf("path_normalize, line %d, room %zu: WRONG: %s at %zu\n", it->line, room, nard_status_text(reason), *length);
         failed = true;
     }
 }

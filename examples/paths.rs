@@ -69,7 +69,7 @@ mod header {
             length: *mut usize,
             fault: *mut usize,
         ) -> u32;
-        pub fn nard_path_normalize(
+        pub fn nard_path_normalize_utf16(
             path: *const u16,
             path_length: usize,
             buffer: *mut u16,
@@ -231,7 +231,7 @@ fn normal_in<'a>(path: &[u16], buffer: &'a mut [u16]) -> Result<&'a [u16], (Stat
     let (mut len, mut character) = (0, 0);
     // SAFETY: each slice is passed with its length, and nothing overlaps.
     let status = unsafe {
-        header::nard_path_normalize(
+        header::nard_path_normalize_utf16(
             path.as_ptr(),
             path.len(),
             buffer.as_mut_ptr(),

@@ -47,26 +47,6 @@ static long read_variable(const char *folder, const char *name)
     return is_whole && ATTRIBUTES <= size ? (long)(size - ATTRIBUTES) : -1;
 }
 
-/* Returns whether a unit is a control character, or a character that changes the direction of a text or ends its line. */
-static bool is_hidden(uint16_t unit)
-{
-    return unit < 0x20 || (0x7f <= unit && unit < 0xa0) || unit == 0x61c || (unit & ~1) == 0x200e
-        || (0x2028 <= unit && unit < 0x202f) || (0x2066 <= unit && unit < 0x206a);
-}
-
-/* Prints a description: `?` for each unit that is hidden, and U+FFFD for a surrogate without a partner. */
-static void print_description(const uint8_t *description, size_t length)
-{
-    static uint16_t units[MOST_BYTES / 2];
-    if (nard_units_from_bytes(description, 2 * length, units, MOST_BYTES / 2, NULL) != NARD_OK)
-        return;
-    for (size_t i = 0; i < length; i++)
-        if (is_hidden(units[i]))
-            units[i] = '?';
-    if (nard_string_to_utf8_lossy(units, length, shown, MOST_SHOWN, NULL) == NARD_OK)
-        fputs(shown, stdout);
-}
-
 /* Prints a variable that has numbers of entries, if it exists. */
 static void print_numbers(const char *folder, const char *name)
 {
@@ -96,7 +76,8 @@ static bool print_entry(const char *folder, const char *name)
         return false;
     }
     printf("%s%c ", name, option.attributes & ACTIVE ? '*' : ' ');
-    print_description(option.description, option.description_length);
+    if (nard_load_option_description(&option, shown, MOST_SHOWN, NULL) == NARD_OK)
+        fputs(shown, stdout);
     status = nard_device_path_format(option.path, option.path_size, NARD_STYLE_UEFI, shown, MOST_SHOWN, NULL, NULL);
     printf("\t%s\n", status == NARD_OK ? shown : "");
     return status == NARD_OK;

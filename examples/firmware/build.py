@@ -16,14 +16,14 @@ PROGRAMS = {"menu": ["menu", "lines", "reader", "memory"], "hello": ["hello"], "
 
 
 class Wrong(Exception):
-    """Something is not as it has to be."""
+    """Something is wrong."""
 
 
 def run(*words, **how):
     ran = subprocess.run([str(it) for it in words], stdout=subprocess.PIPE, stderr=subprocess.STDOUT, **how)
     if ran.returncode:
         said = ran.stdout.decode(errors="replace").splitlines()
-        said = [it for it in said if "REFUSED" in it] or said
+        said = [it for it in said if "rejected: " in it] or said
         raise Wrong(f"status {ran.returncode} of {pathlib.Path(words[0]).name}: " + "\n".join(said[:12]))
     return ran.stdout.decode(errors="replace")
 
@@ -44,13 +44,16 @@ def by_gnu_efi(name, room, archives):
         told = [] if it == "planted" else ["-mno-red-zone"]
         objects.append(room / f"{it}.o")
         run("gcc", *FREESTANDING, "-fpic", "-DGNU_EFI_USE_MS_ABI", *told, "-c", HERE / f"{it}.c", "-o", objects[-1])
-    made = room / f"{name}.so"
+    return linked(room / f"{name}.efi", *objects, archives / "x86_64/libnardcorbel_firmware.a")
+
+
+def linked(made, *parts):
+    """Links objects and archives to a program for firmware, over gnu-efi: its file."""
     run("ld", "-nostdlib", "-znocombreloc", "-T", "/usr/lib/elf_x86_64_efi.lds", "-shared", "-Bsymbolic", "--no-undefined",
-        "--exclude-libs", "ALL", "/usr/lib/crt0-efi-x86_64.o", *objects, "-o", made, archives / "x86_64/libnardcorbel_firmware.a",
-        "-L/usr/lib", "-lgnuefi")
+        "--exclude-libs", "ALL", "/usr/lib/crt0-efi-x86_64.o", *parts, "-o", made.with_suffix(".so"), "-L/usr/lib", "-lefi", "-lgnuefi")
     run("objcopy", *(word for it in SECTIONS for word in ("-j", it)), "--target", "efi-app-x86_64", "--subsystem=10",
-        made, room / f"{name}.efi")
-    return room / f"{name}.efi"
+        made.with_suffix(".so"), made)
+    return made
 
 
 def alone(name, room):

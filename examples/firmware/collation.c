@@ -1,7 +1,7 @@
 /*
  * Compares the library's results for names without case, patterns and names on FAT volumes with the firmware's results: those of
  * its Unicode collation for English (UEFI Specification 2.10, section 21.1), and of its file system, on the disk from which it
- * started this program. Prints the number of comparisons, and the number of differences by their reasons in docs/DIFFERENCES.md.
+ * started this program. Prints the number of comparisons, and the number of differences by their reasons in docs/FROM_EDK2.md.
  * Prints each difference without a known reason. At the end it prints how long a pattern of many stars takes in each.
  */
 #include <efi.h>

@@ -6,7 +6,7 @@ EFI_STATUS efi_main(EFI_HANDLE image, EFI_SYSTEM_TABLE *table)
 {
     static const nard_char16 path[] = u"\\EFI\\debian\\..\\BOOT\\.\\BOOTX64.EFI";
     nard_char16 normal[64];
-    nard_status status = nard_path_normalize(path, NARD_NUL_TERMINATED, normal, 64, NULL, NULL, NULL);
+    nard_status status = nard_path_normalize_utf16(path, NARD_NUL_TERMINATED, normal, 64, NULL, NULL, NULL);
     (void)image;
     table->ConOut->OutputString(table->ConOut, status == NARD_OK ? (CHAR16 *)normal : (CHAR16 *)u"invalid path");
     table->ConOut->OutputString(table->ConOut, (CHAR16 *)u"\r\n");

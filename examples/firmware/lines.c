@@ -66,7 +66,7 @@ static bool has_long_name(const uint16_t *normal, size_t length)
 bool lines_normal(const struct reader *reader, uint16_t *normal, size_t *length, const char **reason, uint16_t *character)
 {
     nard_status status =
-        nard_path_normalize(reader->path, reader->path_length + 1, normal, READER_MOST_UNITS, length, NULL, character);
+        nard_path_normalize_utf16(reader->path, reader->path_length + 1, normal, READER_MOST_UNITS, length, NULL, character);
     *reason = status != NARD_OK ? nard_status_text(status) : "a name is longer than file systems hold";
     return status == NARD_OK && !has_long_name(normal, *length);
 }
@@ -104,10 +104,10 @@ static bool put_file(const struct reader *reader)
         lines_put(", a fallback");
     enum lines_found found = lines_look(reader, normal);
     switch (found) {
-    case LINES_THERE: lines_put(": there\n"); break;
-    case LINES_FOLDER: lines_put(": a folder\n"); break;
-    case LINES_NOT_THERE: lines_put(": not there\n"); break;
-    case LINES_NO_DISK: lines_put(": its disk is not there\n"); break;
+    case LINES_THERE: lines_put(": found\n"); break;
+    case LINES_FOLDER: lines_put(": is a directory\n"); break;
+    case LINES_NOT_THERE: lines_put(": not found\n"); break;
+    case LINES_NO_DISK: lines_put(": disk not found\n"); break;
     case LINES_UNKNOWN: lines_put("\n"); break;
     }
     return found == LINES_THERE;

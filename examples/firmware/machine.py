@@ -81,6 +81,16 @@ def command(processor, disk, flash, entries, serial, added=("-net", "none")):
             "-drive", f"if=none,id=disk,format=raw,file={disk}", "-device", "virtio-blk-pci,drive=disk"]
 
 
+def first_files(files):
+    """An archive that Linux unpacks, of programs by their names, with the device of the console."""
+    fields = lambda name, mode, data: (0, mode, 0, 0, 1, 0, len(data), 0, 0, 5, 1, len(name) + 1, 0)
+    head = lambda name, mode, data: b"070701" + b"".join(b"%08X" % it for it in fields(name, mode, data)) + name
+    node = lambda *it: head(*it).ljust((len(head(*it)) + 4) // 4 * 4, b"\0") + it[2] + b"\0" * (-len(it[2]) % 4)
+    nodes = [(b"dev", 0o40755, b""), (b"dev/console", 0o20600, b""), *((name, 0o100755, data) for name, data in files.items()),
+             (b"TRAILER!!!", 0, b"")]
+    return b"".join(node(*it) for it in nodes)
+
+
 def commands(said):
     """The commands that a first program of Linux ran, as they are printed: the words of each, what it prints, and its status."""
     return re.findall(r"^\$ (.*)\n((?:.*\n)*?)status (\d+)$", said, re.M)
@@ -107,16 +117,19 @@ class Machine:
 
     def wait_for(self, words, after=0):
         """Reads on until a line is printed after the first `after` characters: how many there are with it."""
-        wanted = f"\n{words}\n"
+        return self.wait_for_text(f"\n{words}\n", after) - 1
+
+    def wait_for_text(self, wanted, after=0):
+        """The same with a text, whatever is before and after it."""
         while (found := self.text().find(wanted, after)) < 0:
             left = self.deadline - time.monotonic()
             if left <= 0 or not select.select([self.process.stdout], [], [], left)[0]:
-                raise Silent(f"it never prints '{words}'; at the end it prints\n{self.text()[-600:]}")
+                raise Silent(f"it never prints '{wanted.strip()}'; at the end it prints\n{self.text()[-600:]}")
             part = os.read(self.process.stdout.fileno(), 65536)
             if not part:
-                raise Silent(f"it ends before it prints '{words}':\n{self.text()[-600:]}")
+                raise Silent(f"it ends before it prints '{wanted.strip()}':\n{self.text()[-600:]}")
             self.said += part
-        return found + len(wanted) - 1
+        return found + len(wanted)
 
     def press(self, keys):
         self.process.stdin.write(keys)

@@ -2,7 +2,7 @@
  * A boot menu: an EFI application that shows the entries of BootOrder, says for each file that they name whether it
  * exists, shows the device path of the chosen entry, and starts it. A variable may contain any bytes: see reader.h.
  *
- * Up and down choose, Enter starts, q ends.
+ * Up and Down select, Enter boots, q quits.
  */
 #include <efi.h>
 
@@ -188,11 +188,11 @@ static void start(uint16_t number)
     while (reader_next(&reader)) {
         if (!lines_normal(&reader, normal, &length, &reason, &character) || lines_look(&reader, normal) != LINES_THERE)
             continue;
-        lines_put("starts ");
+        lines_put("starting ");
         lines_put_units(normal, length);
         lines_put("\n");
         EFI_STATUS status = start_file(volume_of(&reader), normal, length, size);
-        lines_put("it ends: ");
+        lines_put("exited with ");
         put_status(status);
         return;
     }
@@ -224,7 +224,7 @@ static void show_entries(void)
     }
     if (MOST_ENTRIES < size / 2) {
         lines_put_number(size / 2 - MOST_ENTRIES);
-        lines_put(" more are left out\n");
+        lines_put(" more not shown\n");
     }
 }
 
@@ -289,7 +289,7 @@ EFI_STATUS efi_main(EFI_HANDLE handle, EFI_SYSTEM_TABLE *system_table)
     table->ConOut->ClearScreen(table->ConOut);
     lines_put("\nboot menu\n");
     show_entries();
-    lines_put("up and down choose, Enter starts, q ends\n");
+    lines_put("Up and Down select, Enter boots, q quits\n");
     let_choose();
     lines_put("boot menu ends\n");
     return EFI_SUCCESS;

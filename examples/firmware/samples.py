@@ -1,10 +1,10 @@
 #!/usr/bin/env python3
 """Boot entries for the tests of the reader and the menu (UEFI Specification 2.10, sections 3.1.3, 10.2 and 10.3).
 
-usage: samples.py COUNT FILE    writes these, large ones, and COUNT that are made and mutated by a fixed seed, each after
-                                its length in four bytes
+usage: samples.py COUNT FILE    writes the named and large entries, and COUNT generated and mutated ones from a fixed seed, each after its
+                                length in four bytes
 
-`named` has those that the menu is tested with, each with what it shows.
+`named` returns those that the menu is tested with, and what it shows for each.
 """
 import random
 import struct

@@ -1,9 +1,9 @@
 #!/usr/bin/env python3
-"""What the menu has to print for an entry, from the UEFI Specification and the rules of paths alone.
+"""A second implementation of what the menu prints for an entry, from the UEFI Specification and the rules of paths.
 
 usage: second_reader.py FILE    prints the lines of each entry in a file that samples.py wrote, numbered from 0
 
-It shares nothing with reader.c: it takes an entry apart into lists, and joins these.
+It shares no code with reader.c: it splits an entry into lists and joins these.
 """
 import re
 import struct

@@ -1,4 +1,4 @@
-"""Writes variables into the flash of OVMF and AAVMF, as a firmware that checks nothing would leave them there.
+"""Writes variables into the flash of OVMF and AAVMF, as a firmware that checks nothing would leave them there, and reads them.
 
 The flash begins with the header of a firmware volume, and that with the header of a store of authenticated variables (EDK II,
 MdeModulePkg/Include/Guid/VariableFormat.h): each variable is a header of 60 bytes, its name, its data, and bytes up to
@@ -31,3 +31,15 @@ def with_variables(flash, variables):
         raise ValueError("the store is too small")
     start = volume + 28
     return flash[:start] + made + b"\xff" * (room - len(made)) + flash[start + room :]
+
+
+def variables_of(flash):
+    """The variables of a flash, whatever their GUIDs: their data by their names."""
+    at, found = struct.unpack_from("<H", flash, 48)[0] + 28, {}
+    while struct.unpack_from("<H", flash, at)[0] == START:
+        names, size = struct.unpack_from("<II", flash, at + 36)
+        data = at + 60 + names
+        if flash[at + 2] == ADDED:
+            found[flash[at + 60 : data - 2].decode("utf-16-le")] = flash[data : data + size]
+        at = data + size + -(names + size) % 4
+    return found

@@ -17,15 +17,9 @@ enum { MOST = 4096 };
 
 static bool check(const char *name)
 {
-    static nard_char16 text[MOST], path[MOST];
-    size_t length = 0;
+    static nard_char16 path[2 * MOST + 2];
     nard_char16 character = 0;
-    nard_status status = nard_string_from_utf8(name, NARD_NUL_TERMINATED, text, MOST, &length, NULL);
-    /* A path that is added to an empty one has its slashes replaced. */
-    if (status == NARD_OK)
-        status = nard_path_push(path, MOST, 0, text, length, NULL, NULL);
-    if (status == NARD_OK)
-        status = nard_path_check(path, MOST, NULL, NULL, &character);
+    nard_status status = nard_path_normalize(name, NARD_NUL_TERMINATED, path, 2 * MOST + 2, NULL, NULL, &character);
 
     printf("%s: %s", name, status == NARD_OK ? "accepted" : nard_status_text(status));
     if (character != 0)

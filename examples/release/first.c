@@ -9,7 +9,7 @@ int main(void)
     char line[sizeof text];
     size_t fault = 0;
 
-    nard_status status = nard_path_normalize_utf8(text, NARD_NUL_TERMINATED, normal, 2 * sizeof text, NULL, &fault, NULL);
+    nard_status status = nard_path_normalize(text, NARD_NUL_TERMINATED, normal, 2 * sizeof text, NULL, &fault, NULL);
     if (status == NARD_OK)
         status = nard_string_to_utf8(normal, NARD_NUL_TERMINATED, line, sizeof line, NULL, &fault);
     if (status != NARD_OK)
