@@ -121,7 +121,7 @@ impl<'a> CheckedNodes<'a> {
 }
 
 /// Gives each node before the end node, in order. At the first malformed node it gives the error
-/// with which [`DevicePath::from_bytes`](crate::DevicePath::from_bytes) refuses the bytes. After
+/// with which [`DevicePath::from_bytes`](crate::DevicePath::from_bytes) rejects the bytes. After
 /// the last node, and after an error, it always gives `None`. Does not allocate.
 impl<'a> Iterator for CheckedNodes<'a> {
     type Item = Result<DevicePathNode<'a>, DevicePathError>;

@@ -109,7 +109,7 @@ impl<'a> DevicePathInstance<'a> {
     /// buffer, with a NUL, and returns its length without the NUL. The rest of the buffer is
     /// unchanged.
     ///
-    /// Fails with `Name` if that call refuses a name, for the same node, and otherwise with
+    /// Fails with `Name` if that call rejects a name, for the same node, and otherwise with
     /// `BufferTooSmall` if the buffer is too small. The buffer is then unchanged. Does not
     /// allocate.
     ///

@@ -35,7 +35,7 @@ pub fn paths_are_read()
 {}
 
 /// At the end of the path that a buffer begins with, [`push_at_in_buf`](crate::push_at_in_buf) does
-/// as [`push_in_buf`](crate::push_in_buf): it refuses the same nodes, and otherwise writes the same
+/// as [`push_in_buf`](crate::push_in_buf): it rejects the same nodes, and otherwise writes the same
 /// path.
 pub fn pushed_at_the_end()
     ensures refused { PushedAtRefused }

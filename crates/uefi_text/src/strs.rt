@@ -346,7 +346,7 @@ impl<'a> CStr16<'a> {
         Ok(unsafe { String::from_utf8_unchecked(bytes) })
     }
 
-    /// Writes the characters of the text to a sink, in order, up to the first that it refuses. The
+    /// Writes the characters of the text to a sink, in order, up to the first that it rejects. The
     /// sink then contains the characters before that one.
     ///
     /// The call offers the sink 64 characters at a time, by [`CharSink::write_whole`]. If the sink
@@ -621,7 +621,7 @@ impl<'a> Char16Slice<'a> {
         sink.write_whole(unsafe { str::from_utf8_unchecked(&room[..len]) })
     }
 
-    /// Adds at most [`PRINTED`] characters to a sink, up to the first that it refuses.
+    /// Adds at most [`PRINTED`] characters to a sink, up to the first that it rejects.
     #[inline(always)]
     fn write_block_to<W: CharSink>(&self, sink: &mut W) -> fmt::Result
         requires { length (units_of self.now) ≤ 64 }
@@ -636,7 +636,7 @@ impl<'a> Char16Slice<'a> {
         self.write_each_to(sink)
     }
 
-    /// Adds the characters to a sink, one by one, up to the first that it refuses.
+    /// Adds the characters to a sink, one by one, up to the first that it rejects.
     fn write_each_to<W: CharSink>(&self, sink: &mut W) -> fmt::Result
         ensures ok { OnOk result (W.text sink.new ≡ W.text sink.old ++ encode_utf8_all (units_of self.now)) }
         ensures err { OnErr result ((k : ℕ) × (k < length (units_of self.now))
