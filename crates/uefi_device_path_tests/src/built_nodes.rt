@@ -1,6 +1,6 @@
 //! Built nodes, and their bytes by the UEFI Specification, section 10.3.
 //!
-//! The view of each kind reads the fields of a built node at the positions that `examples/efivar/layouts`
+//! The view of each kind reads the fields of a built node at the positions that `checks/efivar/layouts`
 //! compares with libefivar's structs. So the rows here have only the kinds for which libefivar has no struct,
 //! and the kinds with a reserved field, which is zero and which no view shows. All other data counts up: 1,
 //! 2, 3.

@@ -1,4 +1,4 @@
-//! Disks of sgdisk and sfdisk, and the partitions that sfdisk lists, by `examples/partitions/disks`.
+//! Disks of sgdisk and sfdisk, and the partitions that sfdisk lists, by `checks/partitions/disks`.
 
 use uefi_partitions::{GptError, PartitionError};
 

@@ -1,4 +1,4 @@
-"""Builds the programs beside this file for firmware, over the archives of tools/firmware-lib."""
+"""Builds the programs of examples/firmware and of this directory for firmware, with the archives of tools/firmware-lib."""
 import importlib.machinery
 import importlib.util
 import pathlib
@@ -6,8 +6,9 @@ import subprocess
 
 HERE = pathlib.Path(__file__).resolve().parent
 TOP = HERE.parent.parent
+SAMPLES = TOP / "examples/firmware"
 GNU_EFI = ["-I/usr/include/efi", "-I/usr/include/efi/x86_64"]
-STRICT = ["-O2", "-Wall", "-Wextra", "-Werror", f"-I{TOP / 'include'}"]
+STRICT = ["-O2", "-Wall", "-Wextra", "-Werror", f"-I{TOP / 'include'}", f"-I{SAMPLES}"]
 FREESTANDING = ["-std=c11", "-ffreestanding", "-fno-stack-protector", "-fshort-wchar", *STRICT, *GNU_EFI]
 SECTIONS = [".text", ".sdata", ".data", ".dynamic", ".dynsym", ".rel", ".rela", ".rel.*", ".rela.*", ".reloc"]
 PROGRAMS = {"menu": ["menu", "lines", "reader", "memory"], "hello": ["hello"], "order": ["order"],
@@ -36,6 +37,11 @@ def of_file(path):
     return module
 
 
+def source_of(name):
+    """Returns the file of a part of a program."""
+    return next(it for it in (SAMPLES / f"{name}.c", HERE / f"{name}.c") if it.is_file())
+
+
 def by_gnu_efi(name, room, archives):
     """Builds a program of PROGRAMS in a folder, by gcc and gnu-efi: its file."""
     objects = []
@@ -43,7 +49,7 @@ def by_gnu_efi(name, room, archives):
         # The planted function alone is not told that there is no red zone.
         told = [] if it == "planted" else ["-mno-red-zone"]
         objects.append(room / f"{it}.o")
-        run("gcc", *FREESTANDING, "-fpic", "-DGNU_EFI_USE_MS_ABI", *told, "-c", HERE / f"{it}.c", "-o", objects[-1])
+        run("gcc", *FREESTANDING, "-fpic", "-DGNU_EFI_USE_MS_ABI", *told, "-c", source_of(it), "-o", objects[-1])
     return linked(room / f"{name}.efi", *objects, archives / "x86_64/libnardcorbel_firmware.a")
 
 
@@ -59,7 +65,7 @@ def linked(made, *parts):
 def alone(name, room):
     """Builds a program that needs no archive, by clang for x86-64: its file."""
     made = room / f"{name}.efi"
-    run("clang", "--target=x86_64-unknown-windows", *FREESTANDING, "-c", HERE / f"{name}.c", "-o", room / f"{name}.obj")
+    run("clang", "--target=x86_64-unknown-windows", *FREESTANDING, "-c", source_of(name), "-o", room / f"{name}.obj")
     run("lld-link", "-subsystem:efi_application", "-entry:efi_main", "-nodefaultlib", room / f"{name}.obj", f"-out:{made}")
     return made
 
@@ -73,7 +79,7 @@ def by_lld(processor):
         convention = [] if processor == "x86_64" else ["-DEFIAPI=", f"-I{room}"]
         objects = [room / f"{it}.obj" for it in PROGRAMS[name]]
         for it, made in zip(PROGRAMS[name], objects):
-            run("clang", f"--target={processor}-unknown-windows", *FREESTANDING, *convention, "-c", HERE / f"{it}.c", "-o", made)
+            run("clang", f"--target={processor}-unknown-windows", *FREESTANDING, *convention, "-c", source_of(it), "-o", made)
         run("lld-link", "-subsystem:efi_application", "-entry:efi_main", "-nodefaultlib", *objects,
             archives / processor / "nardcorbel_firmware.lib", f"-out:{room / name}.efi")
         return room / f"{name}.efi"
