@@ -12,7 +12,6 @@ pub mod Prefixes
 pub mod Accepting
 pub mod Writing
 pub mod Decoding
-pub mod Lanes
 pub mod Values
 pub mod Items
 pub mod Runs

@@ -1,22 +1,27 @@
 -- Texts as UTF-16, written into the prefix of a buffer.
 use Rattle.std.proofs.Common.{◌≡◌, ◌∙◌, ap, sym, refl, ℕ, ◌+◌, ◌<◌, ◌≤◌, if◌then◌else◌, Bool, not, List, [], ◌∷◌, ◌++◌, append_assoc, length, take, drop, get_or, set, suc, Option, Some, None, arith, inl, inr}
 use Rattle.std.specs.Char.Escape.{encode_utf16}
-use Rattle.std.specs.List.{position, position_or_len, find}
+use Rattle.std.specs.List.{position, position_or_len, find, range_with_len}
 use Rattle.std.specs.Option.{option_or}
+use Rattle.std.specs.Simd.Lanes.{pick_l}
 use Rattle.std.proofs.lemmas.Grind.{common_steps, elements, flat_map-append}
-use Rattle.std.proofs.lemmas.List.{drop-drop, drop_at, flat_map_more, length-append, length-drop, set_split, take_at}
+use Rattle.std.proofs.lemmas.List.{drop-drop, drop_at, flat_map_more, length-append, length-drop, set_split, take_all, take_at}
 use Rattle.std.proofs.lemmas.List.Folds.{find_at, position_or_len_push}
 use Rattle.std.proofs.lemmas.List.Quantifiers.{position-Some}
 use Rattle.std.proofs.lemmas.List.Sums.{prefix_len-le-length}
 use Rattle.std.proofs.lemmas.Option.{slice_get-get_or, slice_get_past}
+use Rattle.std.proofs.lemmas.Simd.{pick_l-range_with_len}
 use Rattle.std.proofs.lemmas.Bool.{cases_lt, lt-ltb}
 use Rattle.std.proofs.Math.Seq.{get_or-append_seam, take-append_seam}
-use Rattle.uefi_text.proofs.Lanes.{each_place}
 use Rattle.uefi_text.proofs.UnitBytes.{set_two}
 use Rattle.uefi_text.specs.FromStr.{is_deciding_char}
 use Rattle.uefi_text.specs.FromStrWithBuf.{from_str_with_buf_refusal_at, refusal_of_char_at, from_str_with_buf_refusal, utf16, with_units, with_text}
 use Rattle.uefi_text.specs.Units.{nul_terminated}
 use Rattle.uefi_text.specs.declared.errors.FromStrWithBufError.TheVariants.{BufferTooSmall}
+
+-- units, one by one
+each_place : (n : ℕ) (us : List ℕ) → length us ≡ n → us ≡ pick_l 0 us (range_with_len 0 n)
+each_place n us e = sym (pick_l-range_with_len 0 us 0 n (omega (arith, e)) ∙ take_all n us (omega (arith, e)))
 
 -- units that have room, and then more units after them
 with_units-after : (old units more : List ℕ) → length units ≤ length old

@@ -13,7 +13,6 @@ ghost use Rattle.uefi_text.specs.UnitTexts.{written_len};
 use crate::scan::{count_wide, find_deciding_place, is_ascii, narrow, widen};
 use crate::unit_sink::BufferTooSmall;
 use std::alloc::{AllocError, Allocator};
-use std::simd::prelude::*;
 
 /// The number of characters that are printed at a time.
 pub(crate) const PRINTED: usize = 64;
@@ -62,96 +61,17 @@ fn write_unit(bytes: &mut [u8], place: usize, unit: u16) -> usize
     place + 3
 }
 
-/// Writes the UTF-8 of units from a place on, one by one, and returns the place after them.
-#[inline(always)]
-fn write_each(bytes: &mut [u8], place: usize, units: &[u16]) -> usize
-    requires { place + length (encode_utf8_all units.now) ≤ length bytes.old }
-    ensures end { result ≡ place + length (encode_utf8_all units.now) }
-    ensures bytes { take result bytes.new ≡ take place bytes.old ++ encode_utf8_all units.now }
-{
-    let mut end = place;
-    for unit in units {
-        end = write_unit(bytes, end, *unit);
-    }
-    end
-}
-
-/// The UTF-8 of eight units that have three bytes each, the first 16 bytes and the last 8.
-#[inline(always)]
-fn eight_of_three_bytes(units: u16x8) -> (u8x16, u8x8)
-    requires { (k : ℕ) → k < 8 → 0x800 ≤ slice_index units k }
-    ensures { result.0 ++ result.1 ≡ encode_utf8_all units }
-{
-    let low_six = u16x8::splat(63);
-    let first = ((units >> u16x8::splat(12)) + u16x8::splat(0xe0)).cast::<u8>();
-    let second = (((units >> u16x8::splat(6)) & low_six) + u16x8::splat(0x80)).cast::<u8>();
-    let third = ((units & low_six) + u16x8::splat(0x80)).cast::<u8>();
-    let firsts: u8x16 = first.shuffle(
-        second,
-        [0, 1, 2, 3, 4, 5, 6, 7, 8, 9, 10, 11, 12, 13, 14, 15],
-    );
-    let thirds: u8x16 = third.swizzle([0, 1, 2, 3, 4, 5, 6, 7, 0, 1, 2, 3, 4, 5, 6, 7]);
-    let front = firsts.shuffle(
-        thirds,
-        [0, 8, 16, 1, 9, 17, 2, 10, 18, 3, 11, 19, 4, 12, 20, 5],
-    );
-    let back = firsts.shuffle(thirds, [13, 21, 6, 14, 22, 7, 15, 23]);
-    (front, back)
-}
-
-/// Writes lanes from a place on.
-#[inline(always)]
-fn store<const N: usize>(bytes: &mut [u8], place: usize, lanes: Simd<u8, N>)
-    requires { place + N ≤ length bytes.old }
-    ensures { take (place + N) bytes.new ≡ take place bytes.old ++ lanes.entry }
-{
-    lanes.copy_to_slice(&mut bytes[place..]);
-}
-
-/// Writes the UTF-8 of eight units that have three bytes each from a place on.
-#[inline(always)]
-fn write_wide(bytes: &mut [u8], place: usize, units: u16x8)
-    requires wide { (k : ℕ) → k < 8 → 0x800 ≤ slice_index units k }
-    requires room { place + length (encode_utf8_all units) ≤ length bytes.old }
-    ensures len { length (encode_utf8_all units) ≡ 24 }
-    ensures bytes { take (place + 24) bytes.new ≡ take place bytes.old ++ encode_utf8_all units }
-{
-    let (front, back) = eight_of_three_bytes(units);
-    store(bytes, place, front);
-    store(bytes, place + 16, back);
-}
-
-/// Writes the UTF-8 of at most eight units from a place on, and returns the place after them. Eight that
-/// have three bytes each are written together.
-#[inline(always)]
-fn write_few(bytes: &mut [u8], place: usize, units: &[u16]) -> usize
-    requires few { length units.now ≤ 8 }
-    requires room { place + length (encode_utf8_all units.now) ≤ length bytes.old }
-    ensures end { result ≡ place + length (encode_utf8_all units.now) }
-    ensures bytes { take result bytes.new ≡ take place bytes.old ++ encode_utf8_all units.now }
-{
-    if units.len() < 8 {
-        return write_each(bytes, place, units);
-    }
-    let lanes = u16x8::from_slice(units);
-    if lanes.simd_ge(u16x8::splat(0x800)).to_bitmask() != 0xff {
-        return write_each(bytes, place, units);
-    }
-    write_wide(bytes, place, lanes);
-    place + 24
-}
-
-/// Writes the UTF-8 of units to the start of a slice of bytes, eight units at a time, and returns
-/// the number of bytes that it wrote.
+/// Writes the UTF-8 of units to the start of a slice of bytes, and returns the number of bytes that
+/// it wrote.
 #[inline(never)]
-fn write_by_eight(bytes: &mut [u8], units: &[u16]) -> usize
+fn write_units(bytes: &mut [u8], units: &[u16]) -> usize
     requires { length (encode_utf8_all units.now) ≤ length bytes.old }
     ensures len { result ≡ length (encode_utf8_all units.now) }
     ensures bytes { take result bytes.new ≡ encode_utf8_all units.now }
 {
     let mut end = 0;
-    for few in units.chunks(8) {
-        end = write_few(bytes, end, few);
+    for unit in units {
+        end = write_unit(bytes, end, *unit);
     }
     end
 }
@@ -167,7 +87,7 @@ pub(crate) fn write_utf8(bytes: &mut [u8], units: &[u16]) -> usize
         narrow(&mut bytes[..units.len()], units);
         return units.len();
     }
-    write_by_eight(bytes, units)
+    write_units(bytes, units)
 }
 
 /// Does what [`write_utf8`] does, of at most [`PRINTED`] characters of Latin-1.
@@ -193,7 +113,7 @@ fn add_wide<A: Allocator>(bytes: &mut Vec<u8, A>, units: &[u16]) -> Result<(), A
         return Err(AllocError);
     };
     bytes.resize(end, 0)?;
-    write_by_eight(&mut bytes[start..], units);
+    write_units(&mut bytes[start..], units);
     Ok(())
 }
 
@@ -326,7 +246,7 @@ fn fill_lossy(units: &[u16], bytes: &mut [u8])
         return;
     }
     if find_deciding_place(units).is_none() {
-        write_by_eight(bytes, units);
+        write_units(bytes, units);
         return;
     }
     let mut end = 0;

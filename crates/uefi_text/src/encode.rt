@@ -1,5 +1,5 @@
 //! Code units of Rust texts: in a vector, if the text is UCS-2, or in a buffer; and compared with
-//! other units. Characters are decoded one by one, or eight at a time if each has three bytes.
+//! other units.
 ghost use Rattle.std.specs.Prelude.{All, IsTrue, ◌↔◌, ◌≢◌, ◌≡◌, ◌+◌, ◌<◌, ◌≤◌, ◌++◌, if◌then◌else◌, None, Some, drop, find, length, take, unwrap_or, IfOk, IfErr, IfSome, IsSome};
 ghost use Rattle.std.specs.Option.{SomeIff};
 ghost use Rattle.std.specs.Vec.{vec_len, vec_capacity};
@@ -95,41 +95,10 @@ fn units_of_few_chars<A: Allocator>(alloc: A, text: &str) -> Result<Vec<u16, A>,
     Ok(units)
 }
 
-/// Reads the first eight characters of a text if each has three bytes, and returns the rest.
+/// Reads the first eight characters of a text if a UCS-2 text can contain each of them, and returns
+/// the rest.
 #[inline(always)]
-fn read_wide<'a>(text: &'a str, eight: &mut [u16; 8]) -> Option<&'a str>
-    ensures { IfSome result (λ rest. (chars text.now ≡ eight.new ++ chars rest.now) × IsUtf8 rest.now
-        × All IsAcceptedChar eight.new) }
-{
-    let bytes = text.as_bytes();
-    if bytes.len() < 24 {
-        return None;
-    }
-    let rest = &bytes[24..];
-    let front = u8x16::from_slice(bytes);
-    let back = u8x16::from_slice(&bytes[8..]);
-    let first: u8x8 = front.shuffle(back, [0, 3, 6, 9, 12, 15, 26, 29]);
-    // Such a character begins with a byte from 0xe0 up to 0xef.
-    let others = (first - u8x8::splat(0xe0)).simd_ge(u8x8::splat(0x10));
-    if others.to_bitmask() != 0 {
-        return None;
-    }
-    let second: u8x8 = front.shuffle(back, [1, 4, 7, 10, 13, 24, 27, 30]);
-    let third: u8x8 = front.shuffle(back, [2, 5, 8, 11, 14, 25, 28, 31]);
-    let high = first.cast::<u16>() * u16x8::splat(4096);
-    let middle = second.cast::<u16>() * u16x8::splat(64);
-    // The bytes add 0xe0, 0x80 and 0x80, shifted with their bits, to the bits of the character,
-    // modulo 2^16.
-    let units = high + middle + third.cast::<u16>() - u16x8::splat(0x2080);
-    *eight = units.to_array();
-    // SAFETY: the bytes from there on are UTF-8, since a character ends before them.
-    Some(unsafe { str::from_utf8_unchecked(rest) })
-}
-
-/// Reads the first eight characters of a text one by one if a UCS-2 text can contain each of them,
-/// and returns the rest.
-#[inline(always)]
-fn read_each<'a>(text: &'a str, eight: &mut [u16; 8]) -> Option<&'a str>
+fn read_eight<'a>(text: &'a str, eight: &mut [u16; 8]) -> Option<&'a str>
     ensures { IfSome result (λ rest. (chars text.now ≡ eight.new ++ chars rest.now) × IsUtf8 rest.now
         × All IsAcceptedChar eight.new) }
 {
@@ -142,19 +111,6 @@ fn read_each<'a>(text: &'a str, eight: &mut [u16; 8]) -> Option<&'a str>
         eight[place] = character as u16;
     }
     Some(characters.as_str())
-}
-
-/// Reads the first eight characters of a text if a UCS-2 text can contain each of them, and returns
-/// the rest.
-#[inline(always)]
-fn read_eight<'a>(text: &'a str, eight: &mut [u16; 8]) -> Option<&'a str>
-    ensures { IfSome result (λ rest. (chars text.now ≡ eight.new ++ chars rest.now) × IsUtf8 rest.now
-        × All IsAcceptedChar eight.new) }
-{
-    match read_wide(text, eight) {
-        Some(rest) => Some(rest),
-        None => read_each(text, eight),
-    }
 }
 
 /// Writes eight units from a place on.

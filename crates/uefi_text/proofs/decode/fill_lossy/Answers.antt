@@ -20,8 +20,8 @@ narrow-requires c =
 pub returns-then-is_ascii : goal.returns-then-is_ascii
 returns-then-is_ascii c = c.narrow.ensures ∙ sym (lossy_ascii c.args.units.now (c.is_ascii.ensures.0 c.if-is_ascii.true))
 
-pub write_by_eight-requires : goal.write_by_eight-requires
-write_by_eight-requires c =
+pub write_units-requires : goal.write_units-requires
+write_units-requires c =
     let plain = lossy_undecided c.args.units.now _ (λ k. omega (arith, c.type_inv.units k)) c.find_deciding_place.ensures c.if-is_none.ensures in
     omega (arith, ap (λ us. length (encode_utf8_all us)) plain, c.requires)
 
@@ -29,5 +29,5 @@ pub returns-then-is_none : goal.returns-then-is_none
 returns-then-is_none c =
     let plain = lossy_undecided c.args.units.now _ (λ k. omega (arith, c.type_inv.units k)) c.find_deciding_place.ensures c.if-is_none.ensures in
     let same = ap encode_utf8_all plain in
-    let all = take_all c.write_by_eight.result c.write_by_eight.new.bytes (omega (arith, ap length same, c.requires)) in
-    sym all ∙ c.write_by_eight.ensures.bytes ∙ sym same
+    let all = take_all c.write_units.result c.write_units.new.bytes (omega (arith, ap length same, c.requires)) in
+    sym all ∙ c.write_units.ensures.bytes ∙ sym same

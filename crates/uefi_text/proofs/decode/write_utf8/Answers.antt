@@ -5,8 +5,8 @@ use Rattle.std.proofs.lemmas.Grind.{common_steps}
 use Rattle.uefi_text.proofs.Utf8Bytes.{length-encode_utf8_all-le}
 use Rattle.uefi_text.proofs.decode.write_utf8.Goals as goal
 
-pub write_by_eight-requires : goal.write_by_eight-requires
-write_by_eight-requires c = omega (arith, length-encode_utf8_all-le c.args.units.now (λ k. omega (arith, c.type_inv.units k)), c.requires)
+pub write_units-requires : goal.write_units-requires
+write_units-requires c = omega (arith, length-encode_utf8_all-le c.args.units.now (λ k. omega (arith, c.type_inv.units k)), c.requires)
 
 pub returns-then-is_ascii-clause-bytes : goal.returns-then-is_ascii-clause-bytes
 returns-then-is_ascii-clause-bytes c =

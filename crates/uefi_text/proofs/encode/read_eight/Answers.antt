@@ -7,7 +7,7 @@ use Rattle.std.proofs.lemmas.List.Elements.{All-append, All-cons, All-nil}
 use Rattle.std.proofs.lemmas.Str.{IsUtf8-past_char}
 use Rattle.uefi_text.specs.FromStr.{IsAcceptedChar}
 use Rattle.uefi_text.proofs.Texts.{chars_step}
-use Rattle.uefi_text.proofs.encode.read_each.Goals as goal
+use Rattle.uefi_text.proofs.encode.read_eight.Goals as goal
 
 pub loop-place-preserved : goal.loop-place-preserved
 loop-place-preserved c =

@@ -2,7 +2,7 @@ use Rattle.std.proofs.Common.{◌≡◌, ◌++◌, All, length, take}
 use Rattle.std.specs.Str.{chars, IsUtf8}
 use Rattle.std.specs.Str.Iter.{chars_rest}
 use Rattle.uefi_text.specs.FromStr.{IsAcceptedChar}
-use Rattle.uefi_text.proofs.encode.read_each.Given as goal
+use Rattle.uefi_text.proofs.encode.read_eight.Given as goal
 
 -- with the characters to come those that were read are the text's
 abbrev pub invariant-loop-place : goal.invariant-loop-place
