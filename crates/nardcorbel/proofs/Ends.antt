@@ -19,9 +19,9 @@ use Rattle.uefi_device_path.specs.TextStyle.{TextStyle}
 use Rattle.uefi_device_path.specs.declared.errors.BuildError.TheVariants.{BufferTooSmall}
 use Rattle.uefi_device_path.specs.declared.errors.GrowError.{GrowError}
 use Rattle.uefi_device_path.specs.declared.errors.GrowError.TheVariants.{Build}
-use Rattle.uefi_device_path.specs.declared.text_errors.PushTextError.{PushTextError}
-use Rattle.uefi_device_path.specs.declared.text_errors.PushTextError.TheVariants as push
-use Rattle.uefi_device_path.specs.declared.text_errors.TextFault.{TextFault}
+use Rattle.uefi_device_path.specs.declared.text.text_errors.PushTextError.{PushTextError}
+use Rattle.uefi_device_path.specs.declared.text.text_errors.PushTextError.TheVariants as push
+use Rattle.uefi_device_path.specs.declared.text.text_errors.TextFault.{TextFault}
 use Rattle.nardcorbel.proofs.Nodes.{left_from}
 use Rattle.nardcorbel.specs.PathEnds.{moved_error, moved_text_error, nodes_appended_at, room_or, text_parsed, text_pushed_at}
 

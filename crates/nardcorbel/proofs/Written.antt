@@ -19,10 +19,10 @@ use Rattle.uefi_device_path.specs.declared.errors.DevicePathError.{DevicePathErr
 use Rattle.uefi_device_path.specs.declared.errors.GrowError.{GrowError}
 use Rattle.uefi_device_path.specs.declared.errors.GrowError.TheVariants.{Path}
 use Rattle.uefi_device_path.specs.declared.errors.OptionBuildError.{OptionBuildError}
-use Rattle.uefi_device_path.specs.declared.text_errors.PushTextError.{PushTextError}
-use Rattle.uefi_device_path.specs.declared.text_errors.PushTextError.TheVariants as push
-use Rattle.uefi_device_path.specs.declared.text_errors.PushTextError.TheVariants.{NoNode}
-use Rattle.uefi_device_path.specs.declared.text_errors.TextFault.{TextFault}
+use Rattle.uefi_device_path.specs.declared.text.text_errors.PushTextError.{PushTextError}
+use Rattle.uefi_device_path.specs.declared.text.text_errors.PushTextError.TheVariants as push
+use Rattle.uefi_device_path.specs.declared.text.text_errors.PushTextError.TheVariants.{NoNode}
+use Rattle.uefi_device_path.specs.declared.text.text_errors.TextFault.{TextFault}
 use Rattle.nardcorbel.specs.DevicePathBuffers.{entry_of_path}
 use Rattle.nardcorbel.specs.Outcomes.{Shows, ShowsNumber, too_small, when_read, unless}
 use Rattle.nardcorbel.specs.Outcomes.Outcome.{Content, Number, Refused, Text}

@@ -7,9 +7,9 @@ use Rattle.uefi_device_path.specs.StyledReading.{path_read, text_extent}
 use Rattle.uefi_device_path.specs.TextErrorTexts.{text_fault_text}
 use Rattle.uefi_device_path.specs.TextStyle.{TextStyle}
 use Rattle.uefi_device_path.specs.Utf16Texts.{paired_chars, units_within, utf16_read}
-use Rattle.uefi_device_path.specs.declared.text_errors.PushTextError.{PushTextError}
-use Rattle.uefi_device_path.specs.declared.text_errors.PushTextError.TheVariants.{BufferTooSmall, NoNode, Path}
-use Rattle.uefi_device_path.specs.declared.text_errors.TextFault.{TextFault}
+use Rattle.uefi_device_path.specs.declared.text.text_errors.PushTextError.{PushTextError}
+use Rattle.uefi_device_path.specs.declared.text.text_errors.PushTextError.TheVariants.{BufferTooSmall, NoNode, Path}
+use Rattle.uefi_device_path.specs.declared.text.text_errors.TextFault.{TextFault}
 use Rattle.nardcorbel.specs.Outcomes.{Outcome, refusal_at, when_read}
 use Rattle.nardcorbel.specs.Outcomes.Outcome.{Content, Number, Refused, Text}
 use Rattle.nardcorbel.specs.PathEnds.{extended, missing_end}

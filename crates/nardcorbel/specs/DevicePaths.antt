@@ -12,7 +12,7 @@ use Rattle.uefi_device_path.specs.declared.errors.FilePathError.{FilePathError}
 use Rattle.nardcorbel.specs.Outcomes.{Outcome, when_read}
 use Rattle.nardcorbel.specs.Outcomes.Outcome.{Text}
 use Rattle.nardcorbel.specs.Refusals.{nameless_refusal}
-use Rattle.nardcorbel.specs.declared.device_paths.DeviceNode.{DeviceNode}
+use Rattle.nardcorbel.specs.declared.device_paths.reading.DeviceNode.{DeviceNode}
 use Rattle.nardcorbel.specs.declared.load_options.LoadOptionParts.{LoadOptionParts}
 
 -- the node whose data stand in bytes from its start on

@@ -16,9 +16,9 @@ use Rattle.uefi_device_path.specs.declared.errors.LoadOptionError.{LoadOptionErr
 use Rattle.uefi_device_path.specs.NodeError.{NodeError}
 use Rattle.uefi_device_path.specs.declared.errors.OptionBuildError.{OptionBuildError}
 use Rattle.uefi_device_path.specs.declared.errors.OptionBuildError.TheVariants as option
-use Rattle.uefi_device_path.specs.declared.text_errors.PushTextError.{PushTextError}
-use Rattle.uefi_device_path.specs.declared.text_errors.PushTextError.TheVariants as text
-use Rattle.uefi_device_path.specs.declared.text_errors.TextFault.{TextFault}
+use Rattle.uefi_device_path.specs.declared.text.text_errors.PushTextError.{PushTextError}
+use Rattle.uefi_device_path.specs.declared.text.text_errors.PushTextError.TheVariants as text
+use Rattle.uefi_device_path.specs.declared.text.text_errors.TextFault.{TextFault}
 use Rattle.nardcorbel.specs.Outcomes.{refusal_at, refusal_for, too_small}
 use Rattle.nardcorbel.specs.Reasons.{name_reason, node_reason, option_reason, with_nul_reason}
 use Rattle.nardcorbel.specs.declared.outcomes.Refusal.{Refusal}

@@ -9,8 +9,8 @@ use Rattle.uefi_device_path.specs.TextStyle.TheVariants as read
 use Rattle.nardcorbel.specs.Outcomes.{Outcome, refusal_for}
 use Rattle.nardcorbel.specs.Outcomes.Outcome.{Refused, Text}
 use Rattle.nardcorbel.specs.declared.reasons.TheConstants.{UNKNOWN_STYLE}
-use Rattle.nardcorbel.specs.declared.text_styles.Form.{Form}
-use Rattle.nardcorbel.specs.declared.text_styles.Form.TheVariants.{Libefivar, Specified}
+use Rattle.nardcorbel.specs.declared.device_paths.text_styles.Form.{Form}
+use Rattle.nardcorbel.specs.declared.device_paths.text_styles.Form.TheVariants.{Libefivar, Specified}
 
 -- the form in which a text of a style is printed
 abbrev pub printed_form : ℕ → Option Form

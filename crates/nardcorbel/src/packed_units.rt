@@ -1,6 +1,6 @@
 //! Code units that are packed in bytes, as in the tables and device paths of firmware.
 ghost use Rattle.std.specs.Prelude.{◌≡◌, ◌≢◌, ◌↔◌, ℕ, ◌+◌, ◌/◌, ◌%◌, ◌≤◌, ◌++◌, List, drop, length};
-ghost use Rattle.uefi_field_texts.specs.FieldTexts.{utf16_text};
+ghost use Rattle.uefi_device_nodes.specs.FieldTexts.{utf16_text};
 ghost use Rattle.uefi_text.specs.PackedStrings.{SplitsUntilNul};
 ghost use Rattle.uefi_text.specs.UnitBytes.{units_of_bytes};
 ghost use Rattle.nardcorbel.specs.Outcomes.{Shows};
@@ -9,7 +9,7 @@ ghost use Rattle.nardcorbel.specs.Outcomes.Outcome.{Text};
 use crate::outcomes::report_written;
 use crate::reasons::{BUFFER_TOO_SMALL, NO_NUL, ODD_BYTES, OK};
 use crate::utf8_buffers::write_utf8;
-use uefi_field_texts::shown_texts::put_utf16_text;
+use uefi_device_nodes::field_texts::shown_texts::put_utf16_text;
 use uefi_text::UnalignedSlice;
 use uefi_text::text_sink::{Printed, TextSink};
 use uefi_text::unaligned_slice::read_items;

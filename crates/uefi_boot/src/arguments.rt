@@ -1,6 +1,6 @@
 //! The words after the program's name: its verbs, their options, and the nearest match of a wrong
 //! one.
-use crate::ends::{End, WRONG_ARGUMENTS, refuse};
+use crate::program_ends::{End, WRONG_ARGUMENTS, refuse};
 use crate::{help, hints};
 use std::alloc::{AllocError, Global};
 use strsim::levenshtein;

@@ -1,8 +1,8 @@
 //! Carries out plans, writing one whole variable after the other.
-use crate::ends::{End, Output, UNREADABLE, UNWRITTEN, refuse};
+use crate::boot_manager::{write_order, write_timeout};
 use crate::entry::Shown;
-use crate::head::{write_order, write_timeout};
 use crate::mounts::is_efivarfs;
+use crate::program_ends::{End, Output, UNREADABLE, UNWRITTEN, refuse};
 use crate::variables::{
     Content, MOST_READ, VARIABLE_ATTRIBUTES, Variable, Variables, attributes_len, file_in,
 };

@@ -1,9 +1,9 @@
 //! Reports faults that would make firmware or the machine fail.
 use crate::arguments::Words;
-use crate::ends::{End, MALFORMED, Output, UNREADABLE};
+use crate::boot_manager::Head;
 use crate::entry::{File, Shown};
-use crate::head::Head;
 use crate::partitions::DISKS;
+use crate::program_ends::{End, MALFORMED, Output, UNREADABLE};
 use crate::variables::{
     Content, MOST_READ, OWN, PassedOver, Source, Variable, Variables, unreadable,
 };

@@ -1,9 +1,9 @@
 //! Creates the load option of a new entry from the words of `create`.
 use crate::arguments::Words;
-use crate::ends::{End, WRONG_ARGUMENTS, refuse};
 use crate::entry::Shown;
 use crate::mounts::{find_mounted, mount_point_above};
 use crate::partitions::{GPT, Located, by_guid, by_number, on_disk};
+use crate::program_ends::{End, WRONG_ARGUMENTS, refuse};
 use crate::variables::{MOST_BYTES, MOST_READ, unreadable};
 use crate::{buses, fill};
 use std::alloc::Global;

@@ -1,9 +1,9 @@
 //! Takes the options of efibootmgr 17 and prints what it prints, for scripts that call it by its name. Each
 //! change is made by the command of this program that does the same.
 use crate::arguments::{Verb, is_option};
-use crate::ends::{End, Output, WRONG_ARGUMENTS, refuse};
+use crate::boot_manager::Head;
 use crate::entry::Shown;
-use crate::head::Head;
+use crate::program_ends::{End, Output, WRONG_ARGUMENTS, refuse};
 use crate::variables::{Content, MOST_READ, OWN, Variable, Variables, find_all, find_own};
 use crate::verbs;
 use std::env;

@@ -11,7 +11,7 @@ use uefi_device_path::{
     FilePathCause, LoadOption, LoadOptionParts, NodeConversionError, is_escaped,
 };
 use uefi_path::{Path, PathError, validate_path};
-use uefi_text::strs::Char16Slice;
+use uefi_text::strings::strs::Char16Slice;
 use uefi_text::{CStr16, FromSliceWithNulError, UnalignedSlice};
 
 /// A file that an entry names.

@@ -1,7 +1,7 @@
 //! Prints a machine's boot variables, each entry as soon as it is read.
-use crate::ends::{End, MALFORMED, Output, UNREADABLE};
+use crate::boot_manager::{Head, HeadJson, name_of};
 use crate::entry::{Exact, Shown, push, write_shown};
-use crate::head::{Head, HeadJson, name_of};
+use crate::program_ends::{End, MALFORMED, Output, UNREADABLE};
 use crate::variables::{Content, MOST_READ, PassedOver, Source, Variable, Variables};
 use crate::{Form, to_json};
 use serde::Serialize;

@@ -33,27 +33,27 @@
 ghost use Rattle.std.specs.Prelude.{◌≤◌, IfOk, length};
 
 mod arguments;
+mod boot_manager;
 mod buses;
 mod changes;
 mod check;
 mod create;
 mod efibootmgr;
-mod ends;
 mod entry;
 mod growing_texts;
-mod head;
 mod help;
 mod hints;
 mod listing;
 mod mounts;
 mod optional_data;
 mod partitions;
+mod program_ends;
 mod variables;
 mod verbs;
 
 use arguments::{Verb, first_plain, is_option, meant_verb, refuse_option};
-use ends::{End, MALFORMED, Output, WRONG_ARGUMENTS, refuse, status_of};
 use entry::{Exact, Shown};
+use program_ends::{End, MALFORMED, Output, WRONG_ARGUMENTS, refuse, status_of};
 use serde::Serialize;
 use std::alloc::Global;
 use std::io::{self, IsTerminal, Read};

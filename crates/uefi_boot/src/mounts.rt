@@ -1,5 +1,5 @@
 //! The mounted file systems of the machine, from proc_pid_mountinfo(5).
-use crate::ends::{End, WRONG_ARGUMENTS, refuse};
+use crate::program_ends::{End, WRONG_ARGUMENTS, refuse};
 use crate::variables::unreadable;
 use std::alloc::{AllocError, Global};
 use std::os::unix::fs::MetadataExt;

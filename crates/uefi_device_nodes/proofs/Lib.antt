@@ -2,3 +2,17 @@ pub mod SoundNodes
 pub mod ShownNodes
 pub mod FieldsRead
 pub mod NodeLengths
+pub mod HexBack
+pub mod Places
+pub mod UnitsShown
+pub mod ShownFields
+pub mod GuidTexts
+pub mod HexBlocks
+pub mod FieldLengths
+pub mod Lists
+pub mod Texts
+pub mod Items
+pub mod Forms
+pub mod Groups
+pub mod ShownTable
+pub mod RowLengths

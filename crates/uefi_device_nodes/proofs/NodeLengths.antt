@@ -5,11 +5,11 @@ use Rattle.std.proofs.lemmas.List.Elements.{All-drop, All-take}
 use Rattle.std.specs.Prelude.{All, slice_range}
 use Rattle.std.specs.Fmt.{decimal}
 use Rattle.uefi_text.specs.Packed.{IsByte, little_endian}
-use Rattle.uefi_field_texts.proofs.FieldLengths.{comma_within, decimal_byte, eisa_within, number_within, uid_within, utf16_within, vendor_within}
-use Rattle.uefi_field_texts.specs.FieldTexts.{comma_bytes, eisa_text, has_uid_alone, shown_bytes, uid_string, utf16_text, vendor_name}
-use Rattle.uefi_node_table.proofs.RowLengths.{table_within}
-use Rattle.uefi_node_table.specs.Table.{has_form, table_text}
-use Rattle.uefi_node_table.specs.declared.layouts.TheConstants.{ACPI_TYPE, EXPANDED, EXPANDED_ID_STRINGS, EXPANDED_LEAST, MESSAGING_TYPE, MESSAGING_VENDOR, MESSAGING_VENDOR_LEAST}
+use Rattle.uefi_device_nodes.proofs.FieldLengths.{comma_within, decimal_byte, eisa_within, number_within, uid_within, utf16_within, vendor_within}
+use Rattle.uefi_device_nodes.specs.FieldTexts.{comma_bytes, eisa_text, has_uid_alone, shown_bytes, uid_string, utf16_text, vendor_name}
+use Rattle.uefi_device_nodes.proofs.RowLengths.{table_within}
+use Rattle.uefi_device_nodes.specs.Table.{has_form, table_text}
+use Rattle.uefi_device_nodes.specs.declared.node_table.layouts.TheConstants.{ACPI_TYPE, EXPANDED, EXPANDED_ID_STRINGS, EXPANDED_LEAST, MESSAGING_TYPE, MESSAGING_VENDOR, MESSAGING_VENDOR_LEAST}
 use Rattle.uefi_device_nodes.specs.Nodes.{Node}
 use Rattle.uefi_device_nodes.specs.NodeTexts.{expanded_text, has_uid_text, irregular_text, is_file_node, is_irregular, node_text, short_name, unknown_text}
 use Rattle.uefi_device_nodes.specs.TypedNodes.{bytes_from, is_kind, number_at}

@@ -4,11 +4,11 @@ use Rattle.std.specs.Prelude.{All}
 use Rattle.std.specs.Fmt.{decimal}
 use Rattle.std.specs.List.{concat}
 use Rattle.uefi_text.specs.Packed.{IsByte}
-use Rattle.uefi_field_texts.specs.FieldTexts.{comma_bytes, eisa_text, shown_bytes, uid_string, utf16_text}
-use Rattle.uefi_field_texts.specs.ShownTexts.{AsciiShown, BytesShown, IsShown, JoinedShown, NamesShown, NumbersShown, UnitsShown}
-use Rattle.uefi_node_table.specs.declared.layouts.TheConstants.{EXPANDED_CID, EXPANDED_HID, EXPANDED_ID_STRINGS, MESSAGING_TYPE, MESSAGING_VENDOR, MESSAGING_VENDOR_LEAST}
-use Rattle.uefi_node_table.specs.ShownTexts.{TableShown}
-use Rattle.uefi_node_table.specs.Table.{has_form, table_text}
+use Rattle.uefi_device_nodes.specs.FieldTexts.{comma_bytes, eisa_text, shown_bytes, uid_string, utf16_text}
+use Rattle.uefi_device_nodes.specs.ShownFields.{AsciiShown, BytesShown, IsShown, JoinedShown, NamesShown, NumbersShown, UnitsShown}
+use Rattle.uefi_device_nodes.specs.declared.node_table.layouts.TheConstants.{EXPANDED_CID, EXPANDED_HID, EXPANDED_ID_STRINGS, MESSAGING_TYPE, MESSAGING_VENDOR, MESSAGING_VENDOR_LEAST}
+use Rattle.uefi_device_nodes.specs.ShownTable.{TableShown}
+use Rattle.uefi_device_nodes.specs.Table.{has_form, table_text}
 use Rattle.uefi_device_nodes.specs.Nodes.{Node}
 use Rattle.uefi_device_nodes.specs.NodeTexts.{expanded_text, has_uid_text, irregular_text, is_file_node, is_irregular, node_text, short_name, unknown_text}
 use Rattle.uefi_device_nodes.specs.ShownNodes.{NodesShown}

@@ -1,6 +1,6 @@
 -- Nodes that name files.
 use Rattle.std.specs.Prelude.{◌≡◌, ◌%◌, ◌==◌, ◌&&◌, Bool, if◌then◌else◌, length, Option, Some, None}
-use Rattle.uefi_node_table.specs.declared.layouts.TheConstants.{FILE_PATH, MEDIA_TYPE}
+use Rattle.uefi_device_nodes.specs.declared.node_table.layouts.TheConstants.{FILE_PATH, MEDIA_TYPE}
 use Rattle.uefi_device_nodes.specs.Nodes.{Node}
 use Rattle.uefi_device_nodes.specs.declared.errors.NodeConversionError.{NodeConversionError}
 use Rattle.uefi_device_nodes.specs.declared.errors.NodeConversionError.TheVariants.{DifferentType, InvalidLength}

@@ -9,3 +9,12 @@ pub mod NodeEnums
 pub mod ShownNodes
 pub mod RawNodes
 pub mod NodeFields
+pub mod FieldTexts
+pub mod ShownFields
+pub mod Guids
+pub mod Fields
+pub mod Parts
+pub mod Rows
+pub mod Table
+pub mod Words
+pub mod ShownTable

@@ -2,7 +2,7 @@
 use Rattle.std.specs.Prelude.{◌≡◌, ℕ, ◌<◌, ◌^◌, nat_le, Bool, ◌&&◌, List, [], ◌∷◌, ◌++◌, take, drop, length}
 use Rattle.std.proofs.Math.ListN.{replicate}
 use Rattle.std.specs.Int.{bytes_low_first}
-use Rattle.uefi_node_table.specs.declared.layouts.Field.{Field}
+use Rattle.uefi_device_nodes.specs.declared.node_table.layouts.Field.{Field}
 use Rattle.uefi_device_nodes.specs.TypedNodes.{bytes_in, end_of, number_in}
 
 -- a field, and the number or the bytes in it

@@ -3,9 +3,9 @@
 use Rattle.std.specs.Prelude.{ℕ, ◌%◌, ◌==◌, ◌&&◌, ◌||◌, not, Bool, if◌then◌else◌, List, [], ◌∷◌, codes, length}
 use Rattle.std.specs.Fmt.{decimal}
 use Rattle.std.specs.List.{concat}
-use Rattle.uefi_field_texts.specs.FieldTexts.{comma_bytes, eisa_text, has_uid_alone, shown_bytes, uid_string, utf16_text, vendor_name}
-use Rattle.uefi_node_table.specs.Table.{has_form, table_text}
-use Rattle.uefi_node_table.specs.declared.layouts.TheConstants.{ACPI_TYPE, EXPANDED, EXPANDED_CID, EXPANDED_HID, EXPANDED_ID_STRINGS, EXPANDED_LEAST, MESSAGING_TYPE, MESSAGING_VENDOR, MESSAGING_VENDOR_LEAST}
+use Rattle.uefi_device_nodes.specs.FieldTexts.{comma_bytes, eisa_text, has_uid_alone, shown_bytes, uid_string, utf16_text, vendor_name}
+use Rattle.uefi_device_nodes.specs.Table.{has_form, table_text}
+use Rattle.uefi_device_nodes.specs.declared.node_table.layouts.TheConstants.{ACPI_TYPE, EXPANDED, EXPANDED_CID, EXPANDED_HID, EXPANDED_ID_STRINGS, EXPANDED_LEAST, MESSAGING_TYPE, MESSAGING_VENDOR, MESSAGING_VENDOR_LEAST}
 use Rattle.uefi_device_nodes.specs.Nodes.{Node}
 use Rattle.uefi_device_nodes.specs.FileNodes.{is_file}
 use Rattle.uefi_device_nodes.specs.TypedNodes.{bytes_from, is_kind, number_at, number_in}

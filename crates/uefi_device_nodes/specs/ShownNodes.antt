@@ -1,7 +1,7 @@
 -- The texts of nodes contain no character that texts escape.
 use Rattle.std.specs.Prelude.{Bool, All}
 use Rattle.uefi_text.specs.Packed.{IsByte}
-use Rattle.uefi_field_texts.specs.ShownTexts.{IsShown}
+use Rattle.uefi_device_nodes.specs.ShownFields.{IsShown}
 use Rattle.uefi_device_nodes.specs.Nodes.{Node}
 use Rattle.uefi_device_nodes.specs.NodeTexts.{node_text}
 

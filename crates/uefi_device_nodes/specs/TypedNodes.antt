@@ -1,7 +1,7 @@
 -- Nodes whose data has fields at fixed offsets.
 use Rattle.std.specs.Prelude.{◌≡◌, ℕ, ◌+◌, ◌≤◌, ◌==◌, ◌&&◌, nat_le, nat_lt, Bool, if◌then◌else◌, List, drop, length, slice_range, Option, Some, None}
 use Rattle.uefi_text.specs.Packed.{little_endian}
-use Rattle.uefi_node_table.specs.declared.layouts.Field.{Field}
+use Rattle.uefi_device_nodes.specs.declared.node_table.layouts.Field.{Field}
 use Rattle.uefi_device_nodes.specs.Nodes.{Node}
 use Rattle.uefi_device_nodes.specs.declared.errors.NodeConversionError.{NodeConversionError}
 use Rattle.uefi_device_nodes.specs.declared.errors.NodeConversionError.TheVariants.{DifferentType, InvalidLength}

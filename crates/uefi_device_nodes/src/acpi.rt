@@ -2,24 +2,24 @@
 #![tactic(auto)]
 
 ghost use Rattle.std.specs.Prelude.{◌≡◌, ◌/◌, drop, length, ◌∷◌, []};
-ghost use Rattle.uefi_field_texts.specs.FieldTexts.{cid_string, hid_string, uid_string};
+ghost use Rattle.uefi_device_nodes.specs.FieldTexts.{cid_string, hid_string, uid_string};
 ghost use Rattle.uefi_device_nodes.specs.TypedNodes.{bytes_from, bytes_in, end_of, number_in};
 ghost use Rattle.uefi_text.specs.Packed.{packed_items};
 ghost use Rattle.uefi_text.specs.Views.{items_of};
 ghost use Rattle.uefi_device_nodes.specs.NodeViews.{data_of};
 ghost use Rattle.std.specs.Int.{to_le_bytes, w32};
 ghost use Rattle.std.specs.List.{flat_map};
-ghost use Rattle.uefi_node_table.specs.declared.layouts.TheConstants.{ACPI_HID, ACPI_UID, EXPANDED_CID, EXPANDED_HID, EXPANDED_UID, NVDIMM_NFIT_DEVICE_HANDLE};
+ghost use Rattle.uefi_device_nodes.specs.declared.node_table.layouts.TheConstants.{ACPI_HID, ACPI_UID, EXPANDED_CID, EXPANDED_HID, EXPANDED_UID, NVDIMM_NFIT_DEVICE_HANDLE};
 ghost use Rattle.uefi_device_nodes.specs.NodeFields.{number};
 
+use crate::field_texts::ids::id_strings;
 use crate::node::DeviceSubType;
-use crate::typed_node::TypedNode;
-use uefi_field_texts::ids::id_strings;
-use uefi_node_table::layouts::{
+use crate::node_table::layouts::{
     ACPI, ACPI_HID, ACPI_LEAST, ACPI_TYPE, ACPI_UID, ADR, ADR_ADR, ADR_LEAST, EXPANDED,
     EXPANDED_CID, EXPANDED_HID, EXPANDED_ID_STRINGS, EXPANDED_LEAST, EXPANDED_UID, NVDIMM,
     NVDIMM_LEAST, NVDIMM_NFIT_DEVICE_HANDLE,
 };
+use crate::typed_node::TypedNode;
 use uefi_text::UnalignedSlice;
 
 /// Sub-types of the type [`DeviceType::ACPI`](crate::DeviceType).
@@ -169,11 +169,11 @@ impl<'a> Nvdimm<'a> {
 /// The structs from which these nodes are built.
 pub mod build {
     use crate::fields::{Fields, put};
-    use crate::typed_node::TypedNode;
-    use uefi_node_table::layouts::{
+    use crate::node_table::layouts::{
         ACPI_HID, ACPI_TYPE, ACPI_UID, ADR, EXPANDED, EXPANDED_CID, EXPANDED_FIXED, EXPANDED_HID,
         EXPANDED_UID, NVDIMM_NFIT_DEVICE_HANDLE,
     };
+    use crate::typed_node::TypedNode;
 
     /// A device that ACPI names by two numbers.
     ///

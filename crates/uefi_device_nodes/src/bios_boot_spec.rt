@@ -4,15 +4,15 @@
 ghost use Rattle.std.specs.Prelude.{◌≡◌, drop, ◌∷◌, []};
 ghost use Rattle.uefi_device_nodes.specs.TypedNodes.{bytes_from, bytes_in, end_of, number_in};
 ghost use Rattle.uefi_device_nodes.specs.NodeViews.{data_of};
-ghost use Rattle.uefi_node_table.specs.declared.layouts.TheConstants.{BOOT_SPECIFICATION_DEVICE_TYPE, BOOT_SPECIFICATION_STATUS_FLAG};
+ghost use Rattle.uefi_device_nodes.specs.declared.node_table.layouts.TheConstants.{BOOT_SPECIFICATION_DEVICE_TYPE, BOOT_SPECIFICATION_STATUS_FLAG};
 ghost use Rattle.uefi_device_nodes.specs.NodeFields.{number};
 
 use crate::node::DeviceSubType;
-use crate::typed_node::TypedNode;
-use uefi_node_table::layouts::{
+use crate::node_table::layouts::{
     BIOS_BOOT_SPEC_TYPE, BOOT_SPECIFICATION, BOOT_SPECIFICATION_DESCRIPTION_STRING,
     BOOT_SPECIFICATION_DEVICE_TYPE, BOOT_SPECIFICATION_LEAST, BOOT_SPECIFICATION_STATUS_FLAG,
 };
+use crate::typed_node::TypedNode;
 
 /// Sub-types of the type [`DeviceType::BIOS_BOOT_SPEC`](crate::DeviceType).
 impl DeviceSubType {
@@ -61,11 +61,11 @@ impl<'a> BootSpecification<'a> {
 /// The structs from which these nodes are built.
 pub mod build {
     use crate::fields::{Fields, put};
-    use crate::typed_node::TypedNode;
-    use uefi_node_table::layouts::{
+    use crate::node_table::layouts::{
         BIOS_BOOT_SPEC_TYPE, BOOT_SPECIFICATION, BOOT_SPECIFICATION_DEVICE_TYPE,
         BOOT_SPECIFICATION_FIXED, BOOT_SPECIFICATION_STATUS_FLAG,
     };
+    use crate::typed_node::TypedNode;
 
     /// A device that a legacy BIOS can boot.
     ///

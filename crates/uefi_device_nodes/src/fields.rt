@@ -9,9 +9,9 @@ ghost use Rattle.uefi_device_nodes.specs.TypedNodes.{end_of};
 
 use crate::build_node::BuildNode;
 use crate::node::{DeviceSubType, DeviceType};
+use crate::node_table::layouts::Field;
 use crate::tails::TailBytes;
 use crate::typed_node::Kind;
-use uefi_node_table::layouts::Field;
 use uefi_text::Packed;
 
 /// A number that can be written to bytes, the low byte first.

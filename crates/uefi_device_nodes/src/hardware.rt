@@ -4,13 +4,12 @@
 ghost use Rattle.std.specs.Prelude.{◌≡◌, drop, slice_range, ◌∷◌, []};
 ghost use Rattle.uefi_device_nodes.specs.TypedNodes.{bytes_from, bytes_in, end_of, number_in};
 ghost use Rattle.uefi_device_nodes.specs.NodeViews.{data_of};
-ghost use Rattle.uefi_node_table.specs.declared.layouts.TheConstants.{BMC_BASE_ADDRESS, BMC_INTERFACE_TYPE, CONTROLLER_CONTROLLER_NUMBER, HARDWARE_VENDOR_VENDOR_GUID, MEMORY_MAPPED_ENDING_ADDRESS, MEMORY_MAPPED_MEMORY_TYPE, MEMORY_MAPPED_STARTING_ADDRESS, PCCARD_FUNCTION, PCI_DEVICE, PCI_FUNCTION};
+ghost use Rattle.uefi_device_nodes.specs.declared.node_table.layouts.TheConstants.{BMC_BASE_ADDRESS, BMC_INTERFACE_TYPE, CONTROLLER_CONTROLLER_NUMBER, HARDWARE_VENDOR_VENDOR_GUID, MEMORY_MAPPED_ENDING_ADDRESS, MEMORY_MAPPED_MEMORY_TYPE, MEMORY_MAPPED_STARTING_ADDRESS, PCCARD_FUNCTION, PCI_DEVICE, PCI_FUNCTION};
 ghost use Rattle.uefi_device_nodes.specs.NodeFields.{bytes, number};
 
+use crate::field_texts::guid::Guid;
 use crate::node::DeviceSubType;
-use crate::typed_node::TypedNode;
-use uefi_field_texts::guid::Guid;
-use uefi_node_table::layouts::{
+use crate::node_table::layouts::{
     BMC, BMC_BASE_ADDRESS, BMC_INTERFACE_TYPE, BMC_LEAST, CONTROLLER, CONTROLLER_CONTROLLER_NUMBER,
     CONTROLLER_LEAST, HARDWARE_TYPE, HARDWARE_VENDOR, HARDWARE_VENDOR_LEAST,
     HARDWARE_VENDOR_VENDOR_DEFINED_DATA, HARDWARE_VENDOR_VENDOR_GUID, MEMORY_MAPPED,
@@ -18,6 +17,7 @@ use uefi_node_table::layouts::{
     MEMORY_MAPPED_STARTING_ADDRESS, PCCARD, PCCARD_FUNCTION, PCCARD_LEAST, PCI, PCI_DEVICE,
     PCI_FUNCTION, PCI_LEAST,
 };
+use crate::typed_node::TypedNode;
 
 /// Sub-types of the type [`DeviceType::HARDWARE`](crate::DeviceType).
 impl DeviceSubType {
@@ -194,12 +194,12 @@ impl<'a> Bmc<'a> {
 /// The structs from which these nodes are built.
 pub mod build {
     use crate::fields::{Fields, put};
-    use crate::vendor::VendorNode;
-    use uefi_node_table::layouts::{
+    use crate::node_table::layouts::{
         BMC_BASE_ADDRESS, BMC_INTERFACE_TYPE, CONTROLLER_CONTROLLER_NUMBER, HARDWARE_TYPE,
         HARDWARE_VENDOR, MEMORY_MAPPED_ENDING_ADDRESS, MEMORY_MAPPED_MEMORY_TYPE,
         MEMORY_MAPPED_STARTING_ADDRESS, PCCARD_FUNCTION, PCI_DEVICE, PCI_FUNCTION,
     };
+    use crate::vendor::VendorNode;
 
     /// A device on a PCI bus.
     ///

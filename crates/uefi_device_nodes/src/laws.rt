@@ -9,14 +9,14 @@ ghost use Rattle.uefi_device_nodes.specs.ShownNodes.{NodesShown};
 ghost use Rattle.uefi_device_nodes.specs.TypedNodes.{IsOfKind};
 ghost use Rattle.uefi_text.specs.UnitBytes.{unit_bytes, units_of_bytes};
 
+use crate::field_texts::field_laws::fields_are_shown;
 use crate::fields::Fields;
+use crate::node_table::table_laws::table_is_shown;
+use crate::node_table::layouts::{FILE_PATH, MEDIA_TYPE};
 use crate::typed_node::Kind;
-use uefi_field_texts::laws::fields_are_shown;
-use uefi_node_table::laws::table_is_shown;
-use uefi_node_table::layouts::{FILE_PATH, MEDIA_TYPE};
 
 /// No text of a node contains a character for which
-/// [`is_escaped`](uefi_field_texts::shown_texts::is_escaped) holds.
+/// [`is_escaped`](crate::field_texts::shown_texts::is_escaped) holds.
 pub fn nodes_are_shown()
     ensures { NodesShown }
 {

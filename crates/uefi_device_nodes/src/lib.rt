@@ -13,31 +13,29 @@ pub mod acpi;
 pub mod bios_boot_spec;
 pub mod build_node;
 pub mod errors;
-mod fabric;
+#[doc(hidden)]
+pub mod field_texts;
 pub mod fields;
-mod flash;
 pub mod hardware;
 #[doc(hidden)]
 pub mod laws;
 pub mod media;
 pub mod messaging;
-mod network;
 pub mod node;
 pub mod node_enum;
+#[doc(hidden)]
+pub mod node_table;
 pub mod node_text;
-mod storage;
 #[doc(hidden)]
 pub mod tails;
 pub mod typed_node;
-mod usb;
 mod vendor;
-mod wireless;
 
 pub use errors::{NodeConversionError, NodeError};
+pub use field_texts::forms::{AllowShortcuts, DisplayOnly};
+pub use field_texts::guid::Guid;
 pub use node::{DevicePathNode, DeviceSubType, DeviceType};
 pub use node_enum::DevicePathNodeEnum;
 pub use node_text::NodeText;
 pub use typed_node::TypedNode;
-pub use uefi_field_texts::forms::{AllowShortcuts, DisplayOnly};
-pub use uefi_field_texts::guid::Guid;
 pub use uefi_text::unit_sink::BufferTooSmall;

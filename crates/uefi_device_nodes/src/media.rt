@@ -9,14 +9,13 @@ ghost use Rattle.uefi_device_nodes.specs.TypedNodes.{bytes_from, bytes_in, end_o
 ghost use Rattle.uefi_text.specs.UnitBytes.{unit_bytes, units_of_bytes};
 ghost use Rattle.uefi_text.specs.Views.{items_of, text_of};
 ghost use Rattle.uefi_text.specs.Units.{nul_terminated};
-ghost use Rattle.uefi_node_table.specs.declared.layouts.TheConstants.{CD_ROM_BOOT_ENTRY, CD_ROM_PARTITION_SIZE, CD_ROM_PARTITION_START, FIRMWARE_FILE_FILE_NAME, FIRMWARE_VOLUME_VOLUME_NAME, HARD_DRIVE_PARTITION_FORMAT, HARD_DRIVE_PARTITION_NUMBER, HARD_DRIVE_PARTITION_SIGNATURE, HARD_DRIVE_PARTITION_SIZE, HARD_DRIVE_PARTITION_START, HARD_DRIVE_SIGNATURE_TYPE, MEDIA_VENDOR_VENDOR_GUID, PROTOCOL_PROTOCOL_GUID, RAM_DISK_DISK_INSTANCE, RAM_DISK_DISK_TYPE, RAM_DISK_ENDING_ADDRESS, RAM_DISK_STARTING_ADDRESS, RELATIVE_OFFSET_RANGE_ENDING_OFFSET, RELATIVE_OFFSET_RANGE_STARTING_OFFSET};
+ghost use Rattle.uefi_device_nodes.specs.declared.node_table.layouts.TheConstants.{CD_ROM_BOOT_ENTRY, CD_ROM_PARTITION_SIZE, CD_ROM_PARTITION_START, FIRMWARE_FILE_FILE_NAME, FIRMWARE_VOLUME_VOLUME_NAME, HARD_DRIVE_PARTITION_FORMAT, HARD_DRIVE_PARTITION_NUMBER, HARD_DRIVE_PARTITION_SIGNATURE, HARD_DRIVE_PARTITION_SIZE, HARD_DRIVE_PARTITION_START, HARD_DRIVE_SIGNATURE_TYPE, MEDIA_VENDOR_VENDOR_GUID, PROTOCOL_PROTOCOL_GUID, RAM_DISK_DISK_INSTANCE, RAM_DISK_DISK_TYPE, RAM_DISK_ENDING_ADDRESS, RAM_DISK_STARTING_ADDRESS, RELATIVE_OFFSET_RANGE_ENDING_OFFSET, RELATIVE_OFFSET_RANGE_STARTING_OFFSET};
 ghost use Rattle.uefi_device_nodes.specs.NodeFields.{bytes, number};
 
 use crate::errors::NodeConversionError;
+use crate::field_texts::guid::Guid;
 use crate::node::{DevicePathNode, DeviceSubType, DeviceType};
-use crate::typed_node::TypedNode;
-use uefi_field_texts::guid::Guid;
-use uefi_node_table::layouts::{
+use crate::node_table::layouts::{
     CD_ROM, CD_ROM_BOOT_ENTRY, CD_ROM_LEAST, CD_ROM_PARTITION_SIZE, CD_ROM_PARTITION_START,
     FILE_PATH, FIRMWARE_FILE, FIRMWARE_FILE_FILE_NAME, FIRMWARE_FILE_LEAST, FIRMWARE_VOLUME,
     FIRMWARE_VOLUME_LEAST, FIRMWARE_VOLUME_VOLUME_NAME, HARD_DRIVE, HARD_DRIVE_LEAST,
@@ -28,6 +27,7 @@ use uefi_node_table::layouts::{
     RELATIVE_OFFSET_RANGE, RELATIVE_OFFSET_RANGE_ENDING_OFFSET, RELATIVE_OFFSET_RANGE_LEAST,
     RELATIVE_OFFSET_RANGE_STARTING_OFFSET,
 };
+use crate::typed_node::TypedNode;
 use uefi_text::UnalignedSlice;
 
 /// Sub-types of the type [`DeviceType::MEDIA`](crate::DeviceType).
@@ -420,11 +420,9 @@ impl<'a> RamDisk<'a> {
 
 /// The structs from which these nodes are built.
 pub mod build {
+    use crate::field_texts::guid::Guid;
     use crate::fields::{Fields, put, put_bytes};
-    use crate::typed_node::TypedNode;
-    use crate::vendor::VendorNode;
-    use uefi_field_texts::guid::Guid;
-    use uefi_node_table::layouts::{
+    use crate::node_table::layouts::{
         CD_ROM_BOOT_ENTRY, CD_ROM_PARTITION_SIZE, CD_ROM_PARTITION_START, FILE_PATH,
         FIRMWARE_FILE_FILE_NAME, FIRMWARE_VOLUME_VOLUME_NAME, HARD_DRIVE_PARTITION_FORMAT,
         HARD_DRIVE_PARTITION_NUMBER, HARD_DRIVE_PARTITION_SIGNATURE, HARD_DRIVE_PARTITION_SIZE,
@@ -433,6 +431,8 @@ pub mod build {
         RAM_DISK_ENDING_ADDRESS, RAM_DISK_STARTING_ADDRESS, RELATIVE_OFFSET_RANGE_ENDING_OFFSET,
         RELATIVE_OFFSET_RANGE_STARTING_OFFSET,
     };
+    use crate::typed_node::TypedNode;
+    use crate::vendor::VendorNode;
     use uefi_text::CStr16;
 
     /// A partition of a hard drive.

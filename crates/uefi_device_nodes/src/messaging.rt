@@ -5,26 +5,33 @@
 ghost use Rattle.std.specs.Prelude.{◌≡◌, ◌∷◌, []};
 ghost use Rattle.uefi_device_nodes.specs.TypedNodes.{bytes_from, bytes_in, number_in};
 ghost use Rattle.uefi_device_nodes.specs.NodeViews.{data_of};
-ghost use Rattle.uefi_node_table.specs.declared.layouts.TheConstants.{I2O_TARGET_ID, IEEE1394_GUID, MESSAGING_VENDOR_VENDOR_GUID, UART_BAUD_RATE, UART_DATA_BITS, UART_PARITY, UART_STOP_BITS};
+ghost use Rattle.uefi_device_nodes.specs.declared.node_table.layouts.TheConstants.{I2O_TARGET_ID, IEEE1394_GUID, MESSAGING_VENDOR_VENDOR_GUID, UART_BAUD_RATE, UART_DATA_BITS, UART_PARITY, UART_STOP_BITS};
 ghost use Rattle.uefi_device_nodes.specs.NodeFields.{bytes, number};
 
-pub use crate::fabric::{Infiniband, Iscsi, NvmeOfNamespace};
-pub use crate::flash::{Emmc, NvdimmNamespace, NvmeNamespace, Sd, Ufs};
-pub use crate::network::{Dns, Ipv4, Ipv6, MacAddress, RestService, Uri, Vlan};
-use crate::node::DeviceSubType;
-pub use crate::storage::{
+pub(crate) mod fabrics;
+pub(crate) mod flash;
+pub(crate) mod network;
+pub(crate) mod storage;
+pub(crate) mod usb;
+pub(crate) mod wireless;
+
+use crate::field_texts::guid::Guid;
+pub use crate::messaging::fabrics::{Infiniband, Iscsi, NvmeOfNamespace};
+pub use crate::messaging::flash::{Emmc, NvdimmNamespace, NvmeNamespace, Sd, Ufs};
+pub use crate::messaging::network::{Dns, Ipv4, Ipv6, MacAddress, RestService, Uri, Vlan};
+pub use crate::messaging::storage::{
     Atapi, DeviceLogicalUnit, FibreChannel, FibreChannelEx, SasEx, Sata, Scsi,
 };
-use crate::typed_node::TypedNode;
-pub use crate::usb::{Usb, UsbClass, UsbWwid};
-pub use crate::wireless::{Bluetooth, BluetoothLe, Wifi};
-use uefi_field_texts::guid::Guid;
-use uefi_node_table::layouts::{
+pub use crate::messaging::usb::{Usb, UsbClass, UsbWwid};
+pub use crate::messaging::wireless::{Bluetooth, BluetoothLe, Wifi};
+use crate::node::DeviceSubType;
+use crate::node_table::layouts::{
     I2O, I2O_LEAST, I2O_TARGET_ID, IEEE1394, IEEE1394_GUID, IEEE1394_LEAST, MESSAGING_TYPE,
     MESSAGING_VENDOR, MESSAGING_VENDOR_LEAST, MESSAGING_VENDOR_VENDOR_DEFINED_DATA,
     MESSAGING_VENDOR_VENDOR_GUID, UART, UART_BAUD_RATE, UART_DATA_BITS, UART_LEAST, UART_PARITY,
     UART_STOP_BITS,
 };
+use crate::typed_node::TypedNode;
 
 /// Sub-types of the type [`DeviceType::MESSAGING`](crate::DeviceType).
 impl DeviceSubType {
@@ -154,20 +161,22 @@ impl<'a> MessagingVendor<'a> {
 
 /// The structs from which these nodes are built.
 pub mod build {
-    pub use crate::fabric::build::{Infiniband, Iscsi, NvmeOfNamespace};
     use crate::fields::{Fields, put, put_bytes};
-    pub use crate::flash::build::{Emmc, NvdimmNamespace, NvmeNamespace, Sd, Ufs};
-    pub use crate::network::build::{Dns, Ipv4, Ipv6, MacAddress, RestService, Uri, Vlan};
-    pub use crate::storage::build::{
+    pub use crate::messaging::fabrics::build::{Infiniband, Iscsi, NvmeOfNamespace};
+    pub use crate::messaging::flash::build::{Emmc, NvdimmNamespace, NvmeNamespace, Sd, Ufs};
+    pub use crate::messaging::network::build::{
+        Dns, Ipv4, Ipv6, MacAddress, RestService, Uri, Vlan,
+    };
+    pub use crate::messaging::storage::build::{
         Atapi, DeviceLogicalUnit, FibreChannel, FibreChannelEx, SasEx, Sata, Scsi,
     };
-    pub use crate::usb::build::{Usb, UsbClass, UsbWwid};
-    use crate::vendor::VendorNode;
-    pub use crate::wireless::build::{Bluetooth, BluetoothLe, Wifi};
-    use uefi_node_table::layouts::{
+    pub use crate::messaging::usb::build::{Usb, UsbClass, UsbWwid};
+    pub use crate::messaging::wireless::build::{Bluetooth, BluetoothLe, Wifi};
+    use crate::node_table::layouts::{
         I2O_TARGET_ID, IEEE1394_GUID, MESSAGING_TYPE, MESSAGING_VENDOR, UART_BAUD_RATE,
         UART_DATA_BITS, UART_PARITY, UART_STOP_BITS,
     };
+    use crate::vendor::VendorNode;
 
     /// A FireWire device.
     ///

@@ -9,11 +9,11 @@ ghost use Rattle.std.specs.Cmp.{on_per, partial_equiv_from_equiv};
 ghost use Rattle.std.specs.Cmp.Lexicographic.{nat_list_eq_equiv, pointwise, on_texts_equal};
 
 use crate::errors::NodeError;
-use std::fmt;
-use std::hash::{Hash, Hasher};
-use uefi_node_table::layouts::{
+use crate::node_table::layouts::{
     ACPI_TYPE, BIOS_BOOT_SPEC_TYPE, HARDWARE_TYPE, MEDIA_TYPE, MESSAGING_TYPE,
 };
+use std::fmt;
+use std::hash::{Hash, Hasher};
 
 /// The type of a node (UEFI Specification 2.10, section 10.3).
 #[derive(Clone, Copy, Debug, PartialEq, Eq)]

@@ -9,9 +9,7 @@ ghost use Rattle.uefi_device_nodes.specs.NodeViews.{node_of};
 use crate::errors::NodeConversionError;
 use crate::media::FilePath;
 use crate::node::{DevicePathNode, DeviceType};
-use crate::typed_node::TypedNode;
-use crate::{acpi, bios_boot_spec, hardware, media, messaging};
-use uefi_node_table::layouts::{
+use crate::node_table::layouts::{
     ACPI, ACPI_TYPE, ADR, ATAPI, BIOS_BOOT_SPEC_TYPE, BLUETOOTH, BLUETOOTH_LE, BMC,
     BOOT_SPECIFICATION, CD_ROM, CONTROLLER, DEVICE_LOGICAL_UNIT, DNS, EMMC, EXPANDED,
     FIBRE_CHANNEL, FIBRE_CHANNEL_EX, FILE_PATH, FIRMWARE_FILE, FIRMWARE_VOLUME, HARD_DRIVE,
@@ -21,6 +19,8 @@ use uefi_node_table::layouts::{
     RELATIVE_OFFSET_RANGE, REST_SERVICE, SAS_EX, SATA, SCSI, SD, UART, UFS, URI, USB, USB_CLASS,
     USB_WWID, VLAN, WIFI,
 };
+use crate::typed_node::TypedNode;
+use crate::{acpi, bios_boot_spec, hardware, media, messaging};
 
 /// The view of a node, by its kind. The name of a variant is the type and the kind, as in the Rust crate
 /// `uefi`.

@@ -9,22 +9,22 @@ ghost use Rattle.uefi_device_nodes.specs.Nodes.{node_with};
 ghost use Rattle.uefi_text.specs.UnalignedCStr16.{with_prefix};
 ghost use Rattle.uefi_text.specs.UnitTexts.{utf16_units, written_len};
 ghost use Rattle.uefi_text.specs.Units.{nul_terminated};
-ghost use Rattle.uefi_field_texts.specs.FieldTexts.{utf16_text};
+ghost use Rattle.uefi_device_nodes.specs.FieldTexts.{utf16_text};
 
 use crate::acpi::Expanded;
+use crate::field_texts::forms::{AllowShortcuts, DisplayOnly};
+use crate::field_texts::hexadecimal::put_comma_bytes;
+use crate::field_texts::ids::{has_uid_alone, put_eisa_id};
+use crate::field_texts::shown_texts::{put_byte_text, put_utf16_text};
+use crate::field_texts::vendor_names::vendor_name;
 use crate::media::FilePath;
 use crate::node::DevicePathNode;
-use crate::typed_node::TypedNode;
-use std::fmt;
-use uefi_field_texts::forms::{AllowShortcuts, DisplayOnly};
-use uefi_field_texts::hexadecimal::put_comma_bytes;
-use uefi_field_texts::ids::{has_uid_alone, put_eisa_id};
-use uefi_field_texts::shown_texts::{put_byte_text, put_utf16_text};
-use uefi_field_texts::vendor_names::vendor_name;
-use uefi_node_table::layouts::{
+use crate::node_table::layouts::{
     FILE_PATH, MEDIA_TYPE, MESSAGING_TYPE, MESSAGING_VENDOR, MESSAGING_VENDOR_LEAST,
 };
-use uefi_node_table::printing::put_form;
+use crate::node_table::printing::put_form;
+use crate::typed_node::TypedNode;
+use std::fmt;
 use uefi_text::Packed;
 use uefi_text::number_texts::put_decimal;
 use uefi_text::text_sink::{Printed, TextSink, print};

@@ -9,7 +9,7 @@ ghost use Rattle.uefi_text.specs.Units.{nul_terminated};
 ghost use Rattle.uefi_text.specs.Views.{text_of};
 
 use crate::build_node::copy_bytes;
-use uefi_field_texts::guid::Guid;
+use crate::field_texts::guid::Guid;
 use uefi_text::CStr16;
 use uefi_text::scan::split;
 

@@ -7,9 +7,9 @@ ghost use Rattle.uefi_device_nodes.specs.Nodes.{node_with};
 ghost use Rattle.uefi_device_nodes.specs.TypedNodes.{IsOfKind, bytes_from, bytes_in, end_of, kind_refusal, number_in};
 
 use crate::errors::NodeConversionError;
+use crate::field_texts::guid::Guid;
 use crate::node::DevicePathNode;
-use uefi_field_texts::guid::Guid;
-use uefi_node_table::layouts::Field;
+use crate::node_table::layouts::Field;
 use uefi_text::Packed;
 
 /// The data of a node of one kind, with a call for each field. A node of the kind has this type, this

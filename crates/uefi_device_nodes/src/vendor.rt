@@ -4,12 +4,12 @@
 
 ghost use Rattle.std.specs.Prelude.{◌∷◌, []};
 ghost use Rattle.uefi_device_nodes.specs.NodeFields.{bytes};
-ghost use Rattle.uefi_node_table.specs.declared.layouts.TheConstants.{HARDWARE_VENDOR_VENDOR_GUID};
+ghost use Rattle.uefi_device_nodes.specs.declared.node_table.layouts.TheConstants.{HARDWARE_VENDOR_VENDOR_GUID};
 
+use crate::field_texts::guid::Guid;
 use crate::fields::{Fields, put_bytes};
+use crate::node_table::layouts::{HARDWARE_VENDOR_LEAST, HARDWARE_VENDOR_VENDOR_GUID};
 use crate::typed_node::TypedNode;
-use uefi_field_texts::guid::Guid;
-use uefi_node_table::layouts::{HARDWARE_VENDOR_LEAST, HARDWARE_VENDOR_VENDOR_GUID};
 
 /// A vendor-defined node of a type and a sub-type, identified by a GUID.
 #[derive(Clone, Copy)]

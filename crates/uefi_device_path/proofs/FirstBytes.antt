@@ -7,8 +7,8 @@ use Rattle.std.proofs.lemmas.Str.{chars-nil}
 use Rattle.std.proofs.lemmas.Bool.{and_parts, not-true}
 use Rattle.std.proofs.lemmas.Bool.Decides.{nat_tests}
 use borrow.Author.Tests.{eqb-true}
-use Rattle.uefi_node_table.specs.Rows.{Form}
-use Rattle.uefi_node_table.specs.Table.{forms, group_forms}
+use Rattle.uefi_device_nodes.specs.Rows.{Form}
+use Rattle.uefi_device_nodes.specs.Table.{forms, group_forms}
 use Rattle.uefi_device_nodes.specs.Nodes.{Node, node_with}
 use Rattle.uefi_device_path.proofs.AroundNodes.{is_clear, is_passed}
 use Rattle.uefi_node_reader.specs.FieldReading.{◌>>=◌, either_read, read_if}

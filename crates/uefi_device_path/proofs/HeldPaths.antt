@@ -8,7 +8,7 @@ use Rattle.uefi_device_path.specs.Building.{path_length, text_refusal}
 use Rattle.uefi_device_path.specs.NodeSinks.{Holds, HoldsMore, grown_length, nodes_up_to}
 use Rattle.uefi_device_path.specs.Paths.{IsPath, nodes_bytes, path_bytes}
 use Rattle.uefi_device_path.specs.PushedPaths.{Leaves, bytes_unless}
-use Rattle.uefi_device_path.specs.declared.text_errors.PushTextError.TheVariants.{BufferTooSmall}
+use Rattle.uefi_device_path.specs.declared.text.text_errors.PushTextError.TheVariants.{BufferTooSmall}
 use Rattle.uefi_device_path.proofs.Building.{path_empty}
 use Rattle.uefi_device_path.proofs.ShortForms.{bytes_of_both}
 use Rattle.uefi_device_path.proofs.TextLengths.{bytes_more}

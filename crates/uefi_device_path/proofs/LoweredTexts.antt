@@ -7,8 +7,8 @@ use Rattle.std.proofs.lemmas.Grind.{common_steps}
 use Rattle.std.proofs.lemmas.List.Elements.{All-cons, All-head, All-tail}
 use Rattle.std.specs.Prelude.{All, encode_utf8, nat_lt}
 use Rattle.std.specs.Str.{chars, encode_utf8_all, IsUtf8}
-use Rattle.uefi_field_texts.specs.ShownTexts.{IsShown, IsShownChar}
-use Rattle.uefi_field_texts.proofs.ShownTexts.{printable_char}
+use Rattle.uefi_device_nodes.specs.ShownFields.{IsShown, IsShownChar}
+use Rattle.uefi_device_nodes.proofs.ShownFields.{printable_char}
 use Rattle.uefi_device_path.specs.LibefivarTexts.{all_lowered, cased, commas_after, commas_left, commas_to_come, lowered, lowered_text}
 
 -- the commas that are still to come after two parts

@@ -7,7 +7,7 @@ use Rattle.uefi_device_path.specs.PathReading.{NoneBegins, StopsAt}
 use Rattle.uefi_device_path.specs.StyledReading.{follows_comma, path_read, place_read, ReadsTo}
 use Rattle.uefi_device_path.specs.StyledReading.ReadsTo.{Begins, Comma, OneMore}
 use Rattle.uefi_device_path.specs.PathTexts.{nodes_text}
-use Rattle.uefi_device_path.specs.declared.text_errors.TextFault.{TextFault}
+use Rattle.uefi_device_path.specs.declared.text.text_errors.TextFault.{TextFault}
 use Rattle.uefi_device_path.proofs.PathReading.{Going, done, node_begins, over_comma, over_node, stopped}
 use Rattle.uefi_device_path.proofs.StyledReading.{all_taken, err_same, ok_same, reads_mean, stops_mean, told_on}
 use Rattle.uefi_node_reader.specs.Laws.{NodeAgain, NodeFits, NodeTakes}

@@ -4,7 +4,7 @@ use Rattle.std.specs.Prelude.{All}
 use Rattle.std.specs.List.{flat_map, join_by, onto_first, slice_split}
 use Rattle.std.proofs.lemmas.List.Elements.{All-cons, All-head, All-nil, All-tail}
 use Rattle.uefi_text.specs.Packed.{IsByte}
-use Rattle.uefi_field_texts.specs.ShownTexts.{AsciiShown, IsShown, JoinedShown}
+use Rattle.uefi_device_nodes.specs.ShownFields.{AsciiShown, IsShown, JoinedShown}
 use Rattle.uefi_device_nodes.specs.Nodes.{Node, is_end_instance}
 use Rattle.uefi_device_nodes.specs.NodeTexts.{is_file_node, node_text}
 use Rattle.uefi_device_nodes.specs.ShownNodes.{NodesShown}
@@ -12,7 +12,7 @@ use Rattle.uefi_device_path.specs.Instances.{instances}
 use Rattle.uefi_device_path.specs.Laws.{InstancesShown, LibefivarShown, PathsShown}
 use Rattle.uefi_device_path.specs.LibefivarTexts.{is_namespace, is_partition, libefivar_node_text, lowered_text, with_reversed_id}
 use Rattle.uefi_device_path.specs.PathTexts.{instance_text, libefivar_text, nodes_text}
-use Rattle.uefi_field_texts.proofs.ShownTexts.{shown_utf8}
+use Rattle.uefi_device_nodes.proofs.ShownFields.{shown_utf8}
 use Rattle.uefi_device_path.proofs.LoweredTexts.{lowered_shown}
 use Rattle.uefi_device_path.proofs.TurnedNodes.{turned_content}
 

@@ -12,7 +12,7 @@ use Rattle.uefi_device_path.specs.Laws.{PrintedIsRead, StopIsRead}
 use Rattle.uefi_device_path.specs.StyledReading.{follows_comma, place_read, Reads, ReadsTo, StopsBeingRead, fault_from, more_nodes, node_then, nodes_of_rest, path_read}
 use Rattle.uefi_device_path.specs.StyledReading.ReadsTo.{Begins, Comma, OneMore}
 use Rattle.uefi_device_path.specs.PathReading.{AreTold, NoneBegins, end_instance, is_after_instance, text_before}
-use Rattle.uefi_device_path.specs.declared.text_errors.TextFault.{TextFault}
+use Rattle.uefi_device_path.specs.declared.text.text_errors.TextFault.{TextFault}
 use Rattle.uefi_device_path.specs.AroundNodes.{before_closing, first_place}
 use Rattle.uefi_device_path.proofs.AroundNodes.{Ends, all_is_read, closing_within, ends_more, ends_within, is_clear, place_ends}
 use Rattle.uefi_device_path.proofs.FirstBytes.{node_clear}

@@ -11,9 +11,9 @@ use Rattle.std.specs.Str.{chars, encode_utf8_all}
 use Rattle.uefi_text.proofs.TextLengths.{units_within}
 use Rattle.uefi_text.specs.Packed.{IsByte}
 use Rattle.uefi_text.specs.UnitTexts.{utf16_units}
-use Rattle.uefi_field_texts.proofs.ShownTexts.{ascii_shown, bytes_shown, joined_shown, names_shown, numbers_shown, shown_utf8, units_shown}
-use Rattle.uefi_field_texts.specs.ShownTexts.{IsShown}
-use Rattle.uefi_node_table.proofs.ShownTexts.{table_shown}
+use Rattle.uefi_device_nodes.proofs.ShownFields.{ascii_shown, bytes_shown, joined_shown, names_shown, numbers_shown, shown_utf8, units_shown}
+use Rattle.uefi_device_nodes.specs.ShownFields.{IsShown}
+use Rattle.uefi_device_nodes.proofs.ShownTable.{table_shown}
 use Rattle.uefi_device_nodes.proofs.NodeLengths.{name_room, node_within}
 use Rattle.uefi_device_nodes.proofs.ShownNodes.{shown}
 use Rattle.uefi_device_nodes.specs.Nodes.{Node, end_entire, is_end_instance, node_bytes}

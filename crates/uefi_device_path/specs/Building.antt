@@ -2,7 +2,7 @@
 use Rattle.std.specs.Prelude.{ℕ, ◌+◌, ◌-◌, ◌^◌, min, List, ◌++◌, nat_eq, nat_lt, ◌==◌, ◌&&◌, not, if◌then◌else◌, Bool, length, take, Option, Some, None}
 use Rattle.std.specs.List.{ends_with}
 use Rattle.std.specs.Option.{option_map}
-use Rattle.uefi_node_table.specs.declared.layouts.TheConstants.{FILE_PATH, MEDIA_TYPE}
+use Rattle.uefi_device_nodes.specs.declared.node_table.layouts.TheConstants.{FILE_PATH, MEDIA_TYPE}
 use Rattle.uefi_device_nodes.specs.Nodes.{is_end_instance}
 use Rattle.uefi_device_nodes.specs.Nodes.{Node, end_entire, node_bytes, node_length, node_with}
 use Rattle.uefi_device_nodes.specs.declared.errors.NodeError.TheVariants.{Missing}
@@ -13,8 +13,8 @@ use Rattle.uefi_device_path.specs.declared.errors.BuildError.{BuildError}
 use Rattle.uefi_device_path.specs.declared.errors.GrowError.{GrowError}
 use Rattle.uefi_device_path.specs.declared.errors.GrowError.TheVariants.{Build, Path}
 use Rattle.uefi_device_path.specs.declared.errors.BuildError.TheVariants.{BufferTooSmall, EndNode, NodeTooLong}
-use Rattle.uefi_device_path.specs.declared.text_errors.PushTextError.{PushTextError}
-use Rattle.uefi_device_path.specs.declared.text_errors.PushTextError.TheVariants as text
+use Rattle.uefi_device_path.specs.declared.text.text_errors.PushTextError.{PushTextError}
+use Rattle.uefi_device_path.specs.declared.text.text_errors.PushTextError.TheVariants as text
 
 -- the node that names a file: its name and a NUL
 abbrev pub node_of_name : List ℕ → Node

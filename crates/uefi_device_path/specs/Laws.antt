@@ -18,7 +18,7 @@ use Rattle.uefi_device_path.specs.StyledReading.{Reads, StopsBeingRead, path_rea
 use Rattle.uefi_device_path.specs.PathReading.{AreTold, StopsAt}
 use Rattle.uefi_text.specs.Packed.{IsByte}
 use Rattle.uefi_text.specs.UnitTexts.{utf16_units}
-use Rattle.uefi_field_texts.specs.ShownTexts.{IsShown}
+use Rattle.uefi_device_nodes.specs.ShownFields.{IsShown}
 use Rattle.uefi_device_path.specs.LibefivarTexts.{libefivar_node_text}
 use Rattle.uefi_device_path.specs.PathTexts.{instance_text, libefivar_text, nodes_text, text_room}
 use Rattle.uefi_device_path.specs.Paths.{BeginWithPath, path_bytes}
@@ -27,7 +27,7 @@ use Rattle.uefi_device_path.specs.FilePaths.{file_names, file_path, name_in}
 use Rattle.uefi_device_path.specs.LoadOptions.{Entry, EntryRefusedFor, IsEntry, entry_bytes}
 use Rattle.uefi_device_path.specs.declared.errors.DevicePathError.{DevicePathError}
 use Rattle.uefi_device_path.specs.declared.errors.LoadOptionError.{LoadOptionError}
-use Rattle.uefi_device_path.specs.declared.text_errors.TextFault.{TextFault}
+use Rattle.uefi_device_path.specs.declared.text.text_errors.TextFault.{TextFault}
 use Rattle.uefi_node_reader.specs.declared.faults.Expected.TheVariants.{AsPrinted}
 use Rattle.uefi_node_reader.specs.declared.styles.TextStyle.{TextStyle}
 use Rattle.uefi_node_reader.specs.declared.styles.TextStyle.TheVariants.{Printed, Lenient}

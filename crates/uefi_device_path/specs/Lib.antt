@@ -5,7 +5,7 @@ pub use Rattle.uefi_device_nodes.specs.NodeViews
 pub use Rattle.uefi_device_nodes.specs.NodeErrorTexts
 pub use Rattle.uefi_device_nodes.specs.TypedNodes
 pub use Rattle.uefi_device_nodes.specs.NodeTexts
-pub use Rattle.uefi_field_texts.specs.Guids
+pub use Rattle.uefi_device_nodes.specs.Guids
 pub use Rattle.uefi_device_nodes.specs.RawNodes
 pub use Rattle.uefi_device_nodes.specs.NodeFields
 pub use Rattle.uefi_device_nodes.specs.NodeEnums

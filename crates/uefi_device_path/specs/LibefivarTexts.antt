@@ -2,7 +2,7 @@
 use Rattle.std.specs.Prelude.{◌≡◌, ℕ, ◌-◌, ◌==◌, Bool, true, false, if◌then◌else◌, List, [], ◌∷◌, ◌++◌, codes, drop, reverse, take, Option, Some, None}
 use Rattle.std.specs.Char.{to_ascii_lowercase}
 use Rattle.std.specs.Str.{chars, encode_utf8_all}
-use Rattle.uefi_node_table.specs.declared.layouts.TheConstants.{HARD_DRIVE, HARD_DRIVE_LEAST, MEDIA_TYPE, MESSAGING_TYPE, NVME_NAMESPACE, NVME_NAMESPACE_LEAST}
+use Rattle.uefi_device_nodes.specs.declared.node_table.layouts.TheConstants.{HARD_DRIVE, HARD_DRIVE_LEAST, MEDIA_TYPE, MESSAGING_TYPE, NVME_NAMESPACE, NVME_NAMESPACE_LEAST}
 use Rattle.uefi_device_nodes.specs.Nodes.{Node, node_bytes, node_with}
 use Rattle.uefi_device_nodes.specs.NodeTexts.{is_file_node, node_text}
 use Rattle.uefi_device_nodes.specs.TypedNodes.{is_kind}

@@ -1,6 +1,6 @@
 -- Device paths beside others: short forms, and what they stand for (UEFI Specification 2.10, section 3.1.2).
 use Rattle.std.specs.Prelude.{◌≡◌, ℕ, Bool, ◌==◌, ◌&&◌, if◌then◌else◌, ◌⊎◌, List, [], ◌∷◌, ◌++◌, Option, None, Some}
-use Rattle.uefi_node_table.specs.declared.layouts.TheConstants.{FILE_PATH, HARD_DRIVE, HARD_DRIVE_LEAST, HARD_DRIVE_PARTITION_NUMBER, HARD_DRIVE_PARTITION_SIGNATURE, HARD_DRIVE_SIGNATURE_TYPE, MEDIA_TYPE, MESSAGING_TYPE, URI, USB_CLASS, USB_WWID}
+use Rattle.uefi_device_nodes.specs.declared.node_table.layouts.TheConstants.{FILE_PATH, HARD_DRIVE, HARD_DRIVE_LEAST, HARD_DRIVE_PARTITION_NUMBER, HARD_DRIVE_PARTITION_SIGNATURE, HARD_DRIVE_SIGNATURE_TYPE, MEDIA_TYPE, MESSAGING_TYPE, URI, USB_CLASS, USB_WWID}
 use Rattle.uefi_device_nodes.specs.Nodes.{Node}
 use Rattle.uefi_device_nodes.specs.TypedNodes.{IsOfKind, bytes_in, number_in}
 use Rattle.uefi_device_path.specs.declared.matching.ShortForm.{ShortForm}

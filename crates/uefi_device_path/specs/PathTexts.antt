@@ -5,7 +5,7 @@ use Rattle.uefi_device_nodes.specs.Nodes.{Node}
 use Rattle.uefi_device_nodes.specs.NodeTexts.{node_text}
 use Rattle.uefi_device_path.specs.Instances.{instances}
 use Rattle.uefi_device_path.specs.LibefivarTexts.{libefivar_node_text}
-use Rattle.uefi_device_path.specs.declared.path_text.TheConstants.{TEXT_UNITS_PER_BYTE}
+use Rattle.uefi_device_path.specs.declared.text.path_text.TheConstants.{TEXT_UNITS_PER_BYTE}
 
 -- an instance: the texts of its nodes, with a slash between each two
 unfoldable pub instance_text : Bool → Bool → List Node → List ℕ

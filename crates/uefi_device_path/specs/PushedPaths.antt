@@ -8,8 +8,8 @@ use Rattle.uefi_device_path.specs.Paths.{path_bytes}
 use Rattle.uefi_device_path.specs.StyledReading.{path_read}
 use Rattle.uefi_device_path.specs.declared.errors.GrowError.{GrowError}
 use Rattle.uefi_device_path.specs.declared.errors.GrowError.TheVariants as grow
-use Rattle.uefi_device_path.specs.declared.text_errors.PushTextError.{PushTextError}
-use Rattle.uefi_device_path.specs.declared.text_errors.PushTextError.TheVariants as push
+use Rattle.uefi_device_path.specs.declared.text.text_errors.PushTextError.{PushTextError}
+use Rattle.uefi_device_path.specs.declared.text.text_errors.PushTextError.TheVariants as push
 use Rattle.uefi_node_reader.specs.declared.styles.TextStyle.{TextStyle}
 
 -- what a call leaves, given the bytes of the path that the buffer then begins with, or the error: it returns

@@ -3,9 +3,9 @@ use Rattle.std.specs.Prelude.{◌≡◌, ℕ, zero, suc, take, ◌+◌, ◌-◌,
 use Rattle.uefi_device_nodes.specs.Nodes.{Node}
 use Rattle.uefi_device_path.specs.AroundNodes.{before_closing, first_place}
 use Rattle.uefi_device_path.specs.PathReading.{end_instance, is_after_instance}
-use Rattle.uefi_device_path.specs.declared.text_errors.PathTextError.{PathTextError}
-use Rattle.uefi_device_path.specs.declared.text_errors.PathTextError.TheVariants.{NoNode, OutOfMemory}
-use Rattle.uefi_device_path.specs.declared.text_errors.TextFault.{TextFault}
+use Rattle.uefi_device_path.specs.declared.text.text_errors.PathTextError.{PathTextError}
+use Rattle.uefi_device_path.specs.declared.text.text_errors.PathTextError.TheVariants.{NoNode, OutOfMemory}
+use Rattle.uefi_device_path.specs.declared.text.text_errors.TextFault.{TextFault}
 use Rattle.uefi_node_reader.specs.declared.faults.Expected.{Expected}
 use Rattle.uefi_node_reader.specs.declared.faults.Expected.TheVariants as expected
 use Rattle.uefi_node_reader.specs.declared.faults.NodeFault.{NodeFault}

@@ -4,11 +4,11 @@ use Rattle.std.specs.Fmt.{decimal}
 use Rattle.uefi_node_reader.specs.FaultTexts.{expected_text}
 use Rattle.uefi_device_path.specs.ErrorTexts.{build_error_text, device_path_error_text}
 use Rattle.uefi_device_path.specs.declared.errors.BuildError.TheVariants as build
-use Rattle.uefi_device_path.specs.declared.text_errors.PathTextError.{PathTextError}
-use Rattle.uefi_device_path.specs.declared.text_errors.PathTextError.TheVariants as read
-use Rattle.uefi_device_path.specs.declared.text_errors.PushTextError.{PushTextError}
-use Rattle.uefi_device_path.specs.declared.text_errors.PushTextError.TheVariants as push
-use Rattle.uefi_device_path.specs.declared.text_errors.TextFault.{TextFault}
+use Rattle.uefi_device_path.specs.declared.text.text_errors.PathTextError.{PathTextError}
+use Rattle.uefi_device_path.specs.declared.text.text_errors.PathTextError.TheVariants as read
+use Rattle.uefi_device_path.specs.declared.text.text_errors.PushTextError.{PushTextError}
+use Rattle.uefi_device_path.specs.declared.text.text_errors.PushTextError.TheVariants as push
+use Rattle.uefi_device_path.specs.declared.text.text_errors.TextFault.{TextFault}
 
 -- the text of an error for the place where no node is read
 abbrev pub text_fault_text : TextFault → List ℕ

@@ -26,7 +26,7 @@ use crate::file_path::{FilePathText, file_path_in, write_file_path_in};
 use crate::instance::DevicePathInstanceIterator;
 use crate::laws::text_lengths;
 use crate::node_iterator::DevicePathNodeIterator;
-use crate::path_text::{LibefivarText, PathText, most_units};
+use crate::text::path_text::{LibefivarText, PathText, most_units};
 use std::alloc::Allocator;
 use std::fmt;
 use std::hash::{Hash, Hasher};

@@ -2,12 +2,12 @@
 //! that other contracts cite. Each law is a function that does nothing: its contract is the law.
 ghost use Rattle.uefi_device_path.specs.Laws.{AcceptedWithMore, BegunIsRead, BuiltIsRead, BytesOnce, FaultsWithin, InstancesShown, LibefivarNodeTextsFit, LibefivarShown, LibefivarTextsFit, NamesInARow, NeverBoth, NodeTextsFit, OneName, OnlyFilesCount, OptionsNeverBoth, OptionsOnce, PathTextsFit, PathsAreRead, PathsOnce, PathsShown, PrintedIsRead, PrintedStops, PushedAtRefused, PushedAtWritten, QuotedIsRead, ReadIsPrinted, ReadMeans, ReadTold, RefusalsAreRead, RefusedByHeader, RefusedIsRead, RelativeNamesArePushed, SlashedIsRead, StopIsRead, StopMeans, StopsOnce, TextsNeverBoth, TextsOnce};
 
+use uefi_device_nodes::field_texts::field_laws::fields_are_shown;
+pub use uefi_device_nodes::field_texts::field_laws::guid_texts;
 use uefi_device_nodes::laws::nodes_are_shown;
 pub use uefi_device_nodes::laws::{units_in_bytes, view_of_built};
-use uefi_field_texts::laws::fields_are_shown;
-pub use uefi_field_texts::laws::guid_texts;
-use uefi_node_reader::nodes::nodes_are_read;
-pub use uefi_node_reader::nodes::texts_alike;
+use uefi_node_reader::node_texts::nodes_are_read;
+pub use uefi_node_reader::node_texts::texts_alike;
 use uefi_node_reader::styles::{faults_lie_within, styled_nodes_are_read};
 use uefi_path::laws::join_components;
 

@@ -26,9 +26,7 @@
 //! calls that say so allocate.
 #![tactic(auto)]
 
-mod around_nodes;
 pub mod build;
-mod cased_texts;
 mod checked_nodes;
 mod device_path;
 mod device_path_buf;
@@ -37,24 +35,16 @@ mod errors;
 mod extent;
 mod file_path;
 mod instance;
-mod instance_text;
 pub mod laws;
-mod libefivar_nodes;
 mod load_option;
 mod load_option_builder;
 mod load_option_edits;
 mod load_option_parts;
 mod matching;
 mod node_iterator;
-mod node_sinks;
 mod path_in_buf;
 mod path_list;
-mod path_reader;
-mod path_text;
-mod styled_reader;
-mod text_errors;
-mod text_extent;
-mod text_in_buf;
+mod text;
 
 pub use build::BuildNode;
 pub use checked_nodes::CheckedNodes;
@@ -76,30 +66,33 @@ pub use matching::ShortForm;
 pub use node_iterator::DevicePathNodeIterator;
 pub use path_in_buf::{append_in_buf, push_at_in_buf, push_in_buf};
 pub use path_list::{DevicePaths, check_paths};
-pub use path_text::{LibefivarText, PathText, TEXT_UNITS_PER_BYTE};
-pub use text_errors::{Choice, Expected, PathTextError, PushTextError, TextFault};
-pub use text_in_buf::{push_lenient_text_in_buf, push_libefivar_text_in_buf, push_text_in_buf};
+pub use text::path_text::{LibefivarText, PathText, TEXT_UNITS_PER_BYTE};
+pub use text::text_errors::{Choice, Expected, PathTextError, PushTextError, TextFault};
+pub use text::text_in_buf::{
+    push_lenient_text_in_buf, push_libefivar_text_in_buf, push_text_in_buf,
+};
 // The C library uses this, so that it has the code that prints nodes once.
 #[doc(hidden)]
-pub use cased_texts::AsInPath;
+pub use text::cased_texts::AsInPath;
 // The C library uses this; callers in Rattle have a call for each style.
 #[doc(hidden)]
-pub use text_in_buf::{push_any_text_in_buf, push_styled_text_in_buf};
+pub use text::text_in_buf::{push_any_text_in_buf, push_styled_text_in_buf};
 // The C library uses this too.
 #[doc(hidden)]
-pub use text_extent::styled_text_extent;
-pub use text_extent::{lenient_text_extent, libefivar_text_extent};
+pub use text::text_extent::styled_text_extent;
+pub use text::text_extent::{lenient_text_extent, libefivar_text_extent};
+pub use uefi_device_nodes::field_texts::forms::{AllowShortcuts, DisplayOnly};
+pub use uefi_device_nodes::field_texts::guid::Guid;
+pub use uefi_device_nodes::field_texts::shown_texts::is_escaped;
 pub use uefi_device_nodes::node::{DevicePathNode, DeviceSubType, DeviceType};
 pub use uefi_device_nodes::node_enum::DevicePathNodeEnum;
 pub use uefi_device_nodes::node_text::NodeText;
 pub use uefi_device_nodes::typed_node::TypedNode;
 pub use uefi_device_nodes::{acpi, bios_boot_spec, hardware, media, messaging};
-pub use uefi_field_texts::forms::{AllowShortcuts, DisplayOnly};
-pub use uefi_field_texts::guid::Guid;
-pub use uefi_field_texts::shown_texts::is_escaped;
 // The C library uses this too.
 #[doc(hidden)]
 pub use uefi_device_nodes::node::fault_place;
+pub use uefi_device_nodes::node_table::layouts;
 #[doc(hidden)]
 pub use uefi_node_reader::named_files::NameText;
 #[doc(hidden)]
@@ -108,5 +101,4 @@ pub use uefi_node_reader::styles::TextStyle;
 pub use uefi_node_reader::texts::Text;
 #[doc(hidden)]
 pub use uefi_node_reader::utf16_texts::{Utf16Text, units_within};
-pub use uefi_node_table::layouts;
 pub use uefi_text::unit_sink::BufferTooSmall;

@@ -16,8 +16,8 @@ ghost use Rattle.uefi_text.specs.Runs.{GivesEach};
 use crate::errors::{LoadOptionCause, LoadOptionError};
 use crate::node_iterator::DevicePathNodeIterator;
 use crate::path_list::{DevicePaths, ListFault};
-use crate::path_text::PathText;
-use uefi_field_texts::forms::{AllowShortcuts, DisplayOnly};
+use crate::text::path_text::PathText;
+use uefi_device_nodes::field_texts::forms::{AllowShortcuts, DisplayOnly};
 use uefi_text::UnalignedSlice;
 
 /// The well-formed parts of bytes that are not a load option, up to the first fault, and that

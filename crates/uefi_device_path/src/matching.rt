@@ -11,7 +11,7 @@ ghost use Rattle.uefi_device_path.specs.Matching.{IsExpansion, Names, NameOnePar
 use crate::device_path::DevicePath;
 use uefi_device_nodes::DevicePathNode;
 use uefi_device_nodes::media::HardDrive;
-use uefi_node_table::layouts;
+use uefi_device_nodes::node_table::layouts;
 
 /// The first node of a short-form device path. Such a path leaves out where the device is, and
 /// firmware looks for the device (UEFI Specification 2.10, section 3.1.2).

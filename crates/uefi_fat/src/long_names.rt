@@ -13,7 +13,7 @@ use std::error::Error;
 use std::fmt;
 use uefi_text::chars::Char16;
 use uefi_text::number_texts::put_decimal;
-use uefi_text::strs::Char16Slice;
+use uefi_text::strings::strs::Char16Slice;
 use uefi_text::text_sink::{Printed, TextSink, print};
 
 /// The most characters of a name.

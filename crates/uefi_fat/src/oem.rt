@@ -14,7 +14,7 @@ ghost use Rattle.uefi_text.specs.Views.{units_of};
 use crate::short_names::is_fat_unit;
 use uefi_text::BufferTooSmall;
 use uefi_text::case::upper;
-use uefi_text::strs::Char16Slice;
+use uefi_text::strings::strs::Char16Slice;
 
 /// The replacement for a character that short names cannot contain.
 const UNDERSCORE: u8 = 0x5f;

@@ -7,7 +7,7 @@ ghost use Rattle.uefi_text.specs.Views.{units_of};
 
 use uefi_text::case::{lower, upper};
 use uefi_text::chars::Char16;
-use uefi_text::strs::Char16Slice;
+use uefi_text::strings::strs::Char16Slice;
 
 /// The dot between the base of a short name and its extension.
 const DOT: u16 = 0x2e;

@@ -16,7 +16,7 @@ use Rattle.uefi_text.proofs.UnitBytes.{units_of_bytes-unit_bytes}
 use Rattle.uefi_text.specs.Packed.{IsByte}
 use Rattle.uefi_text.specs.UnitBytes.{unit_bytes}
 use Rattle.uefi_text.specs.Units.{is_nul}
-use Rattle.uefi_field_texts.specs.FieldTexts.{is_escaped, shown_byte, shown_bytes, shown_char, shown_units, until_nul, utf16_text}
+use Rattle.uefi_device_nodes.specs.FieldTexts.{is_escaped, shown_byte, shown_bytes, shown_char, shown_units, until_nul, utf16_text}
 use Rattle.uefi_node_reader.specs.FieldReading.{clear_run, is_clear}
 use Rattle.uefi_node_reader.proofs.NamedFiles.{lossy_back, no_nul, place_of, until_back}
 

@@ -9,18 +9,18 @@ use Rattle.std.proofs.lemmas.List.Folds.{list_all-append}
 use native.Mathlib.Nat.{pow-suc, pow-zero}
 use borrow.Author.Tests.{eq-eqb, eqb-true, lt-ltb}
 use Rattle.uefi_text.specs.Packed.{IsByte, little_endian}
-use Rattle.uefi_field_texts.specs.FieldTexts.{hex_back, hex_bytes, hex_two}
-use Rattle.uefi_node_table.specs.Fields.{field_text, fits_shape}
-use Rattle.uefi_node_table.specs.Rows.{Piece}
-use Rattle.uefi_node_table.specs.declared.rows.Shape.{Shape}
-use Rattle.uefi_node_table.specs.declared.rows.Shape.TheVariants.{Hexadecimal, Decimal, OrDefault, Back, Forth, Dashed, Next, Eisa, Word}
+use Rattle.uefi_device_nodes.specs.FieldTexts.{hex_back, hex_bytes, hex_two}
+use Rattle.uefi_device_nodes.specs.Fields.{field_text, fits_shape}
+use Rattle.uefi_device_nodes.specs.Rows.{Piece}
+use Rattle.uefi_device_nodes.specs.declared.node_table.rows.Shape.{Shape}
+use Rattle.uefi_device_nodes.specs.declared.node_table.rows.Shape.TheVariants.{Hexadecimal, Decimal, OrDefault, Back, Forth, Dashed, Next, Eisa, Word}
 use Rattle.uefi_node_reader.specs.FieldReading.{IsValue, field_read}
 use Rattle.uefi_node_reader.specs.Numerals.{digit_of}
 use Rattle.uefi_node_reader.specs.TableReading.{are_parted, ends_apart, is_digits, piece_put, put_at}
 use Rattle.uefi_node_reader.specs.WordReading.{after}
 use Rattle.uefi_node_reader.proofs.Digits.{IsBase, decimal_base, digits_one, digits_step, hexadecimal}
 use Rattle.uefi_node_reader.proofs.FieldLaws.{field_takes, limits, number_bounds, reversed_is, value_bound}
-use Rattle.uefi_field_texts.proofs.GuidTexts.{two_digits}
+use Rattle.uefi_device_nodes.proofs.GuidTexts.{two_digits}
 use Rattle.uefi_node_reader.proofs.Literals.{after_takes}
 
 -- the test for texts of digits alone

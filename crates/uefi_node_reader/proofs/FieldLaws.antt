@@ -8,22 +8,22 @@ use Rattle.std.proofs.lemmas.List.Elements.{All-nil, All-cons, All-from_get_or, 
 use native.Mathlib.Nat.{pow-suc, pow-zero}
 use borrow.Author.Tests.{eq-eqb, eqb-true, ne_eqb, leb-true, lt-ltb, ltb-false, ltb-true}
 use Rattle.uefi_text.specs.Packed.{IsByte, little_endian}
-use Rattle.uefi_field_texts.specs.FieldTexts.{dashed_back, eisa_bits, eisa_letter, eisa_text, hex_back, hex_four, hex_bytes, hex_two}
+use Rattle.uefi_device_nodes.specs.FieldTexts.{dashed_back, eisa_bits, eisa_letter, eisa_text, hex_back, hex_four, hex_bytes, hex_two}
 use Rattle.uefi_node_reader.specs.Numerals.{digit_of, has_digit, number_read}
 use Rattle.uefi_node_reader.specs.TableReading.{ends_field, goes_on}
 use Rattle.uefi_node_reader.specs.FieldReading.{◌>>=◌, byte_read, more_read, bytes_read, default_read, digits_of_id, eisa_read, letter_of, letters_read, less_one, low_bytes, as_bytes, next_read, or_default, some_id, turned, field_kept, field_read, IsValue}
 use Rattle.uefi_node_reader.specs.WordReading.{after, are_sound, or_word, word_number, word_read}
-use Rattle.uefi_node_table.specs.Fields.{default_text, field_text, fits_shape}
-use Rattle.uefi_node_table.specs.Words.{word_text, words_of}
-use Rattle.uefi_node_table.specs.declared.rows.Shape.{Shape}
-use Rattle.uefi_node_table.specs.declared.rows.Shape.TheVariants.{Hexadecimal, Decimal, OrDefault, Back, Forth, Dashed, Next, Eisa, Word}
-use Rattle.uefi_node_table.specs.declared.words.Words.{Words}
-use Rattle.uefi_node_table.specs.declared.words.Words.TheVariants.{Parity, StopBits, Digests, Login, Protocol}
+use Rattle.uefi_device_nodes.specs.Fields.{default_text, field_text, fits_shape}
+use Rattle.uefi_device_nodes.specs.Words.{word_text, words_of}
+use Rattle.uefi_device_nodes.specs.declared.node_table.rows.Shape.{Shape}
+use Rattle.uefi_device_nodes.specs.declared.node_table.rows.Shape.TheVariants.{Hexadecimal, Decimal, OrDefault, Back, Forth, Dashed, Next, Eisa, Word}
+use Rattle.uefi_device_nodes.specs.declared.node_table.words.Words.{Words}
+use Rattle.uefi_device_nodes.specs.declared.node_table.words.Words.TheVariants.{Parity, StopBits, Digests, Login, Protocol}
 use Rattle.std.proofs.lemmas.Str.{encode_ascii}
 use Rattle.std.specs.Prelude.{encode_utf8, nat_le, not, ◌≢◌}
 use Rattle.std.proofs.lemmas.List.{get_or-reverse, length-reverse, reverse-reverse}
 use Rattle.std.proofs.Math.Nat.{pow-le-pow_right}
-use Rattle.uefi_field_texts.proofs.GuidTexts.{two_digits}
+use Rattle.uefi_device_nodes.proofs.GuidTexts.{two_digits}
 use Rattle.uefi_node_reader.proofs.Literals.{after_again, after_some, after_takes, bind_some}
 use Rattle.uefi_node_reader.proofs.WordLaws.{word_again, word_takes}
 use Rattle.uefi_node_reader.proofs.Digits.{IsBase, decimal_base, hexadecimal, number_again, number_takes, some_pair}

@@ -5,7 +5,7 @@ use Rattle.std.specs.Char.{to_ascii_lowercase, to_ascii_uppercase}
 use Rattle.std.proofs.lemmas.Bool.{and_parts, or_parts}
 use Rattle.std.proofs.lemmas.Bool.Decides.{nat_tests}
 use borrow.Author.Tests.{eqb-true}
-use Rattle.uefi_node_table.specs.Rows.{Form}
+use Rattle.uefi_device_nodes.specs.Rows.{Form}
 use Rattle.uefi_node_reader.specs.FirstLetters.{all_begin_in, begins_in, begins_in_either_case, is_in}
 use Rattle.uefi_node_reader.specs.LenientCalls.{begins_call_name, first_tried, or_next}
 use Rattle.uefi_node_reader.specs.Stops.{further}

@@ -4,7 +4,7 @@ use Rattle.std.proofs.Math.ListN.{replicate}
 use Rattle.std.proofs.Math.Seq.{take-set-lt}
 use Rattle.std.proofs.lemmas.List.{take-replicate}
 use Rattle.std.proofs.lemmas.Bool.{and_parts, leb-true, lt-ltb, ltb-true}
-use Rattle.uefi_node_table.specs.Rows.{Form}
+use Rattle.uefi_device_nodes.specs.Rows.{Form}
 use Rattle.uefi_node_reader.specs.TableReading.{are_within, blank, is_filled, put_all}
 
 within_more : (n m : ℕ) (bytes : List (ℕ × ℕ)) → n ≤ m → are_within n bytes ≡ true → are_within m bytes ≡ true

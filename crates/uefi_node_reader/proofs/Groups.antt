@@ -3,9 +3,9 @@ use Rattle.std.proofs.Common.{◌≡◌, ℕ, suc, ◌+◌, ◌-◌, ◌<◌, �
 use Rattle.std.specs.Prelude.{Some, None, ◌&&◌}
 use Rattle.std.specs.List.{list_all}
 use Rattle.std.proofs.lemmas.Bool.{and_parts}
-use Rattle.uefi_node_table.specs.Rows.{Form, find_form, item_of}
-use Rattle.uefi_node_table.specs.Table.{forms, forms_from, group_forms}
-use Rattle.uefi_node_table.proofs.Groups.{all_groups, next_group}
+use Rattle.uefi_device_nodes.specs.Rows.{Form, find_form, item_of}
+use Rattle.uefi_device_nodes.specs.Table.{forms, forms_from, group_forms}
+use Rattle.uefi_device_nodes.proofs.Groups.{all_groups, next_group}
 use Rattle.uefi_node_reader.specs.TableReading.{all_differ, form_place, is_filled, is_sound}
 
 pub table_sound : list_all is_sound forms ≡ true

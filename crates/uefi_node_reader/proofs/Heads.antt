@@ -4,8 +4,8 @@ use Rattle.std.specs.Prelude.{Some}
 use Rattle.std.specs.List.{list_all}
 use Rattle.std.proofs.lemmas.Bool.{and_parts, le-leb, leb-false, leb-true, lt-leb, ltb-true}
 use Rattle.std.proofs.lemmas.List.{get_or-take, length-take}
-use Rattle.uefi_node_table.specs.Rows.{Form, find_form, has_bytes, is_used, matches}
-use Rattle.uefi_node_table.specs.Table.{forms, group_forms, has_form, is_found}
+use Rattle.uefi_device_nodes.specs.Rows.{Form, find_form, has_bytes, is_used, matches}
+use Rattle.uefi_device_nodes.specs.Table.{forms, group_forms, has_form, is_found}
 use Rattle.uefi_device_nodes.specs.Nodes.{node_with}
 use Rattle.uefi_node_reader.specs.TableReading.{are_within, form_place, prints}
 

@@ -7,18 +7,18 @@ use Rattle.std.proofs.Math.Seq.{drop-append_seam}
 use Rattle.std.proofs.lemmas.Bool.{and_parts}
 use Rattle.std.proofs.lemmas.List.Elements.{All-append, All-cons, All-nil}
 use Rattle.uefi_text.specs.Packed.{IsByte}
-use Rattle.uefi_node_table.specs.Fields.{fits_shape}
-use Rattle.uefi_node_table.specs.Rows.{Form, Piece, is_within}
-use Rattle.uefi_node_table.specs.declared.rows.Shape.{Shape}
-use Rattle.uefi_node_table.specs.declared.rows.Spare.{Spare}
-use Rattle.uefi_node_table.specs.declared.rows.Spare.TheVariants.{Zeros, Ones}
-use Rattle.uefi_node_table.specs.declared.rows.Shape.TheVariants.{Hexadecimal, Decimal, OrDefault, Back, Forth, Dashed, Next, Eisa, Word as WordShape}
+use Rattle.uefi_device_nodes.specs.Fields.{fits_shape}
+use Rattle.uefi_device_nodes.specs.Rows.{Form, Piece, is_within}
+use Rattle.uefi_device_nodes.specs.declared.node_table.rows.Shape.{Shape}
+use Rattle.uefi_device_nodes.specs.declared.node_table.rows.Spare.{Spare}
+use Rattle.uefi_device_nodes.specs.declared.node_table.rows.Spare.TheVariants.{Zeros, Ones}
+use Rattle.uefi_device_nodes.specs.declared.node_table.rows.Shape.TheVariants.{Hexadecimal, Decimal, OrDefault, Back, Forth, Dashed, Next, Eisa, Word as WordShape}
 use Rattle.uefi_node_reader.specs.FieldReading.{◌>>=◌, IsValue, as_bytes, less_one, low_bytes}
 use Rattle.uefi_node_reader.specs.LenientFields.{after_ending, any_field, any_number, any_word, expected_field, is_number, number_or_word, past_base, spare_byte, value_or_spare}
 use Rattle.uefi_node_reader.specs.Notations.{lenient, piece_in, pieces_in}
 use Rattle.uefi_node_reader.specs.Stops.{stop_at}
 use Rattle.uefi_node_reader.specs.TableReading.{IsTailTold, blank, first_of, followed, is_read, is_sound, pieces_put, put_at, rest_read, tail_read}
-use Rattle.uefi_node_table.specs.Words.{words_of}
+use Rattle.uefi_device_nodes.specs.Words.{words_of}
 use Rattle.uefi_node_reader.specs.WordReading.{after}
 use Rattle.uefi_node_reader.proofs.Digits.{some_pair}
 use Rattle.uefi_node_reader.proofs.FieldLaws.{field_takes, low_is}

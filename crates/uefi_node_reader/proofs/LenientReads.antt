@@ -3,9 +3,9 @@ use Rattle.std.proofs.Common.{◌≡◌, ℕ, suc, ◌+◌, ◌-◌, ◌<◌, Li
 use Rattle.std.specs.Prelude.{Option, Some, None, Result, Ok, Err}
 use Rattle.std.specs.Option.{ok_or}
 use Rattle.std.specs.Result.{result_ok}
-use Rattle.uefi_node_table.specs.Rows.{Form}
-use Rattle.uefi_node_table.specs.Table.{forms_from, group_forms}
-use Rattle.uefi_node_table.proofs.Groups.{next_group}
+use Rattle.uefi_device_nodes.specs.Rows.{Form}
+use Rattle.uefi_device_nodes.specs.Table.{forms_from, group_forms}
+use Rattle.uefi_device_nodes.proofs.Groups.{next_group}
 use Rattle.uefi_device_nodes.specs.Nodes.{Node}
 use Rattle.uefi_node_reader.specs.FieldReading.{either_read}
 use Rattle.uefi_node_reader.specs.LenientCalls.{first_tried, or_next}

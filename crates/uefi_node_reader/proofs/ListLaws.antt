@@ -10,9 +10,9 @@ use Rattle.std.proofs.lemmas.List.{drop_at, length-replicate, take_at}
 use Rattle.std.proofs.lemmas.List.Elements.{All-append, All-cons, All-drop, All-head, All-nil, All-tail, All-take}
 use borrow.Author.Tests.{ltb-true}
 use Rattle.uefi_text.specs.Packed.{IsByte}
-use Rattle.uefi_node_table.specs.Rows.{Item, is_within, item_of, item_text, list_items, list_text, pieces_text}
-use Rattle.uefi_node_table.specs.declared.rows.Items.{Items}
-use Rattle.uefi_node_table.specs.declared.rows.Items.TheVariants.{Numbers, Ipv4, Ipv6}
+use Rattle.uefi_device_nodes.specs.Rows.{Item, is_within, item_of, item_text, list_items, list_text, pieces_text}
+use Rattle.uefi_device_nodes.specs.declared.node_table.rows.Items.{Items}
+use Rattle.uefi_device_nodes.specs.declared.node_table.rows.Items.TheVariants.{Numbers, Ipv4, Ipv6}
 use Rattle.uefi_node_reader.specs.FieldReading.{◌>>=◌}
 use Rattle.uefi_node_reader.specs.Numerals.{digit_of, has_digit}
 use Rattle.uefi_node_reader.specs.WordReading.{after}

@@ -2,7 +2,7 @@
 use Rattle.std.proofs.Common.{◌≡◌, ℕ, zero, suc, List, ◌++◌, refl, sym, ap, ◌∙◌}
 use Rattle.std.specs.Prelude.{Option, Some, None, option_and_then}
 use Rattle.std.proofs.Math.ListN.{replicate}
-use Rattle.uefi_node_table.specs.Rows.{Item}
+use Rattle.uefi_device_nodes.specs.Rows.{Item}
 use Rattle.uefi_node_reader.specs.Counted.{pushed_bytes, put_on}
 use Rattle.uefi_node_reader.specs.FieldReading.{◌>>=◌}
 use Rattle.uefi_node_reader.proofs.CountedBytes.{pushed_bytes-append}

@@ -17,7 +17,7 @@ use Rattle.uefi_text.proofs.UnitBytes.{length-unit_bytes, unit_bytes-append, uni
 use Rattle.uefi_text.specs.UnitBytes.{unit_bytes, units_of_bytes}
 use Rattle.uefi_text.specs.Units.{is_nul}
 use Rattle.uefi_text.proofs.Surrogates.{lone_first, pair_first}
-use Rattle.uefi_field_texts.specs.FieldTexts.{is_escaped, shown_char, shown_units, until_nul, utf16_text}
+use Rattle.uefi_device_nodes.specs.FieldTexts.{is_escaped, shown_char, shown_units, until_nul, utf16_text}
 use Rattle.uefi_device_nodes.specs.Nodes.{Node, node_with}
 use Rattle.uefi_device_nodes.specs.NodeTexts.{irregular_text, node_text}
 use Rattle.uefi_node_reader.specs.Counted.{pushed_byte, pushed_bytes}

@@ -5,9 +5,9 @@ use Rattle.std.specs.Prelude.{not, Option, Some, None, codes}
 use Rattle.std.proofs.Common.{subst, ◌%◌, eqb, leb, ◌&&◌, ◌||◌, cond, ◌≤◌, ◌≡◌, ℕ, true, false, List, [], ◌∷◌, ◌++◌, refl, ap, sym, ◌∙◌, append_assoc, inl, inr, length, Bool, arith}
 use borrow.Author.Tests.{eqb-true, leb-true}
 use lib.Utf8.{encode, encodes}
-use Rattle.uefi_node_table.specs.Rows.{Form, is_used}
-use Rattle.uefi_node_table.specs.Table.{forms, group_forms, has_form, is_found, table_text, text_in}
-use Rattle.uefi_node_table.proofs.Forms.{found}
+use Rattle.uefi_device_nodes.specs.Rows.{Form, is_used}
+use Rattle.uefi_device_nodes.specs.Table.{forms, group_forms, has_form, is_found, table_text, text_in}
+use Rattle.uefi_device_nodes.proofs.Forms.{found}
 use Rattle.uefi_device_nodes.specs.Nodes.{Node}
 use Rattle.uefi_device_nodes.specs.NodeTexts.{irregular_text, is_irregular, node_text, unknown_text}
 use Rattle.uefi_node_reader.specs.FieldReading.{either_read}

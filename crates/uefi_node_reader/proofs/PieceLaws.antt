@@ -7,17 +7,17 @@ use borrow.Author.Tests.{eqb-true}
 use Rattle.uefi_text.specs.Packed.{IsByte}
 use Rattle.uefi_node_reader.specs.FieldReading.{field_kept, field_read, IsValue}
 use Rattle.uefi_node_reader.specs.WordReading.{after}
-use Rattle.uefi_node_table.specs.Fields.{field_text, fits_shape}
+use Rattle.uefi_device_nodes.specs.Fields.{field_text, fits_shape}
 use Rattle.uefi_node_reader.specs.Numerals.{has_digit}
-use Rattle.uefi_node_table.proofs.Lists.{all_of_both}
-use Rattle.uefi_node_table.specs.Rows.{Piece, is_within, piece_text, pieces_text, value_at}
+use Rattle.uefi_device_nodes.proofs.Lists.{all_of_both}
+use Rattle.uefi_device_nodes.specs.Rows.{Piece, is_within, piece_text, pieces_text, value_at}
 use Rattle.uefi_node_reader.specs.TableReading.{are_apart, ends_field, ends_pieces, goes_on, is_apart, is_empty, put_at}
 use Rattle.uefi_node_reader.specs.TableReading.{are_parted, list_number, overlay, piece_put, pieces_differ, pieces_put, same_shape}
 use Rattle.uefi_node_reader.specs.WordReading.{clash, same_text}
-use Rattle.uefi_node_table.specs.declared.rows.Shape.{Shape}
-use Rattle.uefi_node_table.specs.declared.rows.Shape.TheVariants.{Hexadecimal, Decimal, OrDefault, Back, Forth, Dashed, Next, Eisa, Word}
-use Rattle.uefi_node_table.specs.declared.words.Words.{Words}
-use Rattle.uefi_node_table.specs.declared.words.Words.TheVariants.{Parity, StopBits, Digests, Login, Protocol}
+use Rattle.uefi_device_nodes.specs.declared.node_table.rows.Shape.{Shape}
+use Rattle.uefi_device_nodes.specs.declared.node_table.rows.Shape.TheVariants.{Hexadecimal, Decimal, OrDefault, Back, Forth, Dashed, Next, Eisa, Word}
+use Rattle.uefi_device_nodes.specs.declared.node_table.words.Words.{Words}
+use Rattle.uefi_device_nodes.specs.declared.node_table.words.Words.TheVariants.{Parity, StopBits, Digests, Login, Protocol}
 use Rattle.uefi_node_reader.proofs.Digits.{some_pair}
 use Rattle.uefi_node_reader.proofs.DigitTexts.{parted_none}
 use Rattle.uefi_node_reader.proofs.Literals.{after_again, after_some, after_takes, bind_some, clash_none, same_is}

@@ -4,7 +4,7 @@ use Rattle.std.specs.Prelude.{Option, Some, None, Result, Ok, Err}
 use Rattle.std.specs.Option.{ok_or}
 use Rattle.std.specs.Result.{result_map_both, result_ok}
 use borrow.Rule.Slice.PartMut.{put_mid}
-use Rattle.uefi_node_table.specs.Rows.{Form, Piece}
+use Rattle.uefi_device_nodes.specs.Rows.{Form, Piece}
 use Rattle.uefi_node_reader.specs.FieldReading.{◌>>=◌, field_read}
 use Rattle.uefi_node_reader.specs.Notations.{Rules, exact, head_in, pieces_in}
 use Rattle.uefi_node_reader.specs.Stops.{◌>?◌}

@@ -8,7 +8,7 @@ use Rattle.std.proofs.lemmas.List.Elements.{All-append, All-take, All-drop}
 use Rattle.std.proofs.lemmas.Slice.{between_is, between-put_mid, drop-put_mid, take-put_mid_below}
 use Rattle.uefi_text.specs.Packed.{IsByte}
 use Rattle.uefi_node_reader.specs.FieldReading.{IsValue}
-use Rattle.uefi_node_table.specs.Rows.{Piece, value_at}
+use Rattle.uefi_device_nodes.specs.Rows.{Piece, value_at}
 use Rattle.uefi_node_reader.specs.TableReading.{is_apart, put_at}
 
 -- what lies where a field was put

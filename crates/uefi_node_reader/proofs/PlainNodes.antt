@@ -3,9 +3,9 @@ use Rattle.std.proofs.Common.{◌≡◌, ℕ, ◌<◌, ◌≤◌, Bool, true, fa
 use Rattle.std.specs.Prelude.{None, Option, Some, not, option_and_then}
 use Rattle.std.proofs.lemmas.Bool.{le-leb}
 use Rattle.std.specs.Fmt.{decimal}
-use Rattle.uefi_field_texts.specs.FieldTexts.{comma_bytes}
+use Rattle.uefi_device_nodes.specs.FieldTexts.{comma_bytes}
 use Rattle.uefi_device_nodes.specs.Nodes.{Node, node_with}
-use Rattle.uefi_node_table.specs.Table.{has_form, table_text}
+use Rattle.uefi_device_nodes.specs.Table.{has_form, table_text}
 use Rattle.uefi_device_nodes.specs.NodeTexts.{irregular_text, is_irregular, node_text, unknown_text}
 use Rattle.uefi_node_reader.specs.Numerals.{has_digit, number_read}
 use Rattle.uefi_node_reader.specs.FieldReading.{comma_read, read_if}

@@ -3,7 +3,7 @@ use Rattle.std.proofs.Common.{◌≡◌, ℕ, ◌+◌, Bool, true, false, cond, 
 use Rattle.std.specs.Prelude.{Option, Some, None, option_and_then}
 use Rattle.std.specs.List.{list_all}
 use Rattle.std.proofs.Math.Seq.{drop-append_seam, take-append_seam}
-use Rattle.uefi_node_table.specs.Rows.{Form, is_within}
+use Rattle.uefi_device_nodes.specs.Rows.{Form, is_within}
 use Rattle.uefi_node_reader.specs.TableReading.{added, followed, pieces_put, rest_read, tail_read}
 use Rattle.uefi_node_reader.specs.ParsedNodes.{fitting}
 use Rattle.uefi_node_reader.specs.WordReading.{after}

@@ -6,10 +6,10 @@ use Rattle.std.proofs.lemmas.Bool.{and_parts}
 use Rattle.std.proofs.lemmas.List.{drop_all}
 use borrow.Author.Tests.{eqb-true}
 use Rattle.uefi_text.specs.Packed.{IsByte}
-use Rattle.uefi_node_table.specs.Rows.{Form, find_form}
-use Rattle.uefi_node_table.specs.Table.{forms}
-use Rattle.uefi_node_table.specs.declared.rows.Tail.{Tail}
-use Rattle.uefi_node_table.specs.declared.rows.Tail.TheVariants.{Nothing}
+use Rattle.uefi_device_nodes.specs.Rows.{Form, find_form}
+use Rattle.uefi_device_nodes.specs.Table.{forms}
+use Rattle.uefi_device_nodes.specs.declared.node_table.rows.Tail.{Tail}
+use Rattle.uefi_device_nodes.specs.declared.node_table.rows.Tail.TheVariants.{Nothing}
 use Rattle.uefi_device_nodes.specs.Nodes.{Node, node_with}
 use Rattle.uefi_node_reader.specs.CompleteTexts.{tells, tells_data, tells_fixed, tells_tail}
 use Rattle.uefi_node_reader.specs.NamedFiles.{IsTold}

@@ -6,7 +6,7 @@ use Rattle.std.specs.List.{list_all}
 use Rattle.std.specs.Option.{ok_or, option_map, option_or}
 use Rattle.std.proofs.lemmas.Bool.{and_parts, not-true}
 use Rattle.std.proofs.lemmas.Grind.{common_steps}
-use Rattle.uefi_node_table.specs.Rows.{Form}
+use Rattle.uefi_device_nodes.specs.Rows.{Form}
 use Rattle.uefi_device_nodes.specs.Nodes.{Node, node_with}
 use Rattle.uefi_node_reader.specs.LenientCalls.{cut_call, place_at, tidied, told_in}
 use Rattle.uefi_node_reader.specs.LenientNodes.{IsRestOf, begins_call, ended, fault_at_byte}
@@ -24,7 +24,7 @@ use Rattle.uefi_node_reader.proofs.LenientLaws.{WellRead, call_starts, cut_end, 
 use Rattle.uefi_node_reader.proofs.ToldForms.{told_as}
 use Rattle.uefi_node_reader.proofs.Spaces.{past_spaces-after}
 use Rattle.uefi_node_reader.proofs.Literals.{bind_some, ok_some}
-use Rattle.uefi_node_table.specs.Table.{libefivar_forms}
+use Rattle.uefi_device_nodes.specs.Table.{libefivar_forms}
 use Rattle.uefi_node_reader.proofs.Groups.{group_sound}
 use Rattle.uefi_node_reader.proofs.TableLaws.{form_takes}
 use Rattle.uefi_node_reader.proofs.ToldNodes.{tells_told}

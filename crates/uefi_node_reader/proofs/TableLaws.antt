@@ -9,10 +9,10 @@ use Rattle.std.proofs.lemmas.Slice.{between_is}
 use Rattle.std.proofs.lemmas.List.Elements.{All-append, All-drop, All-nil, All-cons}
 use borrow.Author.Tests.{eq-eqb, eqb-true, ltb-true}
 use Rattle.uefi_text.specs.Packed.{IsByte}
-use Rattle.uefi_node_table.specs.Rows.{Form, Piece, fields_of, find_form, form_text, is_used, is_within, pieces_text, tail_text}
-use Rattle.uefi_node_table.specs.Table.{text_in}
-use Rattle.uefi_node_table.specs.declared.rows.Mode.{Mode}
-use Rattle.uefi_node_table.specs.declared.rows.Mode.TheVariants.{Read, Printed, Display, Libefivar, People}
+use Rattle.uefi_device_nodes.specs.Rows.{Form, Piece, fields_of, find_form, form_text, is_used, is_within, pieces_text, tail_text}
+use Rattle.uefi_device_nodes.specs.Table.{text_in}
+use Rattle.uefi_device_nodes.specs.declared.node_table.rows.Mode.{Mode}
+use Rattle.uefi_device_nodes.specs.declared.node_table.rows.Mode.TheVariants.{Read, Printed, Display, Libefivar, People}
 use Rattle.uefi_device_nodes.specs.Nodes.{Node, node_with}
 use Rattle.uefi_node_reader.specs.FieldReading.{◌>>=◌, either_read, read_if}
 use Rattle.uefi_node_reader.specs.WordReading.{after}
@@ -20,8 +20,8 @@ use Rattle.uefi_node_reader.specs.TableReading.{IsTabled, IsTailTold, IsWhole, a
 use Rattle.uefi_node_reader.specs.WordReading.{clash, same_text}
 use Rattle.uefi_node_reader.proofs.Digits.{some_pair}
 use Rattle.uefi_node_reader.proofs.Literals.{after_again, after_some, after_takes, bind_some, clash_none, same_is}
-use Rattle.uefi_node_table.proofs.Forms.{found, long_enough}
-use Rattle.uefi_node_table.proofs.Lists.{all_of_both}
+use Rattle.uefi_device_nodes.proofs.Forms.{found, long_enough}
+use Rattle.uefi_device_nodes.proofs.Lists.{all_of_both}
 use Rattle.uefi_node_reader.proofs.PieceLaws.{Apart, alike, apart_parts, differ_none, overlay-append, pieces_again, pieces_takes, within_parts}
 use Rattle.uefi_node_reader.proofs.TailLaws.{tail_again, tail_starts, tail_takes}
 

@@ -8,21 +8,21 @@ use Rattle.std.proofs.lemmas.List.Elements.{All-append, All-nil, All-cons, All-h
 use borrow.Author.Tests.{eqb-true, lt-ltb, ltb-true}
 use Rattle.uefi_text.specs.Packed.{IsByte}
 use Rattle.uefi_text.specs.UnitBytes.{unit_bytes}
-use Rattle.uefi_field_texts.specs.FieldTexts.{comma_bytes, hex_bytes, hex_two, shown_bytes, until_nul, utf16_text}
+use Rattle.uefi_device_nodes.specs.FieldTexts.{comma_bytes, hex_bytes, hex_two, shown_bytes, until_nul, utf16_text}
 use Rattle.uefi_node_reader.specs.Numerals.{digit_of, has_digit}
 use Rattle.uefi_node_reader.specs.WordReading.{clash}
 use Rattle.uefi_node_reader.proofs.Literals.{clash_none}
 use Rattle.uefi_node_reader.proofs.ListLaws.{apart, list_again, list_starts, list_takes, sound_items}
 use Rattle.uefi_node_reader.specs.TableReading.{begins_apart, ends_tail, is_open}
-use Rattle.uefi_node_table.specs.Rows.{item_of, tail_text}
+use Rattle.uefi_device_nodes.specs.Rows.{item_of, tail_text}
 use Rattle.uefi_node_reader.specs.FieldReading.{clear_run, comma_read, is_clear, run_read, some_run}
 use Rattle.uefi_node_reader.specs.TableReading.{IsTailTold, as_name, as_units, first_of, tail_read}
-use Rattle.uefi_node_table.specs.declared.rows.Tail.{Tail}
-use Rattle.uefi_node_table.specs.declared.rows.Tail.TheVariants.{Nothing, Bytes, Text, Utf16, Name, Padded, Ids, Repeated}
+use Rattle.uefi_device_nodes.specs.declared.node_table.rows.Tail.{Tail}
+use Rattle.uefi_device_nodes.specs.declared.node_table.rows.Tail.TheVariants.{Nothing, Bytes, Text, Utf16, Name, Padded, Ids, Repeated}
 use Rattle.uefi_node_reader.proofs.Digits.{hexadecimal, some_pair}
 use Rattle.uefi_node_reader.proofs.ClearTexts.{clear_again, clear_bytes, clear_takes, clear_units, name_clear, shown_clear, utf16_clear}
 use Rattle.uefi_node_reader.proofs.TextTails.{ids_again, ids_takes, padded_again, padded_takes}
-use Rattle.uefi_field_texts.proofs.GuidTexts.{two_digits}
+use Rattle.uefi_device_nodes.proofs.GuidTexts.{two_digits}
 
 run_end : (c : ℕ) (cs rest : List ℕ) → ltb (digit_of c) 16 ≡ false → run_read ((c ∷ cs) ++ rest) ≡ ([], (c ∷ cs) ++ rest)
 run_end c cs rest e = by (cs ++ rest)

@@ -7,12 +7,12 @@ use Rattle.std.specs.Result.{result_map_both}
 use Rattle.std.proofs.lemmas.Bool.{and_parts}
 use Rattle.std.proofs.lemmas.List.Elements.{All-append, All-cons, All-nil}
 use Rattle.uefi_text.specs.Packed.{IsByte}
-use Rattle.uefi_node_table.specs.Rows.{Form}
-use Rattle.uefi_node_table.specs.Table.{forms}
-use Rattle.uefi_node_table.specs.declared.rows.Mode.{Mode}
-use Rattle.uefi_node_table.specs.declared.rows.Mode.TheVariants.{Read, Printed, Display, Libefivar, People}
-use Rattle.uefi_node_table.specs.declared.rows.Tail.{Tail}
-use Rattle.uefi_node_table.specs.declared.rows.Tail.TheVariants.{Ids}
+use Rattle.uefi_device_nodes.specs.Rows.{Form}
+use Rattle.uefi_device_nodes.specs.Table.{forms}
+use Rattle.uefi_device_nodes.specs.declared.node_table.rows.Mode.{Mode}
+use Rattle.uefi_device_nodes.specs.declared.node_table.rows.Mode.TheVariants.{Read, Printed, Display, Libefivar, People}
+use Rattle.uefi_device_nodes.specs.declared.node_table.rows.Tail.{Tail}
+use Rattle.uefi_device_nodes.specs.declared.node_table.rows.Tail.TheVariants.{Ids}
 use Rattle.uefi_device_nodes.specs.Nodes.{Node}
 use Rattle.uefi_node_reader.specs.FieldReading.{clear_run, is_clear}
 use Rattle.uefi_node_reader.specs.LenientCalls.{begins_call_name, told_in}

@@ -8,9 +8,9 @@ use Rattle.std.specs.Prelude.{All, drop, Option, Some, None}
 use borrow.Author.Tests.{leb-true}
 use Rattle.uefi_text.specs.Packed.{IsByte}
 use Rattle.uefi_text.specs.Units.{is_nul}
-use Rattle.uefi_field_texts.specs.FieldTexts.{after_nul, id_strings_text, shown_bytes, until_nul}
-use Rattle.uefi_node_table.specs.Rows.{tail_text}
-use Rattle.uefi_node_table.specs.declared.rows.Tail.TheVariants.{Ids, Padded}
+use Rattle.uefi_device_nodes.specs.FieldTexts.{after_nul, id_strings_text, shown_bytes, until_nul}
+use Rattle.uefi_device_nodes.specs.Rows.{tail_text}
+use Rattle.uefi_device_nodes.specs.declared.node_table.rows.Tail.TheVariants.{Ids, Padded}
 use Rattle.uefi_node_reader.specs.FieldReading.{◌>>=◌, clear_run, is_clear}
 use Rattle.uefi_node_reader.specs.TableReading.{IsTailTold, as_ids, as_padded, first_of, ids_read, padded, tail_read}
 use Rattle.uefi_node_reader.specs.WordReading.{after}

@@ -6,16 +6,16 @@ use Rattle.std.proofs.lemmas.Bool.{and_parts, le-leb}
 use Rattle.std.proofs.lemmas.List.{drop-drop, drop_all, length-take, length-take-le, take-append-drop, take-take, take_all}
 use Rattle.std.specs.List.{list_all}
 use borrow.Author.Tests.{eqb-true}
-use Rattle.uefi_node_table.specs.Rows.{Form, Piece, fields_of, find_form, is_within, item_of}
-use Rattle.uefi_node_table.specs.Table.{forms}
-use Rattle.uefi_node_table.specs.declared.rows.Items.{Items}
-use Rattle.uefi_node_table.specs.declared.rows.Items.TheVariants.{Numbers, Ipv4, Ipv6}
-use Rattle.uefi_node_table.specs.declared.rows.Shape.{Shape}
-use Rattle.uefi_node_table.specs.declared.rows.Shape.TheVariants.{Hexadecimal, Decimal, OrDefault, Back, Forth, Dashed, Next, Eisa, Word}
-use Rattle.uefi_node_table.specs.declared.words.Words.{Words}
-use Rattle.uefi_node_table.specs.declared.rows.Tail.{Tail}
-use Rattle.uefi_node_table.specs.declared.rows.Tail.TheVariants.{Nothing, Bytes, Text, Utf16, Name, Padded, Ids, Repeated}
-use Rattle.uefi_node_table.proofs.Forms.{found, long_enough}
+use Rattle.uefi_device_nodes.specs.Rows.{Form, Piece, fields_of, find_form, is_within, item_of}
+use Rattle.uefi_device_nodes.specs.Table.{forms}
+use Rattle.uefi_device_nodes.specs.declared.node_table.rows.Items.{Items}
+use Rattle.uefi_device_nodes.specs.declared.node_table.rows.Items.TheVariants.{Numbers, Ipv4, Ipv6}
+use Rattle.uefi_device_nodes.specs.declared.node_table.rows.Shape.{Shape}
+use Rattle.uefi_device_nodes.specs.declared.node_table.rows.Shape.TheVariants.{Hexadecimal, Decimal, OrDefault, Back, Forth, Dashed, Next, Eisa, Word}
+use Rattle.uefi_device_nodes.specs.declared.node_table.words.Words.{Words}
+use Rattle.uefi_device_nodes.specs.declared.node_table.rows.Tail.{Tail}
+use Rattle.uefi_device_nodes.specs.declared.node_table.rows.Tail.TheVariants.{Nothing, Bytes, Text, Utf16, Name, Padded, Ids, Repeated}
+use Rattle.uefi_device_nodes.proofs.Forms.{found, long_enough}
 use Rattle.uefi_device_nodes.specs.Nodes.{Node, node_with}
 use Rattle.uefi_text.specs.UnitBytes.{unit_bytes}
 use Rattle.uefi_node_reader.specs.Counted.{pushed_bytes}

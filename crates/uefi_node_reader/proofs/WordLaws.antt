@@ -4,7 +4,7 @@ use Rattle.std.proofs.lemmas.Bool.{and_parts}
 use Rattle.std.specs.Prelude.{Option, Some, None, bit_and}
 use Rattle.std.specs.List.{list_all}
 use borrow.Author.Tests.{eqb-true, ltb-true}
-use Rattle.uefi_node_table.specs.Words.{Word, suits, word_text}
+use Rattle.uefi_device_nodes.specs.Words.{Word, suits, word_text}
 use Rattle.uefi_node_reader.specs.WordReading.{after, all_clash, are_sound, clash, is_own, or_word, same_text, suit_all, word_number, word_read}
 use Rattle.uefi_node_reader.proofs.Digits.{some_pair}
 use Rattle.uefi_node_reader.proofs.Literals.{after_again, after_takes, clash_none, same_is}

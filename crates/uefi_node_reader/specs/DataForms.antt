@@ -1,7 +1,7 @@
 -- How a text encodes data.
 use Rattle.std.specs.Prelude.{Option, Some, None}
-use Rattle.uefi_node_table.specs.declared.rows.Tail.{Tail}
-use Rattle.uefi_node_table.specs.declared.rows.Tail.TheVariants as tail
+use Rattle.uefi_device_nodes.specs.declared.node_table.rows.Tail.{Tail}
+use Rattle.uefi_device_nodes.specs.declared.node_table.rows.Tail.TheVariants as tail
 use Rattle.uefi_node_reader.specs.declared.data_form.DataForm.{DataForm}
 use Rattle.uefi_node_reader.specs.declared.data_form.DataForm.TheVariants.{Nothing, Bytes, Text, Utf16, Name, Padded, Ids, Repeated, Uid}
 

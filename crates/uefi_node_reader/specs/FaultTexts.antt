@@ -2,8 +2,8 @@
 use Rattle.std.specs.Prelude.{ℕ, List, [], ◌++◌, codes, encode_utf8, slice_get}
 use Rattle.std.specs.Fmt.{decimal}
 use Rattle.std.specs.Option.{unwrap_or}
-use Rattle.uefi_field_texts.specs.FieldTexts.{hex}
-use Rattle.uefi_node_table.specs.Table.{forms}
+use Rattle.uefi_device_nodes.specs.FieldTexts.{hex}
+use Rattle.uefi_device_nodes.specs.Table.{forms}
 use Rattle.uefi_node_reader.specs.NearNames.{other_names, start_at}
 use Rattle.uefi_node_reader.specs.declared.faults.Choice.{Choice}
 use Rattle.uefi_node_reader.specs.declared.faults.Choice.TheVariants as choice

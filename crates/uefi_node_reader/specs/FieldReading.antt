@@ -1,10 +1,10 @@
 -- Fields of nodes, and how they are read from their texts.
 use Rattle.std.specs.Prelude.{◌≡◌, ℕ, zero, suc, ◌+◌, ◌-◌, ◌*◌, ◌/◌, ◌%◌, ◌^◌, nat_le, nat_lt, not, Bool, true, false, ◌==◌, ◌&&◌, if◌then◌else◌, List, [], ◌∷◌, codes, length, reverse, All, Option, Some, None, option_and_then}
 use Rattle.uefi_text.specs.Packed.{IsByte, little_endian}
-use Rattle.uefi_field_texts.specs.FieldTexts.{eisa_bits}
-use Rattle.uefi_node_table.specs.Words.{words_of}
-use Rattle.uefi_node_table.specs.declared.rows.Shape.{Shape}
-use Rattle.uefi_node_table.specs.declared.rows.Shape.TheVariants.{Hexadecimal, Decimal, OrDefault, Back, Forth, Dashed, Next, Eisa, Word}
+use Rattle.uefi_device_nodes.specs.FieldTexts.{eisa_bits}
+use Rattle.uefi_device_nodes.specs.Words.{words_of}
+use Rattle.uefi_device_nodes.specs.declared.node_table.rows.Shape.{Shape}
+use Rattle.uefi_device_nodes.specs.declared.node_table.rows.Shape.TheVariants.{Hexadecimal, Decimal, OrDefault, Back, Forth, Dashed, Next, Eisa, Word}
 use Rattle.uefi_device_nodes.specs.Nodes.{Node}
 use Rattle.uefi_node_reader.specs.Numerals.{digit_of, number_read}
 use Rattle.uefi_node_reader.specs.WordReading.{after, or_word, word_number, word_read}

@@ -1,7 +1,7 @@
 -- Nodes of files that were read from their names.
 use Rattle.std.specs.Prelude.{ℕ, List, ◌∷◌}
 use Rattle.std.specs.Str.{chars}
-use Rattle.uefi_node_table.specs.declared.layouts.TheConstants.{FILE_PATH, MEDIA_TYPE}
+use Rattle.uefi_device_nodes.specs.declared.node_table.layouts.TheConstants.{FILE_PATH, MEDIA_TYPE}
 use Rattle.uefi_device_nodes.specs.Nodes.{Node, node_with}
 use Rattle.uefi_node_reader.specs.NamedFiles.{name_data}
 

@@ -3,7 +3,7 @@
 use Rattle.std.specs.Prelude.{ℕ, ◌/◌, ◌%◌, ◌^◌, Bool, false, ◌==◌, ◌||◌, List, [], ◌∷◌}
 use Rattle.std.specs.Char.{to_ascii_lowercase, to_ascii_uppercase}
 use Rattle.std.specs.List.{list_all}
-use Rattle.uefi_node_table.specs.Rows.{Form}
+use Rattle.uefi_device_nodes.specs.Rows.{Form}
 
 -- whether a byte is one of these letters
 abbrev pub is_in : ℕ → ℕ → Bool

@@ -3,13 +3,13 @@ use Rattle.std.specs.Prelude.{ℕ, ◌+◌, ◌-◌, Bool, true, false, not, ◌
 use Rattle.std.specs.Char.{is_ascii_whitespace, to_ascii_uppercase}
 use Rattle.std.specs.Option.{ok_or, option_map}
 use Rattle.std.specs.Result.{result_map_both}
-use Rattle.uefi_node_table.specs.Rows.{Form}
-use Rattle.uefi_node_table.specs.Table.{forms}
-use Rattle.uefi_node_table.specs.declared.rows.Mode.{Mode}
-use Rattle.uefi_node_table.specs.declared.rows.Mode.TheVariants.{Read, Printed, Display, Libefivar, People}
-use Rattle.uefi_node_table.specs.declared.rows.Tail.{Tail}
-use Rattle.uefi_node_table.specs.declared.rows.Tail.TheVariants.{Nothing, Bytes, Repeated}
-use Rattle.uefi_node_table.specs.declared.layouts.TheConstants.{ACPI_TYPE, BIOS_BOOT_SPEC_TYPE, HARDWARE_TYPE, MEDIA_TYPE, MESSAGING_TYPE}
+use Rattle.uefi_device_nodes.specs.Rows.{Form}
+use Rattle.uefi_device_nodes.specs.Table.{forms}
+use Rattle.uefi_device_nodes.specs.declared.node_table.rows.Mode.{Mode}
+use Rattle.uefi_device_nodes.specs.declared.node_table.rows.Mode.TheVariants.{Read, Printed, Display, Libefivar, People}
+use Rattle.uefi_device_nodes.specs.declared.node_table.rows.Tail.{Tail}
+use Rattle.uefi_device_nodes.specs.declared.node_table.rows.Tail.TheVariants.{Nothing, Bytes, Repeated}
+use Rattle.uefi_device_nodes.specs.declared.node_table.layouts.TheConstants.{ACPI_TYPE, BIOS_BOOT_SPEC_TYPE, HARDWARE_TYPE, MEDIA_TYPE, MESSAGING_TYPE}
 use Rattle.uefi_device_nodes.specs.Nodes.{Node, node_with}
 use Rattle.uefi_node_reader.specs.Ambiguous.{ambiguous_stop}
 use Rattle.uefi_node_reader.specs.FieldReading.{◌>>=◌}

@@ -5,14 +5,14 @@ use Rattle.std.specs.Option.{ok_or}
 use Rattle.std.specs.Result.{is_ok, result_ok}
 use Rattle.std.proofs.Math.ListN.{replicate}
 use Rattle.std.specs.Char.{to_ascii_uppercase}
-use Rattle.uefi_node_table.specs.declared.rows.Shape.{Shape}
-use Rattle.uefi_node_table.specs.declared.rows.Shape.TheVariants.{Hexadecimal, Decimal, OrDefault, Back, Forth, Dashed, Next, Eisa, Word}
-use Rattle.uefi_node_table.specs.declared.rows.Spare.{Spare}
-use Rattle.uefi_node_table.specs.declared.rows.Spare.TheVariants.{Zeros, Ones}
-use Rattle.uefi_node_table.specs.declared.words.Words.{Words}
-use Rattle.uefi_node_table.specs.declared.words.Words.TheVariants.{Parity, StopBits}
-use Rattle.uefi_node_table.specs.Words as words
-use Rattle.uefi_node_table.specs.Words.{words_of}
+use Rattle.uefi_device_nodes.specs.declared.node_table.rows.Shape.{Shape}
+use Rattle.uefi_device_nodes.specs.declared.node_table.rows.Shape.TheVariants.{Hexadecimal, Decimal, OrDefault, Back, Forth, Dashed, Next, Eisa, Word}
+use Rattle.uefi_device_nodes.specs.declared.node_table.rows.Spare.{Spare}
+use Rattle.uefi_device_nodes.specs.declared.node_table.rows.Spare.TheVariants.{Zeros, Ones}
+use Rattle.uefi_device_nodes.specs.declared.node_table.words.Words.{Words}
+use Rattle.uefi_device_nodes.specs.declared.node_table.words.Words.TheVariants.{Parity, StopBits}
+use Rattle.uefi_device_nodes.specs.Words as words
+use Rattle.uefi_device_nodes.specs.Words.{words_of}
 use Rattle.uefi_node_reader.specs.FieldReading.{◌>>=◌, as_bytes, field_read, less_one}
 use Rattle.uefi_node_reader.specs.Numerals.{digits_after, has_digit}
 use Rattle.uefi_node_reader.specs.Stops.{◌>?◌, stop_at}

@@ -2,8 +2,8 @@
 use Rattle.std.specs.Prelude.{Bool, if◌then◌else◌, List, [], ◌∷◌, codes, length, ◌-◌, ℕ, Option, Some, None, Result, Err}
 use Rattle.std.specs.Option.{option_map, option_or}
 use Rattle.uefi_device_nodes.specs.Nodes.{Node}
-use Rattle.uefi_node_table.specs.Rows.{Form}
-use Rattle.uefi_node_table.specs.Table.{libefivar_forms}
+use Rattle.uefi_device_nodes.specs.Rows.{Form}
+use Rattle.uefi_device_nodes.specs.Table.{libefivar_forms}
 use Rattle.uefi_node_reader.specs.Ambiguous.{begins_with}
 use Rattle.uefi_node_reader.specs.FieldReading.{◌>>=◌}
 use Rattle.uefi_node_reader.specs.LenientCalls.{cut_call, place_at, tidied, told_in}

@@ -6,10 +6,10 @@ use Rattle.std.specs.List.{flat_map, list_all, position_or_len, suffix_len}
 use Rattle.std.specs.Str.{all_scalars, chars, is_utf8}
 use Rattle.uefi_text.specs.UnitBytes.{unit_bytes}
 use Rattle.uefi_text.specs.Units.{nul_terminated}
-use Rattle.uefi_field_texts.specs.FieldTexts.{is_escaped}
-use Rattle.uefi_node_table.specs.declared.layouts.TheConstants.{FILE_PATH, MEDIA_TYPE}
+use Rattle.uefi_device_nodes.specs.FieldTexts.{is_escaped}
+use Rattle.uefi_device_nodes.specs.declared.node_table.layouts.TheConstants.{FILE_PATH, MEDIA_TYPE}
 use Rattle.uefi_device_nodes.specs.Nodes.{Node, node_with}
-use Rattle.uefi_node_table.specs.Table.{forms}
+use Rattle.uefi_device_nodes.specs.Table.{forms}
 use Rattle.uefi_node_reader.specs.FieldReading.{either_read, read_if}
 use Rattle.uefi_node_reader.specs.TableReading.{IsTabled, table_read}
 use Rattle.uefi_node_reader.specs.PlainNodes.{IsPlainNode, plain_read}

@@ -1,8 +1,8 @@
 -- Names of calls that differ from a name of the table in one letter.
 use Rattle.std.specs.Prelude.{ℕ, zero, suc, ◌+◌, ◌==◌, true, ◌&&◌, ◌||◌, not, Bool, false, if◌then◌else◌, List, [], ◌∷◌, codes, is_some, slice_get, Option, Some, None}
 use Rattle.std.specs.Char.{to_ascii_uppercase}
-use Rattle.uefi_node_table.specs.Rows.{Form}
-use Rattle.uefi_node_table.specs.Table.{forms}
+use Rattle.uefi_device_nodes.specs.Rows.{Form}
+use Rattle.uefi_device_nodes.specs.Table.{forms}
 use Rattle.uefi_node_reader.specs.LenientCalls.{begins_call_name}
 use Rattle.uefi_node_reader.specs.TableReading.{form_place}
 use Rattle.uefi_node_reader.specs.declared.faults.Expected.{Expected}

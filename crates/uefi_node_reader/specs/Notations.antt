@@ -1,7 +1,7 @@
 -- The notations of forms: the rules for their literals and their fields.
 use Rattle.std.specs.Prelude.{ℕ, List, [], ◌∷◌, Result, Ok}
 use Rattle.std.specs.Option.{ok_or}
-use Rattle.uefi_node_table.specs.Rows.{Form, Piece}
+use Rattle.uefi_device_nodes.specs.Rows.{Form, Piece}
 use Rattle.uefi_node_reader.specs.FieldReading.{field_read}
 use Rattle.uefi_node_reader.specs.LenientFields.{after_ending, after_literal, expected_field, value_or_spare}
 use Rattle.uefi_node_reader.specs.Stops.{◌>?◌, stop_at}

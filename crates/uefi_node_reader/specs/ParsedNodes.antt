@@ -2,7 +2,7 @@
 use Rattle.std.specs.Prelude.{◌≡◌, ◌≤◌, ℕ, Bool, true, nat_le, is_some, if◌then◌else◌, List, [], ◌++◌, length, take, Option, Some, None}
 use Rattle.uefi_node_reader.specs.FieldReading.{clear_run}
 use Rattle.uefi_node_reader.specs.TableReading.{as_ids, first_of, tail_read}
-use Rattle.uefi_node_table.specs.declared.rows.Tail.{Tail}
+use Rattle.uefi_device_nodes.specs.declared.node_table.rows.Tail.{Tail}
 
 -- the data that was read, or none
 abbrev pub read_data : Option (List ℕ × List ℕ) → List ℕ

@@ -1,7 +1,7 @@
 -- Nodes of no known kind, whose texts contain all their data.
 use Rattle.std.specs.Prelude.{◌≡◌, ℕ, ◌<◌, Bool, true, false, nat_le, not, ◌==◌, ◌&&◌, ◌||◌, List, codes, length, All, Option}
 use Rattle.uefi_text.specs.Packed.{IsByte}
-use Rattle.uefi_node_table.specs.Table.{has_form}
+use Rattle.uefi_device_nodes.specs.Table.{has_form}
 use Rattle.uefi_device_nodes.specs.NodeTexts.{is_irregular}
 use Rattle.uefi_device_nodes.specs.Nodes.{Node, node_with}
 use Rattle.uefi_node_reader.specs.FieldReading.{◌>>=◌, comma_read, read_if}

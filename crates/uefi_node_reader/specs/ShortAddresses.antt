@@ -6,11 +6,11 @@ use Rattle.std.specs.Net.Addr.{octets_of}
 use Rattle.std.specs.Net.Reader.{read_ipv6, whole_value}
 use Rattle.std.specs.Option.{option_map}
 use Rattle.std.proofs.Math.ListN.{replicate}
-use Rattle.uefi_node_table.specs.Rows.{find_form}
-use Rattle.uefi_node_table.specs.Table.{forms}
-use Rattle.uefi_node_table.specs.declared.rows.Tail.{Tail}
-use Rattle.uefi_node_table.specs.declared.rows.Tail.TheVariants.{Nothing}
-use Rattle.uefi_node_table.specs.declared.layouts.TheConstants.{IPV6, MESSAGING_TYPE}
+use Rattle.uefi_device_nodes.specs.Rows.{find_form}
+use Rattle.uefi_device_nodes.specs.Table.{forms}
+use Rattle.uefi_device_nodes.specs.declared.node_table.rows.Tail.{Tail}
+use Rattle.uefi_device_nodes.specs.declared.node_table.rows.Tail.TheVariants.{Nothing}
+use Rattle.uefi_device_nodes.specs.declared.node_table.layouts.TheConstants.{IPV6, MESSAGING_TYPE}
 use Rattle.uefi_device_nodes.specs.Nodes.{Node, node_with}
 use Rattle.uefi_node_reader.specs.CompleteTexts.{tells}
 use Rattle.uefi_node_reader.specs.FieldReading.{◌>>=◌, low_bytes}

@@ -1,8 +1,8 @@
 -- Where a text stops being read, and readings that may stop.
 use Rattle.std.specs.Prelude.{ℕ, nat_lt, if◌then◌else◌, List, drop, length, Option, Some, None, Result, Ok, Err}
 use Rattle.std.specs.Option.{ok_or, option_map}
-use Rattle.uefi_node_table.specs.declared.rows.Tail.{Tail}
-use Rattle.uefi_node_table.specs.declared.rows.Tail.TheVariants.{Bytes, Repeated}
+use Rattle.uefi_device_nodes.specs.declared.node_table.rows.Tail.{Tail}
+use Rattle.uefi_device_nodes.specs.declared.node_table.rows.Tail.TheVariants.{Bytes, Repeated}
 use Rattle.uefi_node_reader.specs.TableReading.{first_of, tail_read}
 use Rattle.uefi_node_reader.specs.WordReading.{after}
 use Rattle.uefi_node_reader.specs.declared.faults.Expected.{Expected}

@@ -4,18 +4,18 @@ use Rattle.std.proofs.Math.ListN.{replicate}
 use Rattle.std.specs.List.{concat, list_all}
 use Rattle.uefi_text.specs.Packed.{IsByte}
 use Rattle.uefi_text.specs.UnitBytes.{unit_bytes}
-use Rattle.uefi_node_table.specs.Rows.{Piece, Form, Item, fields_of, find_form, is_within, item_of, matches, value_at}
-use Rattle.uefi_node_table.specs.Table.{text_in}
-use Rattle.uefi_node_table.specs.Fields.{fits_shape}
-use Rattle.uefi_node_table.specs.declared.rows.Mode.{Mode}
-use Rattle.uefi_node_table.specs.declared.rows.Mode.TheVariants.{Read, Printed, Display, Libefivar, People}
-use Rattle.uefi_node_table.specs.declared.rows.Shape.{Shape}
-use Rattle.uefi_node_table.specs.declared.rows.Shape.TheVariants.{Hexadecimal, Decimal, OrDefault, Back, Forth, Dashed, Next, Eisa, Word}
-use Rattle.uefi_node_table.specs.declared.rows.Tail.{Tail}
-use Rattle.uefi_node_table.specs.declared.rows.Tail.TheVariants.{Nothing, Bytes, Text, Utf16, Name, Padded, Ids, Repeated}
+use Rattle.uefi_device_nodes.specs.Rows.{Piece, Form, Item, fields_of, find_form, is_within, item_of, matches, value_at}
+use Rattle.uefi_device_nodes.specs.Table.{text_in}
+use Rattle.uefi_device_nodes.specs.Fields.{fits_shape}
+use Rattle.uefi_device_nodes.specs.declared.node_table.rows.Mode.{Mode}
+use Rattle.uefi_device_nodes.specs.declared.node_table.rows.Mode.TheVariants.{Read, Printed, Display, Libefivar, People}
+use Rattle.uefi_device_nodes.specs.declared.node_table.rows.Shape.{Shape}
+use Rattle.uefi_device_nodes.specs.declared.node_table.rows.Shape.TheVariants.{Hexadecimal, Decimal, OrDefault, Back, Forth, Dashed, Next, Eisa, Word}
+use Rattle.uefi_device_nodes.specs.declared.node_table.rows.Tail.{Tail}
+use Rattle.uefi_device_nodes.specs.declared.node_table.rows.Tail.TheVariants.{Nothing, Bytes, Text, Utf16, Name, Padded, Ids, Repeated}
 use Rattle.uefi_device_nodes.specs.Nodes.{Node, node_with}
-use Rattle.uefi_node_table.specs.declared.words.Words.{Words}
-use Rattle.uefi_node_table.specs.declared.words.Words.TheVariants.{Parity, StopBits, Digests, Login, Protocol}
+use Rattle.uefi_device_nodes.specs.declared.node_table.words.Words.{Words}
+use Rattle.uefi_device_nodes.specs.declared.node_table.words.Words.TheVariants.{Parity, StopBits, Digests, Login, Protocol}
 use Rattle.uefi_node_reader.specs.FieldReading.{◌>>=◌, clear_run, comma_read, either_read, field_kept, field_read, is_clear, read_if}
 use Rattle.uefi_node_reader.specs.Numerals.{digit_of, has_digit}
 use Rattle.uefi_node_reader.specs.WordReading.{after, clash, same_text}

@@ -1,7 +1,7 @@
 -- Words that are read.
 use Rattle.std.specs.Prelude.{ℕ, Bool, true, false, nat_lt, ◌==◌, ◌&&◌, ◌||◌, if◌then◌else◌, List, [], ◌∷◌, Option, Some, None}
 use Rattle.std.specs.List.{list_all}
-use Rattle.uefi_node_table.specs.Words.{Word, suits, word_text}
+use Rattle.uefi_device_nodes.specs.Words.{Word, suits, word_text}
 
 -- the rest of a text after a literal
 abbrev pub after : List ℕ → List ℕ → Option (List ℕ)

@@ -3,8 +3,8 @@
 
 ghost use Rattle.std.specs.List.{list_all};
 ghost use Rattle.std.specs.Prelude.{◌≡◌, ◌==◌, ◌&&◌, IsTrue, length, map};
-ghost use Rattle.uefi_node_table.specs.Rows.{as_form, as_piece, is_within, value_at};
-ghost use Rattle.uefi_node_table.specs.Words.{as_word};
+ghost use Rattle.uefi_device_nodes.specs.Rows.{as_form, as_piece, is_within, value_at};
+ghost use Rattle.uefi_device_nodes.specs.Words.{as_word};
 ghost use Rattle.uefi_node_reader.specs.FieldReading.{field_kept};
 ghost use Rattle.uefi_node_reader.specs.TableReading.{first_of, is_exact, is_filled, is_sound, overlay, put_at};
 ghost use Rattle.uefi_node_reader.specs.CompleteTexts.{are_items, are_texts, tells, tells_fixed, tells_tail};
@@ -17,11 +17,11 @@ use crate::fields::put_low;
 use crate::parsed_node::ParsedNode;
 use crate::table_reader::{fixed_part, is_exact};
 use crate::texts::Text;
-use uefi_field_texts::ids::eisa_bits;
-use uefi_node_table::printing::{form_of, number_of};
-use uefi_node_table::rows::{Items, Piece, Row, Shape, Tail};
-use uefi_node_table::word_lists::{suits, words_of};
-use uefi_node_table::words::Word;
+use uefi_device_nodes::field_texts::ids::eisa_bits;
+use uefi_device_nodes::node_table::printing::{form_of, number_of};
+use uefi_device_nodes::node_table::rows::{Items, Piece, Row, Shape, Tail};
+use uefi_device_nodes::node_table::word_lists::{suits, words_of};
+use uefi_device_nodes::node_table::words::Word;
 
 /// Returns the number that the word for a number is read as.
 fn word_number(words: &[Word], number: u64) -> u64

@@ -4,7 +4,7 @@
 ghost use Rattle.std.specs.Prelude.{◌≡◌, Some};
 ghost use Rattle.uefi_node_reader.specs.DataForms.{coded_tail};
 
-use uefi_node_table::rows::{Items, Tail};
+use uefi_device_nodes::node_table::rows::{Items, Tail};
 
 /// How a text encodes data: as a tail of a form, or as an ID string. It has two bytes, one less than an enum
 /// that contains a [`Tail`], so that a node and the rest of its text have at most 128 bytes together: more

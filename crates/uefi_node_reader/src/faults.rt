@@ -7,7 +7,7 @@ ghost use Rattle.std.specs.Prelude.{Some, ◌++◌, codes};
 
 use crate::form_places::{other_name, start_at};
 use std::fmt;
-use uefi_field_texts::hexadecimal::put_hex;
+use uefi_device_nodes::field_texts::hexadecimal::put_hex;
 use uefi_text::number_texts::put_decimal;
 use uefi_text::text_sink::{Printed, TextSink, print};
 

@@ -5,15 +5,15 @@ ghost use Rattle.std.specs.Prelude.{◌≡◌, ◌+◌, ◌*◌, ◌^◌, ◌<�
 ghost use Rattle.std.specs.Option.{option_and_then, option_map};
 ghost use Rattle.uefi_node_reader.specs.FieldReading.{as_bytes, byte_read, bytes_read, default_read, eisa_read, field_read, letter_of, letters_read, low_bytes, next_read, turned};
 ghost use Rattle.uefi_node_reader.specs.WordReading.{after, word_read};
-ghost use Rattle.uefi_node_table.specs.Words.{as_word, words_of};
-ghost use Rattle.uefi_node_table.specs.Fields.{fits_shape};
+ghost use Rattle.uefi_device_nodes.specs.Words.{as_word, words_of};
+ghost use Rattle.uefi_device_nodes.specs.Fields.{fits_shape};
 ghost use Rattle.uefi_node_reader.specs.Numerals.{number_read};
 
 use crate::numerals::{digit_of, number};
 use crate::texts::Text;
-use uefi_node_table::rows::Shape;
-use uefi_node_table::word_lists::words_of;
-use uefi_node_table::words::{Word, Words};
+use uefi_device_nodes::node_table::rows::Shape;
+use uefi_device_nodes::node_table::word_lists::words_of;
+use uefi_device_nodes::node_table::words::{Word, Words};
 
 /// Reads a literal at the start of a text, and returns the rest.
 pub(crate) fn after<T: Text>(literal: &[u8], text: T) -> Option<T>

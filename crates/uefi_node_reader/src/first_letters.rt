@@ -2,11 +2,11 @@
 #![tactic(auto)]
 
 ghost use Rattle.std.specs.Prelude.{◌≡◌, ◌<◌, IsTrue};
-ghost use Rattle.uefi_node_table.specs.Table.{group_forms};
+ghost use Rattle.uefi_device_nodes.specs.Table.{group_forms};
 ghost use Rattle.uefi_node_reader.specs.FirstLetters.{all_begin_in, begins_in, begins_in_either_case, is_in};
 
 use crate::texts::Text;
-use uefi_node_table::packed::FIRST_LETTERS;
+use uefi_device_nodes::node_table::packed::FIRST_LETTERS;
 
 /// Returns whether a byte is one of these letters.
 fn is_in(letters: u64, byte: u8) -> bool

@@ -5,13 +5,13 @@ ghost use Rattle.std.specs.Prelude.{◌≡◌, IsTrue, length, map};
 ghost use Rattle.std.specs.List.{list_all};
 ghost use Rattle.std.specs.Result.{result_map_both};
 ghost use Rattle.std.specs.Option.{option_map};
-ghost use Rattle.uefi_node_table.specs.Rows.{as_form, as_piece, is_within};
+ghost use Rattle.uefi_device_nodes.specs.Rows.{as_form, as_piece, is_within};
 ghost use Rattle.uefi_node_reader.specs.Notations.{head_in, piece_in, pieces_in};
 ghost use Rattle.uefi_node_reader.specs.TableReading.{blank, is_read, is_sound, pieces_put};
 
 use crate::notations::{Exact, Notation};
 use crate::texts::Text;
-use uefi_node_table::rows::{Piece, Row};
+use uefi_device_nodes::node_table::rows::{Piece, Row};
 
 /// Puts the field at the start of a text into data, and reads its ending. Returns the rest of the text.
 fn read_piece<S: Notation, T: Text>(

@@ -3,13 +3,13 @@
 
 ghost use Rattle.std.specs.Option.{option_map};
 ghost use Rattle.std.specs.Prelude.{◌≡◌, Bool, IsTrue, length, map, slice_get, true};
-ghost use Rattle.uefi_node_table.specs.Rows.{Form, as_form, have_one_kind};
-ghost use Rattle.uefi_node_table.specs.Table.{forms};
+ghost use Rattle.uefi_device_nodes.specs.Rows.{Form, as_form, have_one_kind};
+ghost use Rattle.uefi_device_nodes.specs.Table.{forms};
 ghost use Rattle.uefi_node_reader.specs.NearNames.{other_names, start_at};
 ghost use Rattle.uefi_node_reader.specs.TableReading.{form_place};
 
-use uefi_node_table::rows::Row;
-use uefi_node_table::table::{GROUPS, group};
+use uefi_device_nodes::node_table::rows::Row;
+use uefi_device_nodes::node_table::table::{GROUPS, group};
 
 /// A test of a form.
 pub(crate) trait FormTest {

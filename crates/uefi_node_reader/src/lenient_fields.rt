@@ -5,8 +5,8 @@ ghost use Rattle.std.specs.Prelude.{◌≡◌, ◌+◌, ◌^◌, ◌≤◌, IsTr
 ghost use Rattle.std.specs.Option.{option_and_then, option_map};
 ghost use Rattle.std.specs.Result.{result_map_both};
 ghost use Rattle.std.proofs.Math.ListN.{replicate};
-ghost use Rattle.uefi_node_table.specs.Fields.{fits_shape};
-ghost use Rattle.uefi_node_table.specs.Words.{as_word, words_of};
+ghost use Rattle.uefi_device_nodes.specs.Fields.{fits_shape};
+ghost use Rattle.uefi_device_nodes.specs.Words.{as_word, words_of};
 ghost use Rattle.uefi_node_reader.specs.FieldReading.{as_bytes, less_one};
 ghost use Rattle.uefi_node_reader.specs.LenientFields.{after_ending, after_letter, after_literal, any_field, any_number, any_word, begins_base, expected_field, expected_word, is_number, number_or_word, past_base, some_digits, spare_byte, value_or_spare};
 
@@ -16,9 +16,9 @@ use crate::fields::{after, last, put_low, read_value};
 use crate::numerals::{digit_of, digits_after};
 use crate::stops::stop_at;
 use crate::texts::Text;
-use uefi_node_table::rows::{Shape, Spare};
-use uefi_node_table::word_lists::words_of;
-use uefi_node_table::words::{Word, Words};
+use uefi_device_nodes::node_table::rows::{Shape, Spare};
+use uefi_device_nodes::node_table::word_lists::words_of;
+use uefi_device_nodes::node_table::words::{Word, Words};
 
 /// Returns whether a text begins with `0x`.
 pub(crate) fn begins_base<T: Text>(text: T) -> bool

@@ -5,7 +5,7 @@ ghost use Rattle.std.specs.Option.{option_map};
 ghost use Rattle.std.specs.Prelude.{◌≡◌, IfSome, IsTrue, map};
 ghost use Rattle.std.specs.Result.{result_map_both};
 ghost use Rattle.uefi_device_nodes.specs.Nodes.{Node};
-ghost use Rattle.uefi_node_table.specs.Rows.{as_form};
+ghost use Rattle.uefi_device_nodes.specs.Rows.{as_form};
 ghost use Rattle.uefi_node_reader.specs.LenientFields.{after_literal};
 ghost use Rattle.uefi_node_reader.specs.LenientCalls.{begins_call_name, call_told, form_told, form_tried, is_textless, named_told, names_tried, plain_names, plain_told, textless_told, told_in, whole};
 ghost use Rattle.uefi_node_reader.specs.TableReading.{form_read, is_filled, is_read, is_sound};
@@ -13,10 +13,10 @@ ghost use Rattle.uefi_node_reader.specs.ParsedNodeViews.{text_node_data, parsed_
 ghost use Rattle.uefi_node_reader.specs.ReadNodes.{node_from_text};
 
 use crate::ambiguous::ambiguous_stop;
-use crate::attempts::{Attempt, try_table};
 use crate::complete_texts::tells;
 use crate::faults::{Expected, Stop};
 use crate::first_letters::begins_in_either_case;
+use crate::form_attempts::{Attempt, try_table};
 use crate::form_heads::read_head;
 use crate::lenient_fields::{after_letter, after_literal};
 use crate::named_files::NameText;
@@ -29,10 +29,10 @@ use crate::table_reader::{finish_row, fixed_part, read_row};
 use crate::tail_stops::{rest_end, stop_of};
 use crate::texts::{Text, is_empty};
 use crate::tidied::Tidied;
-use uefi_node_table::layouts::{
+use uefi_device_nodes::node_table::layouts::{
     ACPI_TYPE, BIOS_BOOT_SPEC_TYPE, HARDWARE_TYPE, MEDIA_TYPE, MESSAGING_TYPE,
 };
-use uefi_node_table::rows::{Mode, Row, Tail};
+use uefi_device_nodes::node_table::rows::{Mode, Row, Tail};
 
 /// Returns whether the data after the fields contains no text.
 pub(crate) fn is_textless(tail: Tail) -> bool

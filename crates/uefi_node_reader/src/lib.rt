@@ -8,8 +8,7 @@
 mod address_texts;
 #[doc(hidden)]
 pub mod ambiguous;
-mod attempts;
-mod calls;
+mod call_faults;
 mod clear_texts;
 mod complete_texts;
 mod counted_bytes;
@@ -20,6 +19,7 @@ mod fields;
 #[doc(hidden)]
 pub mod file_node;
 mod first_letters;
+mod form_attempts;
 mod form_heads;
 mod form_places;
 mod lenient_fields;
@@ -34,7 +34,7 @@ pub mod named_files;
 mod near_names;
 mod node_tails;
 #[doc(hidden)]
-pub mod nodes;
+pub mod node_texts;
 mod notations;
 mod numerals;
 #[doc(hidden)]

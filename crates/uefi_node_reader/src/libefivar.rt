@@ -9,7 +9,7 @@
 ghost use Rattle.std.specs.Prelude.{◌≡◌, IsTrue, map};
 ghost use Rattle.std.specs.List.{list_all};
 ghost use Rattle.std.specs.Option.{option_map};
-ghost use Rattle.uefi_node_table.specs.Rows.{as_form};
+ghost use Rattle.uefi_device_nodes.specs.Rows.{as_form};
 ghost use Rattle.uefi_node_reader.specs.Libefivar.{base_after, forms_exact, own_call, own_fault, own_read, own_stop, stop_after};
 ghost use Rattle.uefi_node_reader.specs.TableReading.{is_filled, is_sound};
 ghost use Rattle.uefi_node_reader.specs.ParsedNodeViews.{parsed_node};
@@ -24,8 +24,8 @@ use crate::parsed_node::ParsedNode;
 use crate::stops::stop_at;
 use crate::texts::Text;
 use crate::tidied::{Tidied, cut_call, place_at, tidy};
-use uefi_node_table::rows::Row;
-use uefi_node_table::table::libefivar_forms;
+use uefi_device_nodes::node_table::rows::Row;
+use uefi_device_nodes::node_table::table::libefivar_forms;
 
 /// Reads a tidied text in the first of these forms that it matches exactly.
 fn exact_group<T: Text>(rows: &[Row], text: T) -> Option<ParsedNode<T>>

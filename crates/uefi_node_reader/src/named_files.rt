@@ -11,7 +11,7 @@ ghost use Rattle.uefi_node_reader.specs.NamedFiles.{before_spaces, ends_name, is
 
 use crate::name_data::push_text;
 use crate::texts::Text;
-use uefi_field_texts::shown_texts::is_escaped;
+use uefi_device_nodes::field_texts::shown_texts::is_escaped;
 
 /// Returns whether a byte ends a name.
 pub(crate) fn ends_name(byte: u8) -> bool

@@ -8,7 +8,7 @@ use crate::faults::Expected;
 use crate::form_places::{FormTest, form_place, other_name, other_names, start_at};
 use crate::lenient_table::begins_call_name;
 use crate::texts::Text;
-use uefi_node_table::rows::Row;
+use uefi_device_nodes::node_table::rows::Row;
 
 /// Returns whether a text begins with the name of a call, except that its first two letters are exchanged.
 fn are_exchanged<T: Text>(start: &[u8], text: T) -> bool

@@ -5,7 +5,7 @@ ghost use Rattle.std.specs.List.{list_all};
 ghost use Rattle.std.specs.Option.{option_and_then, option_map};
 ghost use Rattle.std.specs.Prelude.{◌≡◌, ◌≤◌, ◌∷◌, [], IsTrue, length};
 ghost use Rattle.std.proofs.Math.ListN.{replicate};
-ghost use Rattle.uefi_node_table.specs.Rows.{as_item, is_within};
+ghost use Rattle.uefi_device_nodes.specs.Rows.{as_item, is_within};
 ghost use Rattle.uefi_node_reader.specs.Counted.{pushed_bytes, put_on};
 ghost use Rattle.uefi_node_reader.specs.FieldReading.{clear_run, comma_read, run_read};
 ghost use Rattle.uefi_node_reader.specs.TableReading.{as_ids, as_padded, ids_read, list_read, pieces_put, tail_read};
@@ -17,8 +17,8 @@ use crate::counted_bytes::{push, push_all};
 use crate::fields::{after, byte};
 use crate::form_heads::exact_pieces;
 use crate::texts::Text;
-use uefi_node_table::rows::{Item, Tail};
-use uefi_node_table::table::item_of;
+use uefi_device_nodes::node_table::rows::{Item, Tail};
+use uefi_device_nodes::node_table::table::item_of;
 
 /// Puts all bytes of two digits each at the start of a text after `len` others. Returns the new number of
 /// bytes, and the rest of the text.

@@ -3,8 +3,8 @@
 
 ghost use Rattle.std.specs.Prelude.{◌≡◌, IsTrue, length};
 ghost use Rattle.std.specs.Result.{result_map_both};
-ghost use Rattle.uefi_node_table.specs.Fields.{fits_shape};
-ghost use Rattle.uefi_node_table.specs.Rows.{as_piece};
+ghost use Rattle.uefi_device_nodes.specs.Fields.{fits_shape};
+ghost use Rattle.uefi_device_nodes.specs.Rows.{as_piece};
 ghost use Rattle.uefi_node_reader.specs.Notations.{Rules, exact, lenient};
 
 use crate::faults::Stop;
@@ -12,7 +12,7 @@ use crate::fields::{after, read_value};
 use crate::lenient_fields::{after_ending, after_literal, expected_field, value_or_spare};
 use crate::stops::stop_at;
 use crate::texts::Text;
-use uefi_node_table::rows::Piece;
+use uefi_device_nodes::node_table::rows::Piece;
 
 /// A notation of texts. Each call returns the rest of the text.
 pub(crate) trait Notation {

@@ -6,7 +6,7 @@ ghost use Rattle.std.specs.Option.{option_and_then, option_map};
 ghost use Rattle.std.specs.Prelude.{◌≡◌, ◌≤◌, ◌++◌, ◌∷◌, [], IfSome, IsTrue, true, drop, if◌then◌else◌, length, map, nat_le, take, None, Some};
 ghost use Rattle.uefi_node_reader.specs.FieldReading.{clear_run};
 ghost use Rattle.uefi_node_reader.specs.ParsedNodeViews.{TextNode, text_node_data, parsed_node};
-ghost use Rattle.uefi_node_table.specs.Rows.{as_piece, is_within};
+ghost use Rattle.uefi_device_nodes.specs.Rows.{as_piece, is_within};
 ghost use Rattle.uefi_node_reader.specs.TableReading.{added, as_ids, first_of, followed, pieces_put, tail_read};
 ghost use Rattle.uefi_node_reader.specs.DataForms.{coded_tail};
 ghost use Rattle.uefi_node_reader.specs.ParsedNodes.{IsDecoded, all_data, fitting};
@@ -18,7 +18,7 @@ use crate::form_heads::exact_pieces;
 use crate::node_tails::{push_tail, push_uid};
 use crate::texts::Text;
 use std::marker::Model;
-use uefi_node_table::rows::{Piece, Tail};
+use uefi_device_nodes::node_table::rows::{Piece, Tail};
 
 /// A node that was read from a call. A contract sees its types, the number of its fixed bytes, and its data.
 /// Its numbers are small so that a move does not call `memcpy`, which firmware lacks.

@@ -22,9 +22,9 @@ use crate::parsed_node::ParsedNode;
 use crate::stops::stop_at;
 use crate::tail_stops::{exact_end, rest_end};
 use crate::texts::Text;
-use uefi_node_table::layouts::{FILE_PATH, MEDIA_TYPE};
-use uefi_node_table::printing::has_form;
-use uefi_node_table::rows::Tail;
+use uefi_device_nodes::node_table::layouts::{FILE_PATH, MEDIA_TYPE};
+use uefi_device_nodes::node_table::printing::has_form;
+use uefi_device_nodes::node_table::rows::Tail;
 
 /// Returns whether a node with this many bytes of data is printed as the name of a file.
 fn is_file(device_type: u8, sub_type: u8, len: usize) -> bool

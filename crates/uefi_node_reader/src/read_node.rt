@@ -9,8 +9,8 @@ use crate::named_files::NameText;
 use crate::parsed_node::ParsedNode;
 use crate::tidied::Tidied;
 use uefi_device_nodes::build_node::BuildNode;
+use uefi_device_nodes::node_table::layouts::{FILE_PATH, MEDIA_TYPE};
 use uefi_device_nodes::{DeviceSubType, DeviceType};
-use uefi_node_table::layouts::{FILE_PATH, MEDIA_TYPE};
 
 /// A node that was read from a text.
 #[derive(Drop)]

@@ -16,9 +16,9 @@ use crate::fields::after;
 use crate::lenient_fields::any_number;
 use crate::parsed_node::ParsedNode;
 use crate::texts::{Text, is_empty};
-use uefi_node_table::layouts::{IPV6, MESSAGING_TYPE};
-use uefi_node_table::printing::form_of;
-use uefi_node_table::rows::Tail;
+use uefi_device_nodes::node_table::layouts::{IPV6, MESSAGING_TYPE};
+use uefi_device_nodes::node_table::printing::form_of;
+use uefi_device_nodes::node_table::rows::Tail;
 
 /// The address `::`.
 const NO_ADDRESS: Address = Address { octets: [0; 16] };

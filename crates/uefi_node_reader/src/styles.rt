@@ -10,7 +10,7 @@ ghost use Rattle.uefi_node_reader.specs.ReadNodes.{node_from_text};
 use crate::faults::{Expected, NodeFault};
 use crate::libefivar::{own, own_fault};
 use crate::named_files::NameText;
-use crate::nodes::{ended, ended_at, read_lenient_node, read_node};
+use crate::node_texts::{ended, ended_at, read_lenient_node, read_node};
 use crate::read_node::ReadNode;
 
 /// The style of the texts to read.

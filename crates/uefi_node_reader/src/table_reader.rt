@@ -4,25 +4,25 @@
 ghost use Rattle.std.specs.List.{list_all};
 ghost use Rattle.std.specs.Option.{ok_or, option_map};
 ghost use Rattle.std.specs.Prelude.{◌≡◌, None, false, ◌≤◌, ℕ, IfSome, IsTrue, List, length, take};
-ghost use Rattle.uefi_node_table.specs.Rows.{as_form, is_within};
-ghost use Rattle.uefi_node_table.specs.Table.{forms};
+ghost use Rattle.uefi_device_nodes.specs.Rows.{as_form, is_within};
+ghost use Rattle.uefi_device_nodes.specs.Table.{forms};
 ghost use Rattle.uefi_device_nodes.specs.Nodes.{Node, node_with};
 ghost use Rattle.uefi_node_reader.specs.TableReading.{are_within, blank, form_place, form_read, is_exact, is_filled, is_sound, kept, prints, put_all, rest_read, table_read};
 ghost use Rattle.uefi_node_reader.specs.ParsedNodes.{fitting};
 ghost use Rattle.uefi_node_reader.specs.WordReading.{after};
 ghost use Rattle.uefi_node_reader.specs.ParsedNodeViews.{text_node_data, parsed_node};
 
-use crate::attempts::{Attempt, try_table};
 use crate::faults::Stop;
 use crate::fields::after;
 use crate::first_letters::begins_in;
+use crate::form_attempts::{Attempt, try_table};
 use crate::form_heads::read_head;
 use crate::form_places::{FormTest, form_place};
 use crate::notations::Exact;
 use crate::parsed_node::ParsedNode;
 use crate::texts::Text;
-use uefi_node_table::printing::{begin_with_kind, matches};
-use uefi_node_table::rows::{Mode, Row};
+use uefi_device_nodes::node_table::printing::{begin_with_kind, matches};
+use uefi_device_nodes::node_table::rows::{Mode, Row};
 
 /// Puts bytes at their places in data.
 fn put_bytes(content: &mut [u8], bytes: &[(u8, u8)])

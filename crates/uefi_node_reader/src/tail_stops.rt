@@ -13,7 +13,7 @@ use crate::fields::after;
 use crate::node_tails::push_tail;
 use crate::stops::stop_at;
 use crate::texts::Text;
-use uefi_node_table::rows::Tail;
+use uefi_device_nodes::node_table::rows::Tail;
 
 /// Reads a literal exactly as it is printed, and returns the rest of the text.
 pub(crate) fn exact_end<T: Text>(literal: &[u8], text: T) -> Result<T, Stop>

@@ -6,7 +6,7 @@ ghost use Rattle.std.specs.Option.{ok_or, option_and_then, option_map};
 ghost use Rattle.std.specs.Prelude.{◌≡◌, ◌++◌, ◌≤◌, ℕ, IfSome, IsTrue, List, Some, take};
 ghost use Rattle.std.specs.Result.{result_map_both};
 ghost use Rattle.uefi_device_nodes.specs.Nodes.{Node};
-ghost use Rattle.uefi_node_table.specs.Rows.{as_form};
+ghost use Rattle.uefi_device_nodes.specs.Rows.{as_form};
 ghost use Rattle.uefi_node_reader.specs.LenientCalls.{told_in};
 ghost use Rattle.uefi_node_reader.specs.ParsedNodeViews.{parsed_node, text_node_data};
 ghost use Rattle.uefi_node_reader.specs.ParsedNodes.{fitting};
@@ -16,10 +16,10 @@ ghost use Rattle.uefi_node_reader.specs.ReadNodes.{node_from_text};
 ghost use Rattle.uefi_node_reader.specs.TableReading.{added, is_filled, is_read, is_sound, tail_read};
 ghost use Rattle.uefi_node_reader.specs.TextCalls.{are_left_out, call_left, holds_ids, holds_text, left_of, or_commas, past_second, stop_before, text_call_told, text_left, text_stop, text_told, text_tried, texts_tried, uid_call_told, uid_told, uid_tried, words_tried};
 
-use crate::attempts::{Attempt, try_table};
 use crate::clear_texts::{first_of, past_clear};
 use crate::faults::{Expected, Stop};
 use crate::first_letters::begins_in_either_case;
+use crate::form_attempts::{Attempt, try_table};
 use crate::form_heads::{read_head, read_pieces};
 use crate::lenient_fields::after_ending;
 use crate::lenient_table::{begins_call_name, is_textless, told};
@@ -32,7 +32,7 @@ use crate::table_reader::fixed_part;
 use crate::tail_stops::tail_rest;
 use crate::texts::{Text, is_empty};
 use crate::tidied::{Tidied, past_mark, place_at, tidy};
-use uefi_node_table::rows::{Mode, Row, Tail};
+use uefi_device_nodes::node_table::rows::{Mode, Row, Tail};
 
 /// Returns whether a form is printed and contains a text.
 fn holds_text(mode: Mode, tail: Tail) -> bool

@@ -9,7 +9,7 @@ ghost use Rattle.uefi_partitions.specs.StoredFields.{stored_bytes, stored_number
 use crate::checksums::{ALL_BITS, after_bytes};
 use crate::errors::GptError;
 use crate::fields::{sixteen_at, u32_at, u64_at};
-use uefi_field_texts::guid::Guid;
+use uefi_device_nodes::field_texts::guid::Guid;
 
 /// The least size of a header, and of the block that it begins.
 const LEAST: usize = 92;

@@ -13,7 +13,7 @@ use crate::errors::{GptError, PartitionError};
 use crate::fields::{sixteen_at, u32_at, u64_at};
 use crate::gpt::GptHeader;
 use crate::partition::{Partition, PartitionTable};
-use uefi_field_texts::guid::Guid;
+use uefi_device_nodes::field_texts::guid::Guid;
 use uefi_text::UnalignedSlice;
 
 /// The type of an EFI system partition, C12A7328-F81F-11D2-BA4B-00A0C93EC93B.

@@ -5,7 +5,7 @@ use Rattle.std.proofs.lemmas.List.{append-nil, length-drop}
 use Rattle.std.proofs.lemmas.List.Elements.{All-head, All-tail, All-cons, All-nil}
 use Rattle.uefi_path.specs.Components.{joined, components_of, pieces_between}
 use Rattle.uefi_path.specs.NormalForms.{before_normal, kind, normal_of, IsName, NormalForm, before_piece, normal_text}
-use Rattle.uefi_path.specs.declared.component_kinds.Kind.{Kind}
+use Rattle.uefi_path.specs.declared.splitting.component_kinds.Kind.{Kind}
 use Rattle.uefi_path.specs.Separators.{separator, with_separators, canonical, slash}
 use Rattle.uefi_path.specs.Verdicts.{IsGood, verdict}
 use Rattle.uefi_path.proofs.SeparatorPlaces.{IsTextUnit-separator}
@@ -13,7 +13,7 @@ use Rattle.uefi_path.proofs.ParentForm.{room, room-joined, units-canonical, comp
 use Rattle.uefi_path.proofs.Joining.{with_separators-plain, separator_is_plain, AreComponents-components_of}
 use Rattle.uefi_path.proofs.Validity.{good-plain, All-good_plain, All-joined, valid-accepted, valid-components, valid-from}
 use Rattle.uefi_path.specs.Laws.{NormalHoldsNames, NormalIsNormal, NormalIsValid, NormalPathsAgree}
-use Rattle.uefi_path.specs.declared.component_kinds.Kind.TheVariants.{Dot, DotDot, Name}
+use Rattle.uefi_path.specs.declared.splitting.component_kinds.Kind.TheVariants.{Dot, DotDot, Name}
 use Rattle.uefi_text.specs.Units.{IsText, IsTextUnit}
 use Rattle.uefi_path.proofs.Rewriting.{Accepted, Accepted-names, names_of_normal, name_kind, normal_forms_agree, normal_of-only, NormalForm-normal_of, normal_of-step}
 use Rattle.uefi_path.specs.NamesLeft.{names_before}

@@ -7,7 +7,7 @@ use Rattle.uefi_path.specs.NormalForms.{before_normal, before_piece, kind, norma
 use Rattle.uefi_path.specs.Separators.{canonical, is_separator, separator}
 use Rattle.uefi_path.specs.Verdicts.{verdict}
 use Rattle.uefi_path.specs.Writing.{normal_where}
-use Rattle.uefi_path.specs.declared.component_kinds.Kind.{Kind}
+use Rattle.uefi_path.specs.declared.splitting.component_kinds.Kind.{Kind}
 use Rattle.uefi_path.specs.declared.validation.PathError.{PathError}
 use Rattle.uefi_path.proofs.Joining.{AreComponents-components_of}
 

@@ -2,8 +2,8 @@
 use Rattle.std.proofs.Common.{◌≡◌, ◌≢◌, ℕ, List, [], ◌∷◌, ◌++◌, inl, inr, zero, suc, refl, sym, ap, ◌∙◌, subst, arith, ◌+◌, ◌<◌, ◌≤◌, ◌&&◌, Bool, nat_lt, IsTrue, All, length, Option, None, Some, take}
 use Rattle.uefi_path.specs.Laws.{NormalFormWhereSame, NormalFormsAgree, NormalFormsExist, NormalFormsOnce}
 use Rattle.uefi_path.specs.NormalForms.{IsName, IsNormal, NormalForm, Rewrites, Step, Steps, before_normal, before_piece, dot, dot_dot, kind, normal_of}
-use Rattle.uefi_path.specs.declared.component_kinds.Kind.{Kind}
-use Rattle.uefi_path.specs.declared.component_kinds.Kind.TheVariants.{Dot, DotDot, Name}
+use Rattle.uefi_path.specs.declared.splitting.component_kinds.Kind.{Kind}
+use Rattle.uefi_path.specs.declared.splitting.component_kinds.Kind.TheVariants.{Dot, DotDot, Name}
 use Rattle.std.proofs.lemmas.Grind.{common_steps}
 use Rattle.std.specs.List.{slice_get}
 use Rattle.std.proofs.lemmas.List.Elements.{All-cons, All-head, All-nil, All-tail}

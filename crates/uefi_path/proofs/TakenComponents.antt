@@ -27,7 +27,7 @@ use Rattle.uefi_text.specs.Units.{IsText, IsTextUnit}
 use Rattle.uefi_text.specs.Views.{units_of}
 use Rattle.uefi_path.specs.Runs.{GivesNoNulIn}
 use Rattle.uefi_path.specs.Views.{components_left}
-use Rattle.uefi_path.specs.declared.components.Components.{Components}
+use Rattle.uefi_path.specs.declared.splitting.components.Components.{Components}
 use Rattle.uefi_text.specs.Case.{uppers}
 use Rattle.uefi_path.specs.WithoutCase.{capital_pieces}
 

@@ -20,8 +20,8 @@ use Rattle.std.proofs.lemmas.Option.{same_Some}
 use Rattle.uefi_path.specs.Climbing.{counted_dot_dot, counted_name, depth_after, dot_dots, names}
 use Rattle.uefi_path.specs.Laws.{IsRefusedFor}
 use Rattle.uefi_path.specs.NormalForms.{dot_dot, kind}
-use Rattle.uefi_path.specs.declared.component_kinds.Kind.{Kind}
-use Rattle.uefi_path.specs.declared.component_kinds.Kind.TheVariants.{Dot, DotDot, Name}
+use Rattle.uefi_path.specs.declared.splitting.component_kinds.Kind.{Kind}
+use Rattle.uefi_path.specs.declared.splitting.component_kinds.Kind.TheVariants.{Dot, DotDot, Name}
 use Rattle.std.proofs.lemmas.Grind.{common_steps}
 use Rattle.std.proofs.lemmas.List.{append-nil}
 use Rattle.uefi_path.specs.ComponentIndices.{BeginAtPlaces}

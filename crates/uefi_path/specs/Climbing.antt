@@ -2,8 +2,8 @@
 use Rattle.std.specs.Prelude.{◌≡◌, ℕ, zero, suc, ◌+◌, ◌≤◌, List, [], ◌∷◌, Option, None, Some, take}
 use Rattle.std.specs.List.{slice_get}
 use Rattle.uefi_path.specs.NormalForms.{dot_dot, kind}
-use Rattle.uefi_path.specs.declared.component_kinds.Kind.{Kind}
-use Rattle.uefi_path.specs.declared.component_kinds.Kind.TheVariants.{Dot, DotDot, Name}
+use Rattle.uefi_path.specs.declared.splitting.component_kinds.Kind.{Kind}
+use Rattle.uefi_path.specs.declared.splitting.component_kinds.Kind.TheVariants.{Dot, DotDot, Name}
 
 -- how many names are among pieces
 abbrev pub counted_name : Kind → ℕ

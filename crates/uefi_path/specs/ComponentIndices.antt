@@ -1,10 +1,10 @@
 -- The components of a path, each with the place where it begins in the text.
 use Rattle.std.specs.Prelude.{◌≡◌, ◌≤◌, ℕ, ◌+◌, List, [], ◌∷◌, drop, length, map}
-use Rattle.uefi_text.specs.declared.strs.Char16Slice.{Char16Slice}
+use Rattle.uefi_text.specs.declared.strings.strs.Char16Slice.{Char16Slice}
 use Rattle.uefi_text.specs.Views.{units_of}
 use Rattle.uefi_path.specs.Components.{joined}
 use Rattle.uefi_path.specs.Views.{components_left}
-use Rattle.uefi_path.specs.declared.component_indices.ComponentIndices.{ComponentIndices}
+use Rattle.uefi_path.specs.declared.splitting.component_indices.ComponentIndices.{ComponentIndices}
 
 -- an item: the place and the units of the component
 abbrev pub indexed_units : ℕ × Char16Slice → ℕ × List ℕ

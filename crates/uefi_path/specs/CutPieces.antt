@@ -2,7 +2,7 @@
 use Rattle.std.specs.Prelude.{ℕ, List, [], Option, Some, None, length}
 use Rattle.std.specs.List.{slice_split}
 use Rattle.uefi_text.specs.Views.{units_of}
-use Rattle.uefi_text.specs.declared.strs.Char16Slice.{Char16Slice}
+use Rattle.uefi_text.specs.declared.strings.strs.Char16Slice.{Char16Slice}
 use Rattle.uefi_path.specs.Separators.{is_separator, with_separators}
 
 -- the pieces that are left

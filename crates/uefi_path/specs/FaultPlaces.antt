@@ -3,7 +3,7 @@ use Rattle.std.specs.Prelude.{◌≡◌, ◌≤◌, ◌⊎◌, ℕ, List, [], �
 use Rattle.uefi_path.specs.Components.{components_of, joined}
 use Rattle.uefi_path.specs.Verdicts.{first_fault, verdict}
 use Rattle.uefi_path.specs.declared.validation.PathError.{PathError}
-use Rattle.uefi_path.specs.declared.fault_places.PathFault.{PathFault}
+use Rattle.uefi_path.specs.declared.splitting.fault_places.PathFault.{PathFault}
 
 -- the component that begins at a place is the first at fault: those before it are accepted, and with it
 -- they are refused for this error

@@ -3,8 +3,8 @@ use Rattle.std.specs.Prelude.{◌≡◌, ◌≢◌, ℕ, ◌==◌, ◌&&◌, if�
 use Rattle.std.proofs.Common.{zero, suc}
 use Rattle.uefi_path.specs.Components.{joined}
 use Rattle.uefi_path.specs.Separators.{separator}
-use Rattle.uefi_path.specs.declared.component_kinds.Kind.{Kind}
-use Rattle.uefi_path.specs.declared.component_kinds.Kind.TheVariants.{Dot, DotDot, Name}
+use Rattle.uefi_path.specs.declared.splitting.component_kinds.Kind.{Kind}
+use Rattle.uefi_path.specs.declared.splitting.component_kinds.Kind.TheVariants.{Dot, DotDot, Name}
 
 -- the piece `.`, which stays where it is
 abbrev pub dot : List ℕ

@@ -3,8 +3,8 @@ use Rattle.std.specs.Prelude.{ℕ, List, ◌++◌, codes}
 use Rattle.std.specs.Fmt.{decimal}
 use Rattle.uefi_path.specs.declared.normal.NormalizeError.{NormalizeError}
 use Rattle.uefi_path.specs.declared.normal.NormalizeError.TheVariants.{Invalid, OutOfMemory}
-use Rattle.uefi_path.specs.declared.written.NormalWriteError.{NormalWriteError}
-use Rattle.uefi_path.specs.declared.written.NormalWriteError.TheVariants as write
+use Rattle.uefi_path.specs.declared.path_in_buf.NormalWriteError.{NormalWriteError}
+use Rattle.uefi_path.specs.declared.path_in_buf.NormalWriteError.TheVariants as write
 use Rattle.uefi_path.specs.declared.validation.PathError.{PathError}
 use Rattle.uefi_path.specs.declared.validation.PathError.TheVariants.{ClimbsAboveRoot, Empty, EmptyComponent, IllegalChar}
 

@@ -3,7 +3,7 @@ use Rattle.std.specs.Prelude.{◌≡◌, ℕ, ◌+◌, ◌<◌, ◌≤◌, Bool,
 use Rattle.std.specs.List.{slice_range}
 use Rattle.uefi_path.specs.Separators.{separator, is_separator, with_separators}
 use Rattle.uefi_path.specs.Views.{counted_text, reads_of}
-use Rattle.uefi_path.specs.declared.counted.CountedUnits.{CountedUnits}
+use Rattle.uefi_path.specs.declared.counted_units.CountedUnits.{CountedUnits}
 
 -- whether a separator is missing after a text: it is not empty, and its last unit is none
 abbrev pub needs_separator : List ℕ → Bool

@@ -4,7 +4,7 @@ use Rattle.std.specs.Iterator.{YieldsFirstBy}
 use Rattle.std.specs.Iterator.Runs.{AllItems, EachRunFrom}
 use Rattle.uefi_text.specs.Views.{units_of}
 use Rattle.uefi_path.specs.Views.{components_left}
-use Rattle.uefi_path.specs.declared.components.Components.{Components}
+use Rattle.uefi_path.specs.declared.splitting.components.Components.{Components}
 
 -- no run of calls from here gives a component that contains a NUL
 abbrev pub GivesNoNulIn : Components → Type 0

@@ -1,7 +1,7 @@
 -- The separators of units that are still to come.
 use Rattle.std.specs.Prelude.{ℕ, List, ◌++◌, drop}
 use Rattle.uefi_path.specs.Separators.{places_from}
-use Rattle.uefi_path.specs.declared.separators.Separators.{Separators}
+use Rattle.uefi_path.specs.declared.splitting.separators.Separators.{Separators}
 
 -- their places
 abbrev pub places_left : Separators → List ℕ

@@ -4,9 +4,9 @@ use Rattle.std.specs.List.{slice_split}
 use Rattle.uefi_text.specs.Views.{read_count, read_units, text_of, units_of}
 use Rattle.uefi_path.specs.Separators.{is_separator}
 use Rattle.uefi_path.specs.declared.path.Path.{Path}
-use Rattle.uefi_path.specs.declared.components.Components.{Components}
-use Rattle.uefi_path.specs.declared.components.Rest.{Rest}
-use Rattle.uefi_path.specs.declared.counted.CountedUnits.{CountedUnits}
+use Rattle.uefi_path.specs.declared.splitting.components.Components.{Components}
+use Rattle.uefi_path.specs.declared.splitting.components.Rest.{Rest}
+use Rattle.uefi_path.specs.declared.counted_units.CountedUnits.{CountedUnits}
 
 -- the text of a path
 unfoldable pub path_text : Path → List ℕ

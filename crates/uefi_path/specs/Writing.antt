@@ -10,8 +10,8 @@ use Rattle.uefi_path.specs.NormalForms.{normal_of, normal_text}
 use Rattle.uefi_path.specs.Parents.{parent_of_components}
 use Rattle.uefi_path.specs.Separators.{with_separators}
 use Rattle.uefi_path.specs.Verdicts.{verdict}
-use Rattle.uefi_path.specs.declared.written.NormalWriteError.{NormalWriteError}
-use Rattle.uefi_path.specs.declared.written.NormalWriteError.TheVariants.{BufferTooSmall, Invalid}
+use Rattle.uefi_path.specs.declared.path_in_buf.NormalWriteError.{NormalWriteError}
+use Rattle.uefi_path.specs.declared.path_in_buf.NormalWriteError.TheVariants.{BufferTooSmall, Invalid}
 use Rattle.uefi_path.specs.declared.validation.PathError.{PathError}
 
 -- the normal path of a text, by the verdict on it: a text that is refused has none

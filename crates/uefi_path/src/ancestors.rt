@@ -11,8 +11,8 @@ ghost use Rattle.uefi_text.specs.Views.{units_of};
 ghost use Rattle.std.specs.Iterator.{YieldsFirstBy, item_count};
 
 use crate::path::Path;
-use crate::separators::cut_last;
-use uefi_text::strs::Char16Slice;
+use crate::splitting::separators::cut_last;
+use uefi_text::strings::strs::Char16Slice;
 
 /// An iterator over the beginnings of a path, the longest first. A contract sees it as
 /// `ancestors_left` of it: the beginnings that remain.

@@ -12,8 +12,8 @@ ghost use Rattle.uefi_text.specs.Units.{IsText};
 ghost use Rattle.uefi_text.specs.Views.{units_of};
 ghost use Rattle.uefi_path.specs.Runs.{GivesNoNulIn};
 
-use crate::components::Components;
 use crate::path::Path;
+use crate::splitting::components::Components;
 use std::cmp::Ordering;
 
 impl<'a> Path<'a> {

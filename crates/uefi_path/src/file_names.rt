@@ -9,9 +9,9 @@ ghost use Rattle.uefi_path.specs.Views.{path_text};
 ghost use Rattle.uefi_text.specs.Units.{IsText};
 ghost use Rattle.uefi_text.specs.Views.{units_of};
 
-use crate::component_kinds::{Kind, kind_of};
 use crate::path::Path;
-use uefi_text::strs::Char16Slice;
+use crate::splitting::component_kinds::{Kind, kind_of};
+use uefi_text::strings::strs::Char16Slice;
 
 /// The dot between a stem and an extension.
 const DOT: u16 = 0x2e;

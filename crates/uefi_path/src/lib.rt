@@ -37,37 +37,32 @@
 #![tactic(auto)]
 
 mod ancestors;
+mod capacity;
 mod caseless;
-mod component_indices;
-mod component_kinds;
-mod components;
-mod counted;
-mod fault_places;
+mod counted_units;
 mod file_names;
 pub mod laws;
 mod names;
 mod normal;
 mod path;
+mod path_in_buf;
 #[doc(hidden)]
 pub mod path_units;
 mod pathbuf;
 mod push_blocks;
-mod rooms;
-mod separators;
-mod slashed;
+mod splitting;
 mod validation;
-mod written;
 
 pub use ancestors::Ancestors;
-pub use component_indices::ComponentIndices;
-pub use components::Components;
-pub use counted::CountedUnits;
-pub use fault_places::{PathFault, validate_path_at};
+pub use counted_units::CountedUnits;
 pub use normal::NormalizeError;
 pub use path::{Path, separator_str};
+pub use path_in_buf::NormalWriteError;
+#[doc(hidden)]
+pub use path_in_buf::push_in_buf;
 pub use pathbuf::PathBuf;
+pub use splitting::component_indices::ComponentIndices;
+pub use splitting::components::Components;
+pub use splitting::fault_places::{PathFault, validate_path_at};
 pub use uefi_text::chars::{CHARACTER_DENY_LIST, SEPARATOR};
 pub use validation::{PathError, validate_path};
-pub use written::NormalWriteError;
-#[doc(hidden)]
-pub use written::push_in_buf;

@@ -13,10 +13,10 @@ ghost use Rattle.uefi_path.specs.Views.{path_text};
 ghost use Rattle.uefi_text.specs.Units.{IsText};
 ghost use Rattle.uefi_text.specs.Views.{units_of};
 
-use crate::component_kinds::{Kind, kind_of};
 use crate::path::Path;
-use crate::slashed::{cut_last, to_cut};
-use uefi_text::strs::Char16Slice;
+use crate::splitting::component_kinds::{Kind, kind_of};
+use crate::splitting::slashed::{cut_last, to_cut};
+use uefi_text::strings::strs::Char16Slice;
 
 /// The names of a normal path that remain, from the last one backwards. In contracts they are
 /// `names_left` of it.

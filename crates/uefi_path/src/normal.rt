@@ -13,14 +13,14 @@ ghost use Rattle.uefi_path.specs.PathErrors.{normalize_error_text};
 
 use crate::names::NamesFromLast;
 use crate::path::Path;
+use crate::path_in_buf::{write_names, write_string};
 use crate::pathbuf::{PathBuf, copy_part};
 use crate::validation::{PathError, judge};
-use crate::written::{write_names, write_string};
 use std::alloc::{AllocError, Allocator};
 use std::error::Error;
 use std::fmt;
 use uefi_text::chars::SEPARATOR;
-use uefi_text::owned_strs::CString16;
+use uefi_text::strings::owned_strs::CString16;
 use uefi_text::text_sink::{Printed, TextSink, print};
 
 /// The reason why a path has no normal path.

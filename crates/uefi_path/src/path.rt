@@ -17,12 +17,12 @@ ghost use Rattle.std.specs.Ordering.{nat_cmp, as_partial_cmp, on};
 ghost use Rattle.std.proofs.Common.{refl};
 ghost use Rattle.std.specs.Str.{encode_utf8_all};
 
-use crate::components::{Components, Rest};
 use crate::path_units::last_component;
+use crate::splitting::components::{Components, Rest};
 use std::cmp::Ordering;
 use std::fmt;
 use uefi_text::chars::SEPARATOR;
-use uefi_text::strs::{CStr16, Char16Slice};
+use uefi_text::strings::strs::{CStr16, Char16Slice};
 
 /// A borrowed path: any string, read as components between separators. A contract sees it as
 /// `path_text` of it: its whole text, including a leading separator.

@@ -12,7 +12,7 @@ ghost use Rattle.uefi_path.specs.Separators.{canonical, is_separator, separator,
 ghost use Rattle.uefi_path.specs.Verdicts.{IsValid};
 ghost use Rattle.uefi_text.specs.Units.{replaced};
 
-use crate::separators::last_start;
+use crate::splitting::separators::last_start;
 use uefi_text::chars::{SEPARATOR, SLASH};
 
 /// Returns the unit, or a separator instead of a slash.

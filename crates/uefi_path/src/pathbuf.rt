@@ -22,22 +22,22 @@ ghost use Rattle.std.proofs.Common.{refl};
 ghost use Rattle.std.specs.Str.{encode_utf8_all};
 ghost use Rattle.uefi_path.specs.Components as pieces_joined;
 
-use crate::components::{Components, Rest};
-use crate::counted::CountedUnits;
+use crate::capacity::{copy_places, copy_string, room_for_both, room_if_short};
+use crate::counted_units::CountedUnits;
 use crate::file_names::stem_len;
 use crate::path::Path;
+use crate::path_in_buf::{parent_len, sink_parent};
 use crate::path_units::{last_component, needs_separator, others_end};
 use crate::push_blocks::{add_block, copy_units};
-use crate::rooms::{copy_places, copy_string, room_for_both, room_if_short};
-use crate::separators::{add_places, count_separators, cut_last};
-use crate::written::{parent_len, sink_parent};
+use crate::splitting::components::{Components, Rest};
+use crate::splitting::separators::{add_places, count_separators, cut_last};
 use std::alloc::{AllocError, Allocator, Global};
 use std::cmp::Ordering;
 use std::fmt;
 use std::marker::Model;
 use uefi_text::chars::{Char16, SEPARATOR, SLASH};
-use uefi_text::owned_strs::CString16;
-use uefi_text::strs::{CStr16, Char16Slice};
+use uefi_text::strings::owned_strs::CString16;
+use uefi_text::strings::strs::{CStr16, Char16Slice};
 
 /// An owned path. Each `/` of its input becomes a separator, so its text never contains a `/`. A
 /// contract sees it as its text.

@@ -9,11 +9,11 @@ ghost use Rattle.uefi_path.specs.Separators.{places_from, with_separators};
 ghost use Rattle.uefi_path.specs.Views.{counted_text, reads_of};
 ghost use Rattle.uefi_text.specs.Units.{IsText};
 
-use crate::counted::CountedUnits;
+use crate::counted_units::CountedUnits;
 use crate::path_units::with_separator;
-use crate::separators::{Separators, separator_bits_first};
+use crate::splitting::separators::{Separators, separator_bits_first};
 use std::alloc::{AllocError, Allocator};
-use uefi_text::owned_strs::CString16;
+use uefi_text::strings::owned_strs::CString16;
 
 /// Copies units from an index on, each slash replaced. Reads each once.
 #[inline(always)]

@@ -9,13 +9,13 @@ ghost use Rattle.uefi_path.specs.Views.{path_text};
 ghost use Rattle.uefi_text.specs.Views.{units_of};
 ghost use Rattle.uefi_path.specs.PathErrors.{path_error_text};
 
-use crate::component_kinds::{Kind, kind_of};
 use crate::path::Path;
+use crate::splitting::component_kinds::{Kind, kind_of};
 use std::error::Error;
 use std::fmt;
 use uefi_text::chars::Char16;
 use uefi_text::number_texts::put_decimal;
-use uefi_text::strs::Char16Slice;
+use uefi_text::strings::strs::Char16Slice;
 use uefi_text::text_sink::{Printed, TextSink, print};
 
 /// The reason why a path is refused.

@@ -17,10 +17,10 @@ mod out_of_memory;
 #[cfg(test)]
 mod parents;
 #[cfg(test)]
+mod path_in_buf;
+#[cfg(test)]
 mod pathbuf;
 #[cfg(test)]
 mod separators;
 #[cfg(test)]
 mod validation;
-#[cfg(test)]
-mod written;

@@ -11,8 +11,8 @@ use Rattle.uefi_text.specs.declared.errors.FromStrError.TheVariants.{InteriorNul
 use Rattle.uefi_text.proofs.Accepting.{from_str-characters}
 use Rattle.uefi_text.proofs.Scanning.{none_is_nul}
 use Rattle.uefi_text.specs.Views.{text_of, units_of}
-use Rattle.uefi_text.specs.declared.strs.CStr16.{CStr16}
-use Rattle.uefi_text.specs.declared.strs.Char16Slice.{Char16Slice}
+use Rattle.uefi_text.specs.declared.strings.strs.CStr16.{CStr16}
+use Rattle.uefi_text.specs.declared.strings.strs.Char16Slice.{Char16Slice}
 
 -- what a borrowed string shows is a text
 pub IsText-text_of : (string : CStr16) → IsText (text_of string)

@@ -2,11 +2,11 @@
 use Rattle.std.specs.Prelude.{ℕ, List}
 use Rattle.uefi_text.specs.Packed.{packed_items}
 use Rattle.uefi_text.specs.Units.{without_nul}
-use Rattle.uefi_text.specs.declared.counted.CountedReader.{CountedReader}
-use Rattle.uefi_text.specs.declared.latin1.CStr8.{CStr8}
-use Rattle.uefi_text.specs.declared.strs.CStr16.{CStr16}
-use Rattle.uefi_text.specs.declared.strs.Char16Slice.{Char16Slice}
-use Rattle.uefi_text.specs.declared.strs.CStr16Iter.{CStr16Iter}
+use Rattle.uefi_text.specs.declared.counted_reads.CountedReader.{CountedReader}
+use Rattle.uefi_text.specs.declared.strings.latin1.CStr8.{CStr8}
+use Rattle.uefi_text.specs.declared.strings.strs.CStr16.{CStr16}
+use Rattle.uefi_text.specs.declared.strings.strs.Char16Slice.{Char16Slice}
+use Rattle.uefi_text.specs.declared.strings.strs.CStr16Iter.{CStr16Iter}
 use Rattle.uefi_text.specs.declared.unaligned_slice.UnalignedSlice.{UnalignedSlice}
 use Rattle.uefi_text.specs.declared.unaligned_slice.UnalignedSliceIter.{UnalignedSliceIter}
 use Rattle.uefi_text.specs.declared.unaligned_slice.UnalignedSliceIntoIter.{UnalignedSliceIntoIter}

@@ -13,7 +13,7 @@ ghost use Rattle.uefi_text.specs.Case.{caseless_order, in_case, is_lowercase, lo
 ghost use Rattle.uefi_text.specs.Views.{text_of, units_of};
 
 use crate::chars::Char16;
-use crate::strs::{CStr16, Char16Slice};
+use crate::strings::strs::{CStr16, Char16Slice};
 use std::cmp::Ordering;
 
 /// Returns whether a unit has an upper case, 32 below it.

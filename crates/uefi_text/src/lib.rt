@@ -32,23 +32,19 @@
 pub mod case;
 pub mod char_sink;
 pub mod chars;
-pub mod counted;
+pub mod counted_reads;
 #[doc(hidden)]
 pub mod decode;
 mod encode;
-pub mod eq_str_until_nul;
 mod errors;
-mod latin1;
 pub mod laws;
 #[doc(hidden)]
 pub mod number_texts;
-pub mod owned_strs;
 mod packed_numbers;
 pub mod patterns;
 #[doc(hidden)]
 pub mod scan;
-mod strings_in_bytes;
-pub mod strs;
+pub mod strings;
 #[doc(hidden)]
 pub mod text_sink;
 pub mod unaligned_slice;
@@ -60,9 +56,9 @@ pub use char_sink::CharSink;
 pub use chars::{Char8, Char16, CharConversionError, NUL_8, NUL_16};
 #[doc(hidden)]
 pub use encode::text_len;
-pub use eq_str_until_nul::{EqStrUntilNul, str_eq_until_nul};
-pub use owned_strs::{CString16, FromStrError, have_no_nul};
-pub use strs::{
+pub use strings::eq_str_until_nul::{EqStrUntilNul, str_eq_until_nul};
+pub use strings::owned_strs::{CString16, FromStrError, have_no_nul};
+pub use strings::strs::{
     CStr8, CStr16, CStr16Iter, Char16Slice, FromSliceUntilNulError, FromSliceWithNulError,
     FromStrWithBufError, UnalignedCStr16Error, has_no_nul, is_latin1, str_num_latin1_chars,
     str_to_latin1,

@@ -18,8 +18,8 @@ ghost use Rattle.uefi_text.specs.Patterns.{Matches, star};
 ghost use Rattle.uefi_text.specs.Views.{read_count, read_units, text_of, units_of};
 
 use crate::case::upper;
-use crate::counted::CountedReader;
-use crate::strs::{CStr16, Char16Slice};
+use crate::counted_reads::CountedReader;
+use crate::strings::strs::{CStr16, Char16Slice};
 
 const STAR: u16 = 0x2a;
 

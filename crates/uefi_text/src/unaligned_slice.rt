@@ -37,10 +37,12 @@ ghost use Rattle.uefi_text.specs.FromSliceWithNul.{with_nul_refusal};
 ghost use Rattle.uefi_text.specs.Units.{IsString, IsText, nul_terminated};
 ghost use Rattle.uefi_text.specs.PackedStrings.{SplitsUntilNul};
 
-use crate::owned_strs::CString16;
 pub use crate::packed_numbers::Packed;
 use crate::scan::{Class, Deciding, Nul, find_first_packed};
-use crate::strs::{CStr16, FromSliceWithNulError, UnalignedCStr16Error, check_deciding_unit};
+use crate::strings::owned_strs::CString16;
+use crate::strings::strs::{
+    CStr16, FromSliceWithNulError, UnalignedCStr16Error, check_deciding_unit,
+};
 use std::alloc::{AllocError, Allocator};
 use std::fmt;
 use std::marker::PhantomData;

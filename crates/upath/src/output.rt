@@ -5,7 +5,7 @@ ghost use Rattle.uefi_text.specs.Views.{units_of};
 ghost use Rattle.upath.specs.Output.{line, text_line};
 
 use std::alloc::{AllocError, Allocator};
-use uefi_text::strs::Char16Slice;
+use uefi_text::strings::strs::Char16Slice;
 
 /// Adds a line: the characters of a text.
 pub(crate) fn add_line<A: Allocator>(output: &mut Vec<u8, A>, text: &str) -> Result<(), AllocError>

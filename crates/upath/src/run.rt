@@ -19,7 +19,7 @@ use crate::path_commands::{PathCommand, run_command};
 use std::alloc::{AllocError, Allocator};
 use std::cmp::Ordering;
 use uefi_path::{NormalizeError, Path, PathBuf, PathError, validate_path};
-use uefi_text::owned_strs::{CString16, FromStrError};
+use uefi_text::strings::owned_strs::{CString16, FromStrError};
 
 /// A run so far: the path that the next line finds, and what was printed.
 #[derive(Drop)]

@@ -1,6 +1,6 @@
-use Rattle.uefi_node_table.specs.Rows.{as_piece, is_within}
+use Rattle.uefi_device_nodes.specs.Rows.{as_piece, is_within}
 use Rattle.std.proofs.Common.{length}
-use Rattle.uefi_node_table.proofs.Lists.{all_at}
+use Rattle.uefi_device_nodes.proofs.Lists.{all_at}
 use Rattle.uefi_node_reader.proofs.complete_texts.put_all_kept.Goals as goal
 
 pub put_kept-requires-clause-within : goal.put_kept-requires-clause-within

@@ -1,5 +1,5 @@
 use Rattle.std.proofs.Common.{◌≡◌, drop, map}
-use Rattle.uefi_node_table.specs.Rows.{as_piece}
+use Rattle.uefi_device_nodes.specs.Rows.{as_piece}
 use Rattle.uefi_node_reader.specs.TableReading.{overlay}
 use Rattle.uefi_node_reader.proofs.complete_texts.put_all_kept.Given as goal
 

@@ -1,6 +1,6 @@
 use Rattle.std.proofs.Common.{◌≡◌, ◌+◌, List, ℕ, length, ap, ◌∙◌, arith}
 use Rattle.std.proofs.lemmas.List.Edits.{length-between}
-use Rattle.uefi_node_table.specs.Rows.{Piece, as_piece, value_at}
+use Rattle.uefi_device_nodes.specs.Rows.{Piece, as_piece, value_at}
 use Rattle.uefi_node_reader.specs.TableReading.{put_at}
 use Rattle.uefi_node_reader.proofs.PieceLaws.{within_parts}
 use Rattle.uefi_node_reader.proofs.ToldNodes.{kept_whole, put_is}

@@ -1,7 +1,7 @@
 use Rattle.std.proofs.Common.{true, false, List, ℕ, length, take, refl, sym, ap, ◌∙◌, arith}
 use Rattle.std.specs.Prelude.{Some, None}
 use Rattle.std.proofs.lemmas.List.{length-take-le}
-use Rattle.uefi_node_table.specs.Rows.{Form, as_form}
+use Rattle.uefi_device_nodes.specs.Rows.{Form, as_form}
 use Rattle.uefi_device_nodes.specs.Nodes.{Node}
 use Rattle.uefi_node_reader.specs.CompleteTexts.{tells_fixed, tells_tail}
 use Rattle.uefi_node_reader.specs.ParsedNodeViews.{parsed_node}

@@ -1,6 +1,6 @@
 use Rattle.std.proofs.Common.{◌≡◌, eqb, ℕ, List, ap, sym, ◌∙◌}
 use Rattle.std.specs.Cmp.Lexicographic.{pointwise}
-use Rattle.uefi_node_table.specs.Rows.{Form, as_form}
+use Rattle.uefi_device_nodes.specs.Rows.{Form, as_form}
 use Rattle.uefi_node_reader.specs.TableReading.{blank, overlay}
 use Rattle.uefi_node_reader.proofs.PieceLaws.{overlay-append}
 use Rattle.uefi_node_reader.proofs.complete_texts.tells_fixed.Goals as goal

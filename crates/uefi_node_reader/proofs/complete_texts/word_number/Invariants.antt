@@ -1,5 +1,5 @@
 use Rattle.std.proofs.Common.{◌≡◌, drop, map}
-use Rattle.uefi_node_table.specs.Words.{as_word}
+use Rattle.uefi_device_nodes.specs.Words.{as_word}
 use Rattle.uefi_node_reader.specs.WordReading.{word_number}
 use Rattle.uefi_node_reader.proofs.complete_texts.word_number.Given as goal
 

@@ -1,5 +1,5 @@
 use Rattle.std.proofs.Common.{◌≡◌, drop, map}
-use Rattle.uefi_node_table.specs.Words.{as_word}
+use Rattle.uefi_device_nodes.specs.Words.{as_word}
 use Rattle.uefi_node_reader.specs.WordReading.{word_read}
 use Rattle.uefi_node_reader.proofs.fields.word.Given as goal
 

@@ -1,5 +1,5 @@
 use Rattle.std.proofs.Common.{map, ◌∙◌}
-use Rattle.uefi_node_table.specs.Rows.{as_piece}
+use Rattle.uefi_device_nodes.specs.Rows.{as_piece}
 use Rattle.uefi_node_reader.proofs.Literals.{read_ok}
 use Rattle.uefi_node_reader.proofs.PieceReads.{pieces_exact}
 use Rattle.uefi_node_reader.proofs.form_heads.exact_pieces.Goals as goal

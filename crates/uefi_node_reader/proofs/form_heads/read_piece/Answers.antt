@@ -1,4 +1,4 @@
-use Rattle.uefi_node_table.specs.Rows.{as_piece}
+use Rattle.uefi_device_nodes.specs.Rows.{as_piece}
 use Rattle.uefi_node_reader.proofs.PieceReads.{read_in_place}
 use Rattle.uefi_node_reader.proofs.form_heads.read_piece.Goals as goal
 

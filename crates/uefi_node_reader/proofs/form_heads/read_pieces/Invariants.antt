@@ -1,5 +1,5 @@
 use Rattle.std.proofs.Common.{◌≡◌, drop, map}
-use Rattle.uefi_node_table.specs.Rows.{as_piece}
+use Rattle.uefi_device_nodes.specs.Rows.{as_piece}
 use Rattle.uefi_node_reader.specs.Notations.{pieces_in}
 use Rattle.uefi_node_reader.proofs.form_heads.read_pieces.Given as goal
 

@@ -1,9 +1,9 @@
 use Rattle.std.proofs.Common.{List, map, arith, subst, sym}
 use Rattle.std.proofs.lemmas.List.{length-map}
 use Rattle.std.specs.Prelude.{IsTrue}
-use Rattle.uefi_node_table.specs.Rows.{Form, as_form, have_one_kind}
-use Rattle.uefi_node_table.specs.Table.{forms}
-use Rattle.uefi_node_table.proofs.Groups.{one_kind}
+use Rattle.uefi_device_nodes.specs.Rows.{Form, as_form, have_one_kind}
+use Rattle.uefi_device_nodes.specs.Table.{forms}
+use Rattle.uefi_device_nodes.proofs.Groups.{one_kind}
 use Rattle.uefi_node_reader.specs.TableReading.{form_place}
 use Rattle.uefi_node_reader.proofs.Groups.{past_step, within_step}
 use Rattle.uefi_node_reader.proofs.form_places.form_place.Goals as goal

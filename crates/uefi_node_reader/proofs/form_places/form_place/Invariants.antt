@@ -1,5 +1,5 @@
 use Rattle.std.proofs.Common.{◌≡◌, ◌+◌, ◌-◌, ◌*◌, ◌≤◌}
-use Rattle.uefi_node_table.specs.Table.{forms, forms_from}
+use Rattle.uefi_device_nodes.specs.Table.{forms, forms_from}
 use Rattle.uefi_node_reader.specs.TableReading.{form_place}
 use Rattle.uefi_node_reader.proofs.form_places.form_place.Given as goal
 

@@ -1,5 +1,5 @@
 use Rattle.std.proofs.Common.{◌≡◌, ◌+◌, drop, map}
-use Rattle.uefi_node_table.specs.Rows.{as_form}
+use Rattle.uefi_device_nodes.specs.Rows.{as_form}
 use Rattle.uefi_node_reader.specs.TableReading.{form_place}
 use Rattle.uefi_node_reader.proofs.form_places.place_in.Given as goal
 

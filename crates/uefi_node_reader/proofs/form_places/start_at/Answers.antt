@@ -1,13 +1,13 @@
 use Rattle.std.proofs.Common.{◌≡◌, ℕ, zero, suc, ◌+◌, ◌-◌, ◌<◌, ◌≤◌, List, [], ◌∷◌, ◌++◌, get_or, length, map, refl, sym, ap, ◌∙◌, arith}
 use Rattle.std.specs.Prelude.{Some}
 use Rattle.std.proofs.lemmas.List.{length-map}
-use Rattle.uefi_node_table.specs.Rows.{Form, as_form}
-use Rattle.uefi_node_table.specs.Table.{forms, forms_from, group_forms}
-use Rattle.uefi_node_table.specs.declared.rows.RowOf.{RowOf}
-use Rattle.uefi_node_table.specs.declared.parts.Bytes.{Bytes as PackedBytes}
-use Rattle.uefi_node_table.specs.declared.parts.Pieces.{Pieces}
-use Rattle.uefi_node_table.specs.declared.parts.Text.{Text as PackedText}
-use Rattle.uefi_node_table.proofs.Groups.{next_group}
+use Rattle.uefi_device_nodes.specs.Rows.{Form, as_form}
+use Rattle.uefi_device_nodes.specs.Table.{forms, forms_from, group_forms}
+use Rattle.uefi_device_nodes.specs.declared.node_table.rows.RowOf.{RowOf}
+use Rattle.uefi_device_nodes.specs.declared.node_table.parts.Bytes.{Bytes as PackedBytes}
+use Rattle.uefi_device_nodes.specs.declared.node_table.parts.Pieces.{Pieces}
+use Rattle.uefi_device_nodes.specs.declared.node_table.parts.Text.{Text as PackedText}
+use Rattle.uefi_device_nodes.proofs.Groups.{next_group}
 use Rattle.uefi_node_reader.specs.NearNames.{start_at}
 use Rattle.uefi_node_reader.proofs.form_places.start_at.Goals as goal
 

@@ -1,5 +1,5 @@
 use Rattle.std.proofs.Common.{◌≡◌, ◌-◌}
-use Rattle.uefi_node_table.specs.Table.{forms, forms_from}
+use Rattle.uefi_device_nodes.specs.Table.{forms, forms_from}
 use Rattle.uefi_node_reader.specs.NearNames.{start_at}
 use Rattle.uefi_node_reader.proofs.form_places.start_at.Given as goal
 

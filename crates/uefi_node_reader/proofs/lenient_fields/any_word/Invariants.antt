@@ -1,5 +1,5 @@
 use Rattle.std.proofs.Common.{◌≡◌, drop, map}
-use Rattle.uefi_node_table.specs.Words.{as_word}
+use Rattle.uefi_device_nodes.specs.Words.{as_word}
 use Rattle.uefi_node_reader.specs.LenientFields.{any_word}
 use Rattle.uefi_node_reader.proofs.lenient_fields.any_word.Given as goal
 

@@ -1,6 +1,6 @@
 use Rattle.std.proofs.Common.{List, ℕ, ap, ◌∙◌}
 use Rattle.std.specs.Prelude.{Option}
-use Rattle.uefi_node_table.specs.Rows.{Form, as_form}
+use Rattle.uefi_device_nodes.specs.Rows.{Form, as_form}
 use Rattle.uefi_node_reader.specs.LenientCalls.{told_in}
 use Rattle.uefi_node_reader.specs.TableReading.{form_read}
 use Rattle.uefi_node_reader.proofs.ToldForms.{told_in-fitting}

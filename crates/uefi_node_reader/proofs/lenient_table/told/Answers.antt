@@ -1,6 +1,6 @@
 use Rattle.std.proofs.Common.{◌≡◌, true, false, cond, ◌&&◌, sym, ◌∙◌}
 use Rattle.std.specs.Prelude.{None, Some}
-use Rattle.uefi_node_table.specs.Rows.{Form, as_form}
+use Rattle.uefi_device_nodes.specs.Rows.{Form, as_form}
 use Rattle.uefi_device_nodes.specs.Nodes.{Node, node_with}
 use Rattle.uefi_node_reader.specs.CompleteTexts.{tells}
 use Rattle.uefi_node_reader.specs.ParsedNodeViews.{text_node_data, parsed_node}

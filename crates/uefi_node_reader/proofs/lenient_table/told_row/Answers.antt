@@ -1,7 +1,7 @@
 use Rattle.std.proofs.Common.{◌≡◌, ◌++◌, List, ℕ, ap, ◌∙◌, drop, length, take, arith}
 use Rattle.std.proofs.lemmas.Grind.{common_steps}
 use Rattle.std.proofs.lemmas.List.{take_at}
-use Rattle.uefi_node_table.specs.Rows.{Form, as_form}
+use Rattle.uefi_device_nodes.specs.Rows.{Form, as_form}
 use Rattle.uefi_node_reader.specs.LenientCalls.{told_in}
 use Rattle.uefi_node_reader.specs.Stops.{rest_end, stop_of}
 use Rattle.uefi_node_reader.specs.TableReading.{rest_read}

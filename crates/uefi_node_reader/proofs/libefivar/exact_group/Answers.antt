@@ -1,5 +1,5 @@
-use Rattle.uefi_node_table.specs.Rows.{as_form}
-use Rattle.uefi_node_table.proofs.Lists.{all_at}
+use Rattle.uefi_device_nodes.specs.Rows.{as_form}
+use Rattle.uefi_device_nodes.proofs.Lists.{all_at}
 use Rattle.uefi_node_reader.specs.TableReading.{is_filled, is_sound}
 use Rattle.uefi_node_reader.proofs.libefivar.exact_group.Goals as goal
 

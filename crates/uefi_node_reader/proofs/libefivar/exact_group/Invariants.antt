@@ -1,5 +1,5 @@
 use Rattle.std.proofs.Common.{◌≡◌, drop, map}
-use Rattle.uefi_node_table.specs.Rows.{as_form}
+use Rattle.uefi_device_nodes.specs.Rows.{as_form}
 use Rattle.uefi_node_reader.specs.Libefivar.{forms_exact}
 use Rattle.uefi_node_reader.proofs.libefivar.exact_group.Given as goal
 

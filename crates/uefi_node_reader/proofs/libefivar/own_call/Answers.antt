@@ -1,6 +1,6 @@
 use Rattle.std.proofs.Common.{ap, ◌∙◌, List, arith}
 use Rattle.std.specs.List.{list_all}
-use Rattle.uefi_node_table.specs.Rows.{Form}
+use Rattle.uefi_device_nodes.specs.Rows.{Form}
 use Rattle.uefi_node_reader.specs.TableReading.{is_filled, is_sound}
 use Rattle.uefi_node_reader.proofs.Groups.{group_filled, group_sound}
 use Rattle.uefi_node_reader.proofs.libefivar.own_call.Goals as goal

@@ -1,6 +1,6 @@
 use Rattle.std.proofs.Common.{◌≡◌, Bool, true, false, eqb, not, ◌&&◌, ◌||◌, List, ℕ, refl, sym, ap, ◌∙◌, arith}
 use Rattle.uefi_device_nodes.specs.Nodes.{Node}
-use Rattle.uefi_node_table.specs.Table.{has_form}
+use Rattle.uefi_device_nodes.specs.Table.{has_form}
 use Rattle.uefi_node_reader.specs.ParsedNodeViews.{parsed_node}
 use Rattle.uefi_node_reader.proofs.PlainNodes.{plain_shown}
 use Rattle.uefi_node_reader.proofs.plain_nodes.is_plain.Goals as goal

@@ -1,5 +1,5 @@
 use Rattle.std.proofs.Common.{◌∙◌, ◌≡◌, ◌+◌, drop, arith, rules, below_more}
-use Rattle.uefi_field_texts.proofs.Places.{first_place, no_place}
+use Rattle.uefi_device_nodes.proofs.Places.{first_place, no_place}
 use Rattle.uefi_node_reader.specs.ShortAddresses.{ends_address}
 use Rattle.uefi_node_reader.proofs.NextBytes.{byte_at}
 use Rattle.uefi_node_reader.proofs.short_addresses.address_len.Goals as goal

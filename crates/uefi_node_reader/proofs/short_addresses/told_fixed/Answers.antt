@@ -1,7 +1,7 @@
 use Rattle.std.proofs.Common.{◌≡◌, ℕ, Bool, true, false, cond, ◌&&◌, List, take, sym, ap, ◌∙◌}
 use Rattle.std.specs.Prelude.{Option, Some, None, option_and_then}
-use Rattle.uefi_node_table.specs.Rows.{Form, as_form, find_form}
-use Rattle.uefi_node_table.specs.Table.{forms}
+use Rattle.uefi_device_nodes.specs.Rows.{Form, as_form, find_form}
+use Rattle.uefi_device_nodes.specs.Table.{forms}
 use Rattle.uefi_device_nodes.specs.Nodes.{Node, node_with}
 use Rattle.uefi_node_reader.specs.CompleteTexts.{tells}
 use Rattle.uefi_node_reader.specs.ParsedNodeViews.{parsed_node}

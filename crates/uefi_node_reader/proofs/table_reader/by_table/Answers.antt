@@ -1,6 +1,6 @@
 use Rattle.std.proofs.Common.{◌∙◌}
 use Rattle.std.specs.Prelude.{None}
-use Rattle.uefi_node_table.specs.Table.{forms}
+use Rattle.uefi_device_nodes.specs.Table.{forms}
 use Rattle.uefi_node_reader.specs.ParsedNodeViews.{parsed_node}
 use Rattle.uefi_node_reader.proofs.LenientReads.{tried_exactly}
 use Rattle.uefi_node_reader.proofs.Literals.{read_ok}

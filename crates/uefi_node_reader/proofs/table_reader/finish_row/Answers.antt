@@ -2,7 +2,7 @@ use Rattle.std.proofs.Common.{◌≡◌, ℕ, List, length, take, drop, sym, ap,
 use Rattle.std.specs.Prelude.{Option, Some, option_and_then}
 use Rattle.std.specs.List.{list_all}
 use Rattle.std.proofs.lemmas.List.{length-take-le}
-use Rattle.uefi_node_table.specs.Rows.{Form, as_form, is_within}
+use Rattle.uefi_device_nodes.specs.Rows.{Form, as_form, is_within}
 use Rattle.uefi_node_reader.specs.TableReading.{followed, pieces_put}
 use Rattle.uefi_node_reader.specs.ParsedNodeViews.{text_node_data}
 use Rattle.uefi_node_reader.specs.WordReading.{after}

@@ -1,5 +1,5 @@
 use Rattle.std.proofs.Common.{List, ℕ, take, refl, ap, ◌∙◌}
-use Rattle.uefi_node_table.specs.Rows.{as_form}
+use Rattle.uefi_device_nodes.specs.Rows.{as_form}
 use Rattle.uefi_node_reader.specs.TableReading.{are_within, put_all}
 use Rattle.uefi_node_reader.proofs.FixedParts.{also_within, fixed_is, when_within}
 use Rattle.uefi_node_reader.proofs.table_reader.fixed_part.Goals as goal

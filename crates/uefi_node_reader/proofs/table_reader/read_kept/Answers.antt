@@ -1,8 +1,8 @@
 use Rattle.std.proofs.Common.{◌≡◌, true, false, eqb, leb, ◌&&◌, List, ℕ, length, sym, ap, ◌∙◌, arith}
 use Rattle.std.specs.Prelude.{Option, Some}
 use Rattle.std.proofs.lemmas.Bool.Decides.{nat_tests}
-use Rattle.uefi_node_table.specs.Rows.{Form, as_form}
-use Rattle.uefi_node_table.specs.Table.{forms}
+use Rattle.uefi_device_nodes.specs.Rows.{Form, as_form}
+use Rattle.uefi_device_nodes.specs.Table.{forms}
 use Rattle.uefi_device_nodes.specs.Nodes.{Node, node_with}
 use Rattle.uefi_node_reader.specs.FieldReading.{read_if}
 use Rattle.uefi_node_reader.specs.TableReading.{form_place, form_read, kept, prints}

@@ -4,7 +4,7 @@ use Rattle.std.specs.Option.{option_map}
 use Rattle.std.specs.Result.{result_ok}
 use Rattle.std.proofs.lemmas.Grind.{common_steps}
 use Rattle.std.proofs.lemmas.List.{take_at}
-use Rattle.uefi_node_table.specs.Rows.{Form, as_form}
+use Rattle.uefi_device_nodes.specs.Rows.{Form, as_form}
 use Rattle.uefi_node_reader.specs.ParsedNodes.{fitting}
 use Rattle.uefi_node_reader.specs.Notations.{exact, head_in}
 use Rattle.uefi_node_reader.specs.TableReading.{rest_read}

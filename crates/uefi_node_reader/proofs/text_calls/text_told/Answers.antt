@@ -5,7 +5,7 @@ use Rattle.std.specs.Prelude.{Some, Ok}
 use Rattle.std.proofs.lemmas.Grind.{common_steps}
 use Rattle.std.proofs.lemmas.List.{take_at}
 use Rattle.std.proofs.lemmas.Result.{err_from_is_err_and}
-use Rattle.uefi_node_table.specs.Rows.{Form, as_form, as_piece, is_within}
+use Rattle.uefi_device_nodes.specs.Rows.{Form, as_form, as_piece, is_within}
 use Rattle.uefi_node_reader.specs.LenientFields.{after_ending}
 use Rattle.uefi_node_reader.specs.LenientCalls.{tidied_rest, told_in}
 use Rattle.uefi_node_reader.specs.Stops.{past, stop_at}

@@ -2,7 +2,7 @@ use Rattle.std.proofs.Common.{◌++◌, ℕ, List, ap, ◌∙◌, take}
 use Rattle.std.specs.Option.{ok_or, option_map}
 use Rattle.std.specs.Prelude.{Option, Err, option_and_then}
 use Rattle.uefi_device_nodes.specs.Nodes.{Node}
-use Rattle.uefi_node_table.specs.Rows.{Form, as_form}
+use Rattle.uefi_device_nodes.specs.Rows.{Form, as_form}
 use Rattle.uefi_node_reader.specs.LenientCalls.{tidied_rest}
 use Rattle.uefi_node_reader.specs.ParsedNodes.{fitting}
 use Rattle.uefi_node_reader.specs.Stops.{stop_at}

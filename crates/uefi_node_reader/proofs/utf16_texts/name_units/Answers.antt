@@ -1,5 +1,5 @@
 use Rattle.std.proofs.Common.{arith}
-use Rattle.uefi_field_texts.proofs.Places.{first_place, no_place}
+use Rattle.uefi_device_nodes.proofs.Places.{first_place, no_place}
 use Rattle.uefi_node_reader.specs.NamedFiles.{ends_name}
 use Rattle.uefi_node_reader.proofs.utf16_texts.name_units.Goals as goal
 

@@ -5,7 +5,7 @@ use Rattle.uefi_node_reader.specs.FieldReading.{clear_run}
 use Rattle.uefi_node_reader.specs.TableReading.{as_ids, tail_read}
 use Rattle.uefi_node_reader.specs.ParsedNodes.{read_data, decoded, is_coded}
 use Rattle.uefi_node_reader.specs.ParsedNodeViews.{TextNode, parsed_node}
-use Rattle.uefi_node_table.specs.declared.rows.Tail.{Tail}
+use Rattle.uefi_device_nodes.specs.declared.node_table.rows.Tail.{Tail}
 use Rattle.uefi_node_reader.proofs.CountedBytes.{whole_written}
 use Rattle.uefi_node_reader.proofs.ParsedNodes.{tail_written}
 use Rattle.uefi_node_reader.proofs.parsed_node.ParsedNode.write_data.Goals as goal

@@ -2,8 +2,8 @@
 use Rattle.std.proofs.Common.{map, false, ◌∙◌, sym}
 use Rattle.std.proofs.lemmas.Bool.{not-true}
 use Rattle.std.proofs.lemmas.List.{length-map}
-use Rattle.uefi_node_table.specs.Rows.{as_form, matches}
-use Rattle.uefi_node_table.proofs.Groups.{other_kind}
+use Rattle.uefi_device_nodes.specs.Rows.{as_form, matches}
+use Rattle.uefi_device_nodes.proofs.Groups.{other_kind}
 use Rattle.uefi_node_reader.proofs.Groups.{no_place}
 use Rattle.uefi_node_reader.proofs.table_reader.PrintedNodeFormTest.passes_over.Goals as goal
 

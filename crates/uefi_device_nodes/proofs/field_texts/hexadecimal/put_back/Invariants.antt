@@ -1,0 +1,12 @@
+use Rattle.std.proofs.Common.{◌≡◌, List, ℕ, ◌++◌, length}
+use Rattle.std.specs.Fmt.{WritesInCalls}
+use Rattle.uefi_device_nodes.specs.FieldTexts.{hex_back}
+use Rattle.uefi_device_nodes.proofs.field_texts.hexadecimal.put_back.Given as goal
+
+-- the bytes after the rest were put
+abbrev pub invariant-loop-rest : goal.invariant-loop-rest
+invariant-loop-rest g l = (after : List ℕ) × (l.rest ++ after ≡ l.bytes)
+    × WritesInCalls g.S.TextSink.puts l.fn.sink (l.text ++ hex_back after) l.sink
+
+abbrev pub decreases-loop-rest : goal.decreases-loop-rest
+decreases-loop-rest g l = length l.rest

@@ -1,7 +1,0 @@
-use Rattle.std.proofs.Common.{arith}
-use Rattle.std.proofs.lemmas.List.Elements.{All-from_get_or}
-use Rattle.uefi_text.specs.Packed.{IsByte}
-use Rattle.uefi_field_texts.proofs.guid.are_bytes.Goals as goal
-
-pub returns : goal.returns
-returns c = All-from_get_or IsByte c.args.bytes.now 0 (λ k within. omega (arith, c.type_inv.bytes k))

@@ -1,3 +1,0 @@
-pub mod FieldTexts
-pub mod ShownTexts
-pub mod Guids

@@ -1,5 +1,0 @@
-use Rattle.uefi_node_reader.proofs.NodeLaws.{text_once}
-use Rattle.uefi_node_reader.proofs.nodes.node_text_once.Goals as goal
-
-pub returns : goal.returns
-returns c = text_once

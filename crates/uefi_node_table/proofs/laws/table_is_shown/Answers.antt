@@ -1,7 +1,0 @@
-use Rattle.uefi_node_table.proofs.ShownTexts.{table_shown}
-use Rattle.uefi_node_table.proofs.laws.table_is_shown.Goals as goal
-
-pub returns : goal.returns
-returns c =
-    let law = c.fields_are_shown.ensures in
-    table_shown law.joined law.ascii law.numbers law.bytes law.names law.units

@@ -1,6 +1,0 @@
-pub mod Fields
-pub mod Parts
-pub mod Rows
-pub mod Table
-pub mod Words
-pub mod ShownTexts

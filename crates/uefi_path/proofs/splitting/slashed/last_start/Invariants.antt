@@ -1,0 +1,9 @@
+use Rattle.std.proofs.Common.{◌≤◌, drop, length}
+use Rattle.uefi_path.proofs.Slashes.{Inside}
+use Rattle.uefi_path.proofs.splitting.slashed.last_start.Given as goal
+
+abbrev pub invariant-loop-start : goal.invariant-loop-start
+invariant-loop-start l = (l.start ≤ length l.units) × Inside (drop l.start l.units)
+
+abbrev pub decreases-loop-start : goal.decreases-loop-start
+decreases-loop-start l = l.start

@@ -1,7 +1,0 @@
-use Rattle.std.proofs.lemmas.Grind.{common_steps}
-use Rattle.std.proofs.Common.{arith}
-use Rattle.uefi_path.proofs.Drafts.{part_tail}
-use Rattle.uefi_path.proofs.written.sink_part.Goals as goal
-
-pub returns : goal.returns
-returns c = grind (arith, common_steps, part_tail)

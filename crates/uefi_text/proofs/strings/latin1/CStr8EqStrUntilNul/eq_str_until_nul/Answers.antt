@@ -1,0 +1,35 @@
+-- Where the next byte is not the next character, or one is missing, that decides.
+use Rattle.std.proofs.Common.{arith, length-drop, sym, ◌∙◌}
+use Rattle.std.proofs.lemmas.List.{drop_more, nil_from_length}
+use Rattle.std.proofs.lemmas.Str.{IsUtf8-past_char}
+use Rattle.uefi_text.proofs.Prefixes.{no_character_left, no_unit_left, nul_is_next, they_are_same, they_differ}
+use Rattle.uefi_text.proofs.strings.latin1.CStr8EqStrUntilNul.eq_str_until_nul.Goals as goal
+
+pub returns-in_default : goal.returns-in_default
+returns-in_default c = no_character_left _ _ c.loop-byte.invariant.same c.in_default.ensures.steps.0.0
+
+pub returns-then-character-eq0 : goal.returns-then-character-eq0
+returns-then-character-eq0 c =
+    let so_far = c.loop-byte.invariant in
+    nul_is_next _ _ so_far.same c.in-Some.character _ so_far.utf8 c.in-Some.ensures.steps.0 c.if-character-eq0.true
+
+pub returns-then-from-character : goal.returns-then-from-character
+returns-then-from-character c =
+    let so_far = c.loop-byte.invariant in
+    let some = drop_more c.text-byte-items.result.now c.loop-byte.byte-index 0 c.loop-byte-test.true in
+    they_differ _ _ so_far.same c.in-Some.character _ so_far.utf8 c.in-Some.ensures.steps.0 _ _ some c.if-character-eq0.false
+    (λ is. c.if-from-character.true (c.from.ensures ∙ is))
+
+pub loop-byte-preserved : goal.loop-byte-preserved
+loop-byte-preserved c =
+    let so_far = c.loop-byte.invariant in
+    let some = drop_more c.text-byte-items.result.now c.loop-byte.byte-index 0 c.loop-byte-test.true in
+    record {
+      utf8 = IsUtf8-past_char _ _ _ so_far.utf8 c.in-Some.ensures.steps.0;
+      same = they_are_same _ _ so_far.same c.in-Some.character _ so_far.utf8 c.in-Some.ensures.steps.0 _ _ some c.if-character-eq0.false
+          (sym c.from.ensures ∙ c.if-from-character.false);
+    }
+
+pub returns : goal.returns
+returns c = no_unit_left _ _ c.loop-byte.invariant.same
+    (nil_from_length _ (omega (arith, length-drop c.loop-byte.byte-index c.text-byte-items.result.now, c.loop-byte-test.false)))
