@@ -28,10 +28,7 @@ fn attributes_of(bytes: &[u8]) -> Result<u32, LoadOptionError>
     ensures accepted { IfOk result (λ _.
         (option : Entry) × IsEntry option × (bytes.now ≡ entry_bytes option)) }
 {
-    match LoadOption::from_bytes(bytes) {
-        Ok(option) => Ok(option.attributes()),
-        Err(error) => Err(error),
-    }
+    Ok(LoadOption::from_bytes(bytes)?.attributes())
 }
 
 /// Returns the bytes of an entry, made active or inactive.

@@ -277,10 +277,8 @@ impl<'a> DevicePath<'a> {
         ensures refusal { IfErr result (λ error.
             WriteRefusedFor (nodes_of self.now) (length buf.old) error) }
     {
-        match self.write_file_path(buf) {
-            Ok(len) => Ok(CStr16::from_string(&buf[..len + 1])),
-            Err(error) => Err(error),
-        }
+        let len = self.write_file_path(buf)?;
+        Ok(CStr16::from_string(&buf[..len + 1]))
     }
 
     /// Returns a value that prints the path, for a `{}` of a format (UEFI Specification 2.10,

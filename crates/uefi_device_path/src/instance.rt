@@ -150,10 +150,8 @@ impl<'a> DevicePathInstance<'a> {
         ensures refusal { IfErr result (λ error.
             WriteRefusedFor (instance_nodes self.now) (length buf.old) error) }
     {
-        match self.write_file_path(buf) {
-            Ok(len) => Ok(CStr16::from_string(&buf[..len + 1])),
-            Err(error) => Err(error),
-        }
+        let len = self.write_file_path(buf)?;
+        Ok(CStr16::from_string(&buf[..len + 1]))
     }
 }
 

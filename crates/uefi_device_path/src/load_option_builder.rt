@@ -190,10 +190,7 @@ impl<'a> LoadOptionBuilder<'a> {
         ensures refusal { result_err result ≡ write_fault (option_entry self.now) (length buffer.old) }
         ensures buffer { buffer.new ≡ option_over (option_entry self.now) buffer.old }
     {
-        let lengths = match self.lengths() {
-            Ok(lengths) => lengths,
-            Err(error) => return Err(error),
-        };
+        let lengths = self.lengths()?;
         if buffer.len() < lengths.whole {
             return Err(OptionBuildError::BufferTooSmall(lengths.whole));
         }
@@ -219,10 +216,7 @@ impl<'a> LoadOptionBuilder<'a> {
         ensures refusal { IfErr result (λ error. error
             ≡ unwrap_or (fields_fault (option_entry self.now)) OptionBuildError.OutOfMemory) }
     {
-        let lengths = match self.lengths() {
-            Ok(lengths) => lengths,
-            Err(error) => return Err(error),
-        };
+        let lengths = self.lengths()?;
         let Ok(mut bytes) = Vec::from_elem(alloc, 0u8, lengths.whole) else {
             return Err(OptionBuildError::OutOfMemory);
         };

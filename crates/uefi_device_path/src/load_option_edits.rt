@@ -27,10 +27,8 @@ fn check_option(bytes: &[u8]) -> Result<(), LoadOptionError>
     ensures only_refusal { IfErr result (λ error. (other : LoadOptionError) →
         EntryRefusedFor bytes.now other → other ≡ error) }
 {
-    match LoadOption::from_bytes(bytes) {
-        Ok(_) => Ok(()),
-        Err(error) => Err(error),
-    }
+    LoadOption::from_bytes(bytes)?;
+    Ok(())
 }
 
 /// Writes attributes over the attributes at the start of bytes.

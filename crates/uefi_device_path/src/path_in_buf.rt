@@ -97,10 +97,8 @@ pub(crate) fn push_at<N: BuildNode>(
     ensures refusal { result_err result
         ≡ push_refusal (nodes_up_to len buffer.old) (N.node node.now) (length buffer.old) }
 {
-    match grown_len(buffer, len, node) {
-        Ok(_) => Ok(put_at(buffer, len, node)),
-        Err(error) => Err(error),
-    }
+    grown_len(buffer, len, node)?;
+    Ok(put_at(buffer, len, node))
 }
 
 /// Adds the nodes of another path, for which there is room, before the end of the path in the first `len`

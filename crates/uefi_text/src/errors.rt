@@ -1,6 +1,6 @@
-//! The reasons why bytes, code units and texts are refused as a string. The modules
-//! [`strs`](crate::strings::strs) and [`owned_strs`](crate::strings::owned_strs) re-export these types, and callers
-//! know them under those names.
+//! The errors of bytes, code units and texts that are no string. The modules
+//! [`strs`](crate::strings::strs) and [`owned_strs`](crate::strings::owned_strs) re-export these
+//! types, and callers know them under those names.
 ghost use Rattle.uefi_text.specs.ErrorTexts.{from_slice_until_nul_error_text, from_slice_with_nul_error_text, unaligned_cstr16_error_text, from_str_with_buf_error_text, from_str_error_text};
 ghost use Rattle.std.specs.Prelude.{Some};
 

@@ -3,8 +3,8 @@
 ghost use Rattle.uefi_device_nodes.specs.Guids.{GuidsOnce, GuidsRead, GuidsShown};
 ghost use Rattle.uefi_device_nodes.specs.ShownFields.{AsciiShown, BytesShown, JoinedShown, NamesShown, NumbersShown, UnitsShown};
 
-/// No text of a field contains a character for which [`is_escaped`](crate::field_texts::shown_texts::is_escaped)
-/// holds.
+/// No text of a field contains a character for which
+/// [`is_escaped`](crate::field_texts::shown_texts::is_escaped) holds.
 pub fn fields_are_shown()
     ensures joined { JoinedShown }
     ensures ascii { AsciiShown }
