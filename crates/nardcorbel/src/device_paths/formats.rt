@@ -24,11 +24,11 @@ use uefi_text::write_units;
 ///
 /// `style` is one of [`text_styles`](crate::device_paths::text_styles): that of the specification,
 /// alone or with `DISPLAY_ONLY` and `ALLOW_SHORTCUTS`, or that of libefivar. Any other is rejected as
-/// `UNKNOWN_STYLE`. Then bytes that do not begin with a device path are rejected as by `nard_device_path_check`.
-/// Otherwise `len` becomes the number of bytes of the text, without its NUL, at most `usize::MAX - 1`,
-/// and exactly a buffer with at most that many places is rejected as `BUFFER_TOO_SMALL`. If the call
-/// fails, the buffer is unchanged. Bytes after the NUL are never changed. Does not allocate (UEFI
-/// Specification 2.10, section 10.6.1).
+/// `UNKNOWN_STYLE`. Then bytes that do not begin with a device path are rejected as by
+/// `nard_device_path_check`. Otherwise `len` becomes the number of bytes of the text, without its NUL,
+/// at most `usize::MAX - 1`, and exactly a buffer with at most that many places is rejected as
+/// `BUFFER_TOO_SMALL`. If the call fails, the buffer is unchanged. Bytes after the NUL are never
+/// changed. Does not allocate (UEFI Specification 2.10, section 10.6.1).
 #[unsafe(no_mangle)]
 pub extern "C" fn nard_device_path_format(
     bytes: &[u8],

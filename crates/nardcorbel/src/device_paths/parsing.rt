@@ -59,8 +59,8 @@ fn error_in_units(units: &[u16], error: PushTextError) -> PushTextError
 
 /// Writes the device path of a text in UTF-8 to the start of a buffer.
 ///
-/// `style` is one of [`text_styles`](crate::device_paths::text_styles): that of the specification,
-/// of people or of libefivar. The call fails for the first of these reasons:
+/// `style` is one of [`text_styles`](crate::device_paths::text_styles): that of the specification, of
+/// people or of libefivar. The call fails for the first of these reasons:
 ///
 /// | error | fault | `fault` |
 /// |---|---|---|
@@ -193,9 +193,9 @@ pub extern "C" fn nard_device_path_push_text_utf16(
 /// [`lenient_text_extent`](uefi_device_path) does: programs print other data directly after a path.
 ///
 /// A style that is no number of [`text_styles`](crate::device_paths::text_styles) is rejected as
-/// `UNKNOWN_STYLE`. A text that does not begin with a path is rejected as `NO_NODE`, and `fault` becomes
-/// the byte of it that is wrong, or its length. Otherwise `len` becomes the number of bytes of the path. The bytes after it need
-/// not be UTF-8. Does not allocate.
+/// `UNKNOWN_STYLE`. A text that does not begin with a path is rejected as `NO_NODE`, and `fault`
+/// becomes the byte of it that is wrong, or its length. Otherwise `len` becomes the number of bytes of
+/// the path. The bytes after it need not be UTF-8. Does not allocate.
 #[unsafe(no_mangle)]
 pub extern "C" fn nard_device_path_text_extent(
     text: &[u8],
