@@ -11,8 +11,8 @@ ghost use Rattle.uefi_text.specs.UnitBytes.{unit_bytes, units_of_bytes};
 
 use crate::field_texts::field_laws::fields_are_shown;
 use crate::fields::Fields;
-use crate::node_table::table_laws::table_is_shown;
 use crate::node_table::layouts::{FILE_PATH, MEDIA_TYPE};
+use crate::node_table::table_laws::table_is_shown;
 use crate::typed_node::Kind;
 
 /// No text of a node contains a character for which

@@ -13,7 +13,6 @@ pub mod acpi;
 pub mod bios_boot_spec;
 pub mod build_node;
 pub mod errors;
-#[doc(hidden)]
 pub mod field_texts;
 pub mod fields;
 pub mod hardware;

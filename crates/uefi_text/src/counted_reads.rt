@@ -42,7 +42,7 @@ impl ReadCount {
 ///
 /// ```rust
 /// let name = CStr16::from_u16_with_nul(&[0x48, 0x69, 0])?.as_slice();
-/// let mut reader = counted::CountedReader::new(name);
+/// let mut reader = counted_reads::CountedReader::new(name);
 /// assert_eq!(rt; reader.len(), 2);
 /// assert_eq!(rt; reader.get(1), 0x69);
 /// ```
@@ -66,7 +66,7 @@ impl<'a> CountedReader<'a> {
     /// Returns a reader of units that has not read any unit yet.
     ///
     /// ```rust
-    /// let mut reader = counted::CountedReader::of_units(&[0xd800, 0x69]);
+    /// let mut reader = counted_reads::CountedReader::of_units(&[0xd800, 0x69]);
     /// assert_eq!(rt; (reader.len(), reader.get(0)), (2, 0xd800));
     /// ```
     pub fn of_units(units: &'a [u16]) -> CountedReader<'a>

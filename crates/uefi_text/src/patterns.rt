@@ -169,7 +169,7 @@ impl<'a> CountedReader<'a> {
     /// more: a match that begins later in the text after an earlier `*` also reaches the last `*`.
     ///
     /// ```rust
-    /// use counted::CountedReader;
+    /// use counted_reads::CountedReader;
     ///
     /// let name = CStr16::from_u16_with_nul(&[0x48, 0x69, 0])?.as_slice();
     /// assert!(rt; CountedReader::new(name).matches(&mut CountedReader::new(name)));
