@@ -63,6 +63,7 @@ pub use strings::strs::{
     FromStrWithBufError, UnalignedCStr16Error, has_no_nul, is_latin1, str_num_latin1_chars,
     str_to_latin1,
 };
+pub use strings::{eq_str_until_nul, owned_strs, strs};
 pub use text_sink::{Printed, TextSink};
 pub use unaligned_slice::{Packed, UnalignedSlice, UnalignedSliceIntoIter, UnalignedSliceIter};
 pub use unit_sink::{BufferTooSmall, write_units};
