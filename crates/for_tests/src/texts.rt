@@ -5,7 +5,10 @@ use std::alloc::{Allocator, Global};
 use std::cmp::Ordering;
 use std::fmt::{Debug, Display};
 use std::test::Fail;
-use uefi_text::{CStr16, CString16, Printed, write_units};
+use uefi_text::{CStr16, CString16, Char16, Printed, write_units};
+
+/// The device path with no node but its end.
+pub const END: &[u8] = &[0x7f, 0xff, 4, 0];
 
 /// Creates a string from a Rust text.
 pub fn string<A: Allocator>(alloc: A, text: &str) -> Result<CString16<A>, Fail> {
@@ -109,4 +112,16 @@ pub fn writes_whole<T: Copy + PartialEq, C: BufferCall<T>>(
         }
     }
     Ok(true)
+}
+
+/// Returns the units before the first surrogate as characters.
+pub fn characters(alloc: Global, units: &[u16]) -> Result<Vec<Char16>, Fail> {
+    let mut characters = Vec::new(alloc);
+    for unit in units {
+        match Char16::try_from(*unit) {
+            Ok(character) => characters.push(character)?,
+            Err(_) => break,
+        }
+    }
+    Ok(characters)
 }

@@ -1,8 +1,9 @@
 //! Calls whose memory requests are refused in turn until a run makes all of them, and how many each call
 //! makes. Each call checks its input before it requests memory.
 
-use crate::strs::characters;
-use for_tests::{MemoryCall, Refusing, is_answered, out_of_memory, repeated, requests, string};
+use for_tests::{
+    MemoryCall, Refusing, characters, is_answered, out_of_memory, repeated, requests, string,
+};
 use std::alloc::{AllocError, Global};
 use std::fmt::Write;
 use std::iter;
@@ -261,7 +262,7 @@ fn is_counted(rt: &HostRuntime, rust: &str) -> Result<bool, Fail> {
     let owned = string(rt.alloc(), rust)?;
     let part = owned.as_cstr16();
     let bytes = part.as_bytes(rt.alloc())?;
-    let list = characters(rt, part.to_u16_slice_with_nul())?;
+    let list = characters(rt.alloc(), part.to_u16_slice_with_nul())?;
     let text = Text {
         rust,
         part,
@@ -465,7 +466,7 @@ impl MemoryCall for RefusedCharacters<'_> {
 fn refused_without_a_request(rt: HostRuntime) -> Result<(), Fail> {
     let bytes = &[0, 0xd8, 0, 0];
     let items = UnalignedSlice::from_unit_bytes(bytes).ok_or("units")?;
-    let open = characters(&rt, &[97])?;
+    let open = characters(rt.alloc(), &[97])?;
     let string = CStr16::from_u16_with_nul(&[97, 0])?;
     let counts = [
         requests(rt.alloc(), 0, &Refused(items, bytes))?,

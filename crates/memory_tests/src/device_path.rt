@@ -1,9 +1,9 @@
 //! Paths that are built and read, file paths, descriptions and load options, with each memory request refused
 //! in turn; and long ones, with ample memory.
 
-use crate::option_builder::END;
 use for_tests::{
-    MemoryCall, Refusals, Refusing, is_answered, out_of_memory, refused_in_turn, repeated, requests,
+    END, MemoryCall, Refusals, Refusing, is_answered, out_of_memory, refused_in_turn, repeated,
+    requests,
 };
 use std::alloc::{AllocError, Global};
 use std::test::Fail;

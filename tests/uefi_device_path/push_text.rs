@@ -2,9 +2,8 @@
 //! write them: what the buffer contains afterwards, for each size of the buffer.
 
 use crate::node_text::REGULAR;
-use crate::option_builder::END;
 use crate::{lenient_reader, path_reader};
-use for_tests::{bytes, holds, repeated, split_row};
+use for_tests::{END, bytes, holds, repeated, split_row};
 use std::alloc::Global;
 use std::fmt::Display;
 use std::test::Fail;

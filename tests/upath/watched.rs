@@ -2,7 +2,8 @@
 //! inner one by the trait's method. The tests check the result, both marks, and how often the stream was
 //! called.
 
-use crate::streams::{FailingReader, FailingWriter, KINDS};
+use crate::streams::{FailingWriter, KINDS};
+use for_tests::FailingReader;
 use std::io::{self, ErrorKind, Read, Write};
 use std::test::Fail;
 use upath::Watched;

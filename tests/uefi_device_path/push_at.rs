@@ -1,8 +1,7 @@
 //! Nodes that are appended to a path of known size. With each amount of room, the path is the same as that of
 //! `push_in_buf`, and an error leaves the buffer unchanged.
 
-use crate::option_builder::END;
-use for_tests::holds;
+use for_tests::{END, holds};
 use std::test::Fail;
 use uefi_device_path::build::RawNode;
 use uefi_device_path::{

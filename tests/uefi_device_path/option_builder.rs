@@ -1,7 +1,7 @@
 //! Writing load options: the sample entries again, and each refused field.
 
 use crate::hostile_entries::ROWS;
-use for_tests::{BufferCall, bytes, writes_whole};
+use for_tests::{BufferCall, END, bytes, writes_whole};
 use std::test::Fail;
 use uefi_device_path::OptionBuildError::{EmptyList, ListTooLong, NulInDescription};
 use uefi_device_path::{DevicePath, LoadOption, LoadOptionBuilder, OptionBuildError};
@@ -49,9 +49,6 @@ fn written_again(rt: HostRuntime) -> Result<(), Fail> {
     }
     Ok(())
 }
-
-/// The path with no node but its end.
-pub(crate) const END: &[u8] = &[0x7f, 0xff, 4, 0];
 
 /// Returns whether a description and `count` empty paths are refused with this error, in memory and in an
 /// empty buffer. If nothing else is wrong, only the empty buffer is refused.

@@ -1,7 +1,6 @@
 //! Building paths, in memory and in buffers: their bytes, and refused nodes.
 
-use crate::option_builder::END;
-use for_tests::holds;
+use for_tests::{END, holds};
 use std::test::Fail;
 use uefi_device_path::{BuildError, DevicePathBuf, DevicePathBuilder, DeviceSubType, DeviceType};
 

@@ -1,7 +1,7 @@
 //! Borrowed strings: which code units, characters, bytes and Rust texts become strings, why others are
 //! refused, and what strings convert to.
 
-use for_tests::{prints, string};
+use for_tests::{characters, prints, string};
 use std::test::Fail;
 use uefi_text::FromSliceUntilNulError::InvalidChar as FrontChar;
 use uefi_text::FromSliceWithNulError::{InteriorNul, InvalidChar, NotNulTerminated};
@@ -53,18 +53,6 @@ fn is_front(
     }
 }
 
-/// Returns the units before the first surrogate as characters.
-pub(crate) fn characters(rt: &HostRuntime, units: &[u16]) -> Result<Vec<Char16>, Fail> {
-    let mut characters = Vec::new(rt.alloc());
-    for unit in units {
-        match Char16::try_from(*unit) {
-            Ok(character) => characters.push(character)?,
-            Err(_) => break,
-        }
-    }
-    Ok(characters)
-}
-
 /// Returns whether the constructors from characters answer like those from units.
 fn are_read(
     rt: &HostRuntime,
@@ -91,7 +79,7 @@ pub(crate) fn are_strings(
     whole: Result<usize, WithNul>,
     front: Result<usize, UntilNul>,
 ) -> Result<bool, Fail> {
-    let list = characters(rt, units)?;
+    let list = characters(rt.alloc(), units)?;
     Ok(
         is_whole(units, CStr16::from_u16_with_nul(units), whole)
             && is_front(units, CStr16::from_u16_until_nul(units), front)

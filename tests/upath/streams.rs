@@ -2,8 +2,8 @@
 //! of one byte, a few or all, for short and long inputs. They count their calls to show any further call. An
 //! interrupted call counts as a failure.
 
-use for_tests::repeated;
-use std::io::{self, ErrorKind, Read, Write};
+use for_tests::{FailingReader, repeated};
+use std::io::{self, ErrorKind, Write};
 use std::test::Fail;
 use upath::{StreamFault, Watched, run_streams};
 
@@ -28,31 +28,6 @@ struct Run<'a> {
     input: &'a [u8],
     output: &'a [u8],
     step: usize,
-}
-
-/// A reader that returns at most `step` bytes a call. Its call number `failing`, counted from 1, fails; no
-/// call fails if the number is 0.
-#[derive(Drop)]
-pub(crate) struct FailingReader<'a> {
-    pub(crate) rest: &'a [u8],
-    pub(crate) step: usize,
-    pub(crate) failing: usize,
-    pub(crate) kind: ErrorKind,
-    pub(crate) calls: usize,
-}
-
-impl Read for FailingReader<'_> {
-    fn read(&mut self, buf: &mut [u8]) -> io::Result<usize> {
-        self.calls = self.calls.saturating_add(1);
-        if self.calls == self.failing {
-            return Err(io::Error::from(self.kind));
-        }
-        let len = self.step.min(buf.len()).min(self.rest.len());
-        let (given, others) = self.rest.split_at(len);
-        buf[..len].copy_from_slice(given);
-        self.rest = others;
-        Ok(len)
-    }
 }
 
 /// A writer that accepts at most `step` bytes a call. Its write number `failing`, counted from 1, fails with
