@@ -20,7 +20,7 @@ use Rattle.uefi_device_path.proofs.AroundNodes.{past_slash-within}
 use Rattle.uefi_device_path.proofs.StyledReading.{Nodes, failing}
 use Rattle.uefi_node_reader.specs.NamedFiles.{before_spaces, is_after_node, past_spaces}
 use Rattle.uefi_node_reader.specs.Styles.{StyledEnds, styled_read}
-use Rattle.uefi_node_reader.specs.declared.faults.NodeFault.{NodeFault}
+use Rattle.uefi_node_reader.specs.declared.errors.faults.NodeFault.{NodeFault}
 use Rattle.uefi_node_reader.specs.declared.styles.TextStyle.{TextStyle}
 use Rattle.uefi_node_reader.specs.TableReading.{first_of, is_empty}
 use Rattle.uefi_node_reader.specs.declared.styles.TextStyle.TheVariants.{Lenient}

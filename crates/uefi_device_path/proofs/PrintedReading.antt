@@ -13,7 +13,7 @@ use Rattle.uefi_device_path.proofs.StyledReading.{all_taken, err_same, ok_same, 
 use Rattle.uefi_node_reader.specs.Laws.{NodeAgain, NodeFits, NodeTakes}
 use Rattle.uefi_node_reader.specs.NamedFiles.{node_read}
 use Rattle.uefi_node_reader.specs.Styles.{PrintedExactly, StyledAgain, StyledEnds, StyledStarts, StyledTakes}
-use Rattle.uefi_node_reader.specs.declared.faults.NodeFault.{NodeFault}
+use Rattle.uefi_node_reader.specs.declared.errors.faults.NodeFault.{NodeFault}
 use Rattle.uefi_node_reader.specs.declared.styles.TextStyle.TheVariants.{Printed}
 
 module _ (styled_starts : StyledStarts) (exactly : PrintedExactly) (ends : StyledEnds) (takes : NodeTakes) (fits : NodeFits)

@@ -22,11 +22,11 @@ use Rattle.uefi_node_reader.specs.FieldReading.{read_if}
 use Rattle.uefi_node_reader.specs.LenientNodes.{ended, fault_at_byte}
 use Rattle.uefi_node_reader.proofs.StyledLaws.{takes_more}
 use Rattle.uefi_node_reader.specs.Styles.{StyledAgain, styled_read, takes_printed, StyledEnds, StyledFaultWithin, StyledStarts, StyledTakes}
-use Rattle.uefi_node_reader.specs.declared.faults.NodeFault.{NodeFault}
+use Rattle.uefi_node_reader.specs.declared.errors.faults.NodeFault.{NodeFault}
 use Rattle.uefi_node_reader.specs.declared.styles.TextStyle.{TextStyle}
 use Rattle.uefi_node_reader.specs.declared.styles.TextStyle.TheVariants.{Printed}
 use Rattle.uefi_node_reader.specs.NamedFiles.{is_after_node, node_read}
-use Rattle.uefi_node_reader.specs.declared.faults.Expected.TheVariants.{AsPrinted}
+use Rattle.uefi_node_reader.specs.declared.errors.faults.Expected.TheVariants.{AsPrinted}
 
 -- what is read of a text, or of what is left of it
 abbrev pub Nodes : Type 0

@@ -28,7 +28,7 @@ use Rattle.uefi_device_path.specs.LoadOptions.{Entry, EntryRefusedFor, IsEntry, 
 use Rattle.uefi_device_path.specs.declared.errors.DevicePathError.{DevicePathError}
 use Rattle.uefi_device_path.specs.declared.errors.LoadOptionError.{LoadOptionError}
 use Rattle.uefi_device_path.specs.declared.text.text_errors.TextFault.{TextFault}
-use Rattle.uefi_node_reader.specs.declared.faults.Expected.TheVariants.{AsPrinted}
+use Rattle.uefi_node_reader.specs.declared.errors.faults.Expected.TheVariants.{AsPrinted}
 use Rattle.uefi_node_reader.specs.declared.styles.TextStyle.{TextStyle}
 use Rattle.uefi_node_reader.specs.declared.styles.TextStyle.TheVariants.{Printed, Lenient}
 use Rattle.uefi_node_reader.specs.NamedFiles.{past_spaces}

@@ -13,7 +13,7 @@ pub use Rattle.uefi_node_reader.specs.FaultTexts
 pub use Rattle.uefi_node_reader.specs.Styles
 pub use Rattle.uefi_node_reader.specs.Utf16Texts
 pub use Rattle.uefi_node_reader.specs.declared.styles.TextStyle
-pub use Rattle.uefi_node_reader.specs.declared.faults.Expected
+pub use Rattle.uefi_node_reader.specs.declared.errors.faults.Expected
 pub use Rattle.uefi_device_nodes.specs.declared.errors.NodeError
 pub use Rattle.uefi_device_nodes.specs.declared.errors.NodeConversionError
 pub use Rattle.uefi_device_nodes.specs.declared.node.DevicePathNode

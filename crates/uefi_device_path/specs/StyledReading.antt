@@ -6,9 +6,9 @@ use Rattle.uefi_device_path.specs.PathReading.{end_instance, is_after_instance}
 use Rattle.uefi_device_path.specs.declared.text.text_errors.PathTextError.{PathTextError}
 use Rattle.uefi_device_path.specs.declared.text.text_errors.PathTextError.TheVariants.{NoNode, OutOfMemory}
 use Rattle.uefi_device_path.specs.declared.text.text_errors.TextFault.{TextFault}
-use Rattle.uefi_node_reader.specs.declared.faults.Expected.{Expected}
-use Rattle.uefi_node_reader.specs.declared.faults.Expected.TheVariants as expected
-use Rattle.uefi_node_reader.specs.declared.faults.NodeFault.{NodeFault}
+use Rattle.uefi_node_reader.specs.declared.errors.faults.Expected.{Expected}
+use Rattle.uefi_node_reader.specs.declared.errors.faults.Expected.TheVariants as expected
+use Rattle.uefi_node_reader.specs.declared.errors.faults.NodeFault.{NodeFault}
 use Rattle.uefi_node_reader.specs.LenientNodes.{past_file_call}
 use Rattle.uefi_node_reader.specs.Styles.{styled_read}
 use Rattle.uefi_node_reader.specs.declared.styles.TextStyle.{TextStyle}

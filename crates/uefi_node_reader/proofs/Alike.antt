@@ -13,9 +13,9 @@ use Rattle.uefi_node_reader.specs.LenientCalls.{cut_call, tidied}
 use Rattle.uefi_node_reader.specs.LenientNodes.{call_read, or_textless, bare_read, begins_call, call_in, end_fault, ended_at, ended_spaced, exact_or, fault_at_byte, file_or_call, is_escaped_name, lenient_read, or_fault, spaced, stop_fault, written_read}
 use Rattle.uefi_node_reader.specs.NamedFiles.{begins_name, is_after_node, node_read, past_spaces}
 use Rattle.uefi_node_reader.specs.Stops.{◌>?◌}
-use Rattle.uefi_node_reader.specs.declared.faults.Expected.TheVariants as expected
-use Rattle.uefi_node_reader.specs.declared.faults.NodeFault.{NodeFault}
-use Rattle.uefi_node_reader.specs.declared.faults.Stop.{Stop}
+use Rattle.uefi_node_reader.specs.declared.errors.faults.Expected.TheVariants as expected
+use Rattle.uefi_node_reader.specs.declared.errors.faults.NodeFault.{NodeFault}
+use Rattle.uefi_node_reader.specs.declared.errors.faults.Stop.{Stop}
 use Rattle.uefi_node_reader.specs.Numerals.{digit_of}
 use Rattle.uefi_node_reader.proofs.LenientNumbers.{zero_more}
 

@@ -11,9 +11,9 @@ use Rattle.uefi_node_reader.specs.Mistakes.{mistake}
 use Rattle.uefi_node_reader.specs.NearNames.{is_named}
 use Rattle.uefi_node_reader.specs.NamedFiles.{is_after_node, node_read, past_spaces}
 use Rattle.uefi_node_reader.specs.Stops.{◌>?◌}
-use Rattle.uefi_node_reader.specs.declared.faults.Expected.TheVariants as expected
-use Rattle.uefi_node_reader.specs.declared.faults.NodeFault.{NodeFault}
-use Rattle.uefi_node_reader.specs.declared.faults.Stop.{Stop}
+use Rattle.uefi_node_reader.specs.declared.errors.faults.Expected.TheVariants as expected
+use Rattle.uefi_node_reader.specs.declared.errors.faults.NodeFault.{NodeFault}
+use Rattle.uefi_node_reader.specs.declared.errors.faults.Stop.{Stop}
 
 pub place_within : (count : ℕ) (text : List ℕ) → place_at count text ≤ length text
 place_within count [] = omega arith

@@ -9,7 +9,7 @@ use Rattle.uefi_device_nodes.specs.Rows.{Form}
 use Rattle.uefi_node_reader.specs.FirstLetters.{all_begin_in, begins_in, begins_in_either_case, is_in}
 use Rattle.uefi_node_reader.specs.LenientCalls.{begins_call_name, first_tried, or_next}
 use Rattle.uefi_node_reader.specs.Stops.{further}
-use Rattle.uefi_node_reader.specs.declared.faults.Stop.{Stop}
+use Rattle.uefi_node_reader.specs.declared.errors.faults.Stop.{Stop}
 
 -- a letter in either case is a letter in that case
 cased : (c t : ℕ) → eqb (to_ascii_uppercase c) (to_ascii_uppercase t) ≡ true → (c ≡ to_ascii_uppercase t) ⊎ (c ≡ to_ascii_lowercase t)

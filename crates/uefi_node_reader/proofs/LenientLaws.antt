@@ -24,9 +24,9 @@ use Rattle.uefi_node_reader.specs.NamedFiles.{IsTold, before_spaces, ends_name, 
 use Rattle.uefi_node_reader.specs.TableReading.{is_empty, is_read, is_sound, rest_read}
 use Rattle.uefi_device_nodes.specs.declared.node_table.rows.Mode.{Mode}
 use Rattle.uefi_device_nodes.specs.declared.node_table.rows.Mode.TheVariants.{Read, Printed, Display, Libefivar, People}
-use Rattle.uefi_node_reader.specs.declared.faults.Expected.TheVariants as expected
-use Rattle.uefi_node_reader.specs.declared.faults.NodeFault.{NodeFault}
-use Rattle.uefi_node_reader.specs.declared.faults.Stop.{Stop}
+use Rattle.uefi_node_reader.specs.declared.errors.faults.Expected.TheVariants as expected
+use Rattle.uefi_node_reader.specs.declared.errors.faults.NodeFault.{NodeFault}
+use Rattle.uefi_node_reader.specs.declared.errors.faults.Stop.{Stop}
 use Rattle.uefi_node_reader.proofs.Digits.{some_pair}
 use Rattle.uefi_node_reader.proofs.Groups.{table_sound}
 use Rattle.uefi_node_reader.specs.WordReading.{after}

@@ -11,7 +11,7 @@ use Rattle.uefi_node_reader.specs.FieldReading.{either_read}
 use Rattle.uefi_node_reader.specs.LenientCalls.{first_tried, or_next}
 use Rattle.uefi_node_reader.specs.Stops.{further}
 use Rattle.uefi_node_reader.specs.TableReading.{form_read, forms_read, kept}
-use Rattle.uefi_node_reader.specs.declared.faults.Stop.{Stop}
+use Rattle.uefi_node_reader.specs.declared.errors.faults.Stop.{Stop}
 
 module _ {A : Type 0} where
   next_assoc : (r : Result A (Option Stop)) (f g : Option Stop → Result A (Option Stop))

@@ -14,9 +14,9 @@ use Rattle.uefi_node_reader.specs.Libefivar.{forms_exact, libefivar_read, own_ca
 use Rattle.uefi_node_reader.specs.NamedFiles.{IsTold, ends_name, is_after_node, node_read, past_spaces}
 use Rattle.uefi_node_reader.specs.Styles.{PrintedExactly, StyledAgain, StyledEnds, StyledFaultWithin, StyledStarts, StyledTakes, styled_read, takes_printed}
 use Rattle.uefi_node_reader.specs.TableReading.{form_read, is_sound}
-use Rattle.uefi_node_reader.specs.declared.faults.Expected.TheVariants.{AsPrinted}
-use Rattle.uefi_node_reader.specs.declared.faults.NodeFault.{NodeFault}
-use Rattle.uefi_node_reader.specs.declared.faults.Stop.{Stop}
+use Rattle.uefi_node_reader.specs.declared.errors.faults.Expected.TheVariants.{AsPrinted}
+use Rattle.uefi_node_reader.specs.declared.errors.faults.NodeFault.{NodeFault}
+use Rattle.uefi_node_reader.specs.declared.errors.faults.Stop.{Stop}
 use Rattle.uefi_node_reader.specs.declared.styles.TextStyle.{TextStyle}
 use Rattle.uefi_node_reader.specs.declared.styles.TextStyle.TheVariants.{Printed, Lenient, Libefivar}
 use Rattle.uefi_node_reader.proofs.FaultPlaces.{Within, end_within, fault_within, or_within, place_within}

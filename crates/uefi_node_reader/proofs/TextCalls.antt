@@ -23,8 +23,8 @@ use Rattle.uefi_node_reader.specs.Notations.{head_in, lenient, pieces_in}
 use Rattle.uefi_node_reader.specs.Stops.{◌>?◌, past, stop_at}
 use Rattle.uefi_node_reader.specs.TableReading.{IsTailTold, as_ids, blank, first_of, is_empty, is_read, is_sound, tail_read}
 use Rattle.uefi_node_reader.specs.TextCalls.{call_left, holds_ids, holds_text, left_of, or_commas, stop_before, text_call_told, text_left, text_stop, text_told, text_tried, texts_tried, uid_call_told, uid_told, uid_tried, words_tried}
-use Rattle.uefi_node_reader.specs.declared.faults.Expected.TheVariants as expected
-use Rattle.uefi_node_reader.specs.declared.faults.Stop.{Stop}
+use Rattle.uefi_node_reader.specs.declared.errors.faults.Expected.TheVariants as expected
+use Rattle.uefi_node_reader.specs.declared.errors.faults.Stop.{Stop}
 use Rattle.uefi_node_reader.proofs.ClearTexts.{clear_bytes, clear_takes}
 use Rattle.uefi_node_reader.proofs.Groups.{table_sound}
 use Rattle.uefi_node_reader.proofs.LenientFields.{SetIn, pieces_in_bytes, set_of}

@@ -12,7 +12,7 @@ use Rattle.uefi_node_reader.specs.NamedFiles.{IsTold}
 use Rattle.uefi_node_reader.specs.ParsedNodes.{fitting}
 use Rattle.uefi_node_reader.specs.Stops.{further}
 use Rattle.uefi_node_reader.specs.TableReading.{is_empty, prints}
-use Rattle.uefi_node_reader.specs.declared.faults.Stop.{Stop}
+use Rattle.uefi_node_reader.specs.declared.errors.faults.Stop.{Stop}
 
 -- the test for an empty text
 pub empty_is : (rest : List ℕ) → true ≡ is_empty rest → rest ≡ []

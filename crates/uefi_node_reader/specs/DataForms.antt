@@ -2,8 +2,8 @@
 use Rattle.std.specs.Prelude.{Option, Some, None}
 use Rattle.uefi_device_nodes.specs.declared.node_table.rows.Tail.{Tail}
 use Rattle.uefi_device_nodes.specs.declared.node_table.rows.Tail.TheVariants as tail
-use Rattle.uefi_node_reader.specs.declared.data_form.DataForm.{DataForm}
-use Rattle.uefi_node_reader.specs.declared.data_form.DataForm.TheVariants.{Nothing, Bytes, Text, Utf16, Name, Padded, Ids, Repeated, Uid}
+use Rattle.uefi_node_reader.specs.declared.exact.data_form.DataForm.{DataForm}
+use Rattle.uefi_node_reader.specs.declared.exact.data_form.DataForm.TheVariants.{Nothing, Bytes, Text, Utf16, Name, Padded, Ids, Repeated, Uid}
 
 -- the tail of a form that encodes data in this way, or none for the string of `_UID`
 abbrev pub coded_tail : DataForm → Option Tail

@@ -5,10 +5,10 @@ use Rattle.std.specs.Option.{unwrap_or}
 use Rattle.uefi_device_nodes.specs.FieldTexts.{hex}
 use Rattle.uefi_device_nodes.specs.Table.{forms}
 use Rattle.uefi_node_reader.specs.NearNames.{other_names, start_at}
-use Rattle.uefi_node_reader.specs.declared.faults.Choice.{Choice}
-use Rattle.uefi_node_reader.specs.declared.faults.Choice.TheVariants as choice
-use Rattle.uefi_node_reader.specs.declared.faults.Expected.{Expected}
-use Rattle.uefi_node_reader.specs.declared.faults.Expected.TheVariants as expected
+use Rattle.uefi_node_reader.specs.declared.errors.faults.Choice.{Choice}
+use Rattle.uefi_node_reader.specs.declared.errors.faults.Choice.TheVariants as choice
+use Rattle.uefi_node_reader.specs.declared.errors.faults.Expected.{Expected}
+use Rattle.uefi_node_reader.specs.declared.errors.faults.Expected.TheVariants as expected
 
 -- what a field accepts
 abbrev pub choice_text : Choice → List ℕ

@@ -20,8 +20,8 @@ use Rattle.uefi_node_reader.specs.Stops.{◌>?◌, exact_end, further, past, res
 use Rattle.uefi_node_reader.specs.TableReading.{is_empty, rest_read}
 use Rattle.uefi_node_reader.specs.CompleteTexts.{tells}
 use Rattle.uefi_node_reader.specs.WordReading.{after}
-use Rattle.uefi_node_reader.specs.declared.faults.Expected.TheVariants as expected
-use Rattle.uefi_node_reader.specs.declared.faults.Stop.{Stop}
+use Rattle.uefi_node_reader.specs.declared.errors.faults.Expected.TheVariants as expected
+use Rattle.uefi_node_reader.specs.declared.errors.faults.Stop.{Stop}
 
 -- whether a byte of a call is skipped: a blank, a line end, or a brace around a GUID
 abbrev pub is_blank : ℕ → Bool

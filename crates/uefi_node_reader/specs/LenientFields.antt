@@ -18,9 +18,9 @@ use Rattle.uefi_node_reader.specs.Numerals.{digits_after, has_digit}
 use Rattle.uefi_node_reader.specs.Stops.{◌>?◌, stop_at}
 use Rattle.uefi_node_reader.specs.TableReading.{first_of, is_empty}
 use Rattle.uefi_node_reader.specs.WordReading.{after, or_word}
-use Rattle.uefi_node_reader.specs.declared.faults.Expected.{Expected}
-use Rattle.uefi_node_reader.specs.declared.faults.Expected.TheVariants as expected
-use Rattle.uefi_node_reader.specs.declared.faults.Stop.{Stop}
+use Rattle.uefi_node_reader.specs.declared.errors.faults.Expected.{Expected}
+use Rattle.uefi_node_reader.specs.declared.errors.faults.Expected.TheVariants as expected
+use Rattle.uefi_node_reader.specs.declared.errors.faults.Stop.{Stop}
 
 -- whether bytes begin with `0x`
 abbrev pub begins_base : List ℕ → Bool

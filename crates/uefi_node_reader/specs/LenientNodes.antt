@@ -14,10 +14,10 @@ use Rattle.uefi_node_reader.specs.ShortAddresses.{short_ipv6}
 use Rattle.uefi_node_reader.specs.Stops.{◌>?◌}
 use Rattle.uefi_node_reader.specs.TableReading.{first_of}
 use Rattle.uefi_node_reader.specs.TextCalls.{texts_tried}
-use Rattle.uefi_node_reader.specs.declared.faults.Expected.{Expected}
-use Rattle.uefi_node_reader.specs.declared.faults.Expected.TheVariants as expected
-use Rattle.uefi_node_reader.specs.declared.faults.NodeFault.{NodeFault}
-use Rattle.uefi_node_reader.specs.declared.faults.Stop.{Stop}
+use Rattle.uefi_node_reader.specs.declared.errors.faults.Expected.{Expected}
+use Rattle.uefi_node_reader.specs.declared.errors.faults.Expected.TheVariants as expected
+use Rattle.uefi_node_reader.specs.declared.errors.faults.NodeFault.{NodeFault}
+use Rattle.uefi_node_reader.specs.declared.errors.faults.Stop.{Stop}
 
 -- a fault at a byte of a text
 abbrev pub fault_at_byte : ℕ → Expected → NodeFault

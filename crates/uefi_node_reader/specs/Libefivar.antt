@@ -11,10 +11,10 @@ use Rattle.uefi_node_reader.specs.LenientNodes.{begins_call, ended_at, fault_at_
 use Rattle.uefi_node_reader.specs.Stops.{stop_at}
 use Rattle.uefi_node_reader.specs.TableReading.{form_read}
 use Rattle.uefi_node_reader.specs.WordReading.{after}
-use Rattle.uefi_node_reader.specs.declared.faults.Expected.{Expected}
-use Rattle.uefi_node_reader.specs.declared.faults.Expected.TheVariants as expected
-use Rattle.uefi_node_reader.specs.declared.faults.NodeFault.{NodeFault}
-use Rattle.uefi_node_reader.specs.declared.faults.Stop.{Stop}
+use Rattle.uefi_node_reader.specs.declared.errors.faults.Expected.{Expected}
+use Rattle.uefi_node_reader.specs.declared.errors.faults.Expected.TheVariants as expected
+use Rattle.uefi_node_reader.specs.declared.errors.faults.NodeFault.{NodeFault}
+use Rattle.uefi_node_reader.specs.declared.errors.faults.Stop.{Stop}
 
 -- the node of a tidied text in the first of these forms that it matches exactly
 abbrev pub forms_exact : List Form → List ℕ → Option Node

@@ -3,11 +3,11 @@ use Rattle.std.specs.Prelude.{ℕ, ◌+◌, ◌-◌, zero, suc, ◌==◌, ◌&&�
 use Rattle.std.specs.Char.{is_ascii_alphanumeric}
 use Rattle.uefi_node_reader.specs.Ambiguous.{begins_with}
 use Rattle.uefi_node_reader.specs.TableReading.{first_of}
-use Rattle.uefi_node_reader.specs.declared.faults.Choice.{Choice}
-use Rattle.uefi_node_reader.specs.declared.faults.Choice.TheVariants.{AcpiId, AtaChannel, AtaDrive, BootDevice, Digest, FlowControl, Guid, IpAddress, IpProtocol, Ipv4Origin, Ipv6Origin, IscsiProtocol, Login, MacAddress, PartitionFormat, SasConnection, SasLocation, SasProtocol}
-use Rattle.uefi_node_reader.specs.declared.faults.Expected.{Expected}
-use Rattle.uefi_node_reader.specs.declared.faults.Expected.TheVariants.{AsPrinted, Byte, Digits, Word}
-use Rattle.uefi_node_reader.specs.declared.faults.Stop.{Stop}
+use Rattle.uefi_node_reader.specs.declared.errors.faults.Choice.{Choice}
+use Rattle.uefi_node_reader.specs.declared.errors.faults.Choice.TheVariants.{AcpiId, AtaChannel, AtaDrive, BootDevice, Digest, FlowControl, Guid, IpAddress, IpProtocol, Ipv4Origin, Ipv6Origin, IscsiProtocol, Login, MacAddress, PartitionFormat, SasConnection, SasLocation, SasProtocol}
+use Rattle.uefi_node_reader.specs.declared.errors.faults.Expected.{Expected}
+use Rattle.uefi_node_reader.specs.declared.errors.faults.Expected.TheVariants.{AsPrinted, Byte, Digits, Word}
+use Rattle.uefi_node_reader.specs.declared.errors.faults.Stop.{Stop}
 
 -- whether a call is the call of a SAS device
 abbrev pub is_sas : List ℕ → Bool

@@ -5,8 +5,8 @@ use Rattle.uefi_device_nodes.specs.Rows.{Form}
 use Rattle.uefi_device_nodes.specs.Table.{forms}
 use Rattle.uefi_node_reader.specs.LenientCalls.{begins_call_name}
 use Rattle.uefi_node_reader.specs.TableReading.{form_place}
-use Rattle.uefi_node_reader.specs.declared.faults.Expected.{Expected}
-use Rattle.uefi_node_reader.specs.declared.faults.Expected.TheVariants as expected
+use Rattle.uefi_node_reader.specs.declared.errors.faults.Expected.{Expected}
+use Rattle.uefi_node_reader.specs.declared.errors.faults.Expected.TheVariants as expected
 
 -- whether a text begins with the name of a call, except that its first two letters are exchanged
 abbrev pub are_exchanged : List ℕ → List ℕ → Bool

@@ -7,7 +7,7 @@ use Rattle.uefi_node_reader.specs.LenientFields.{after_ending, after_literal, ex
 use Rattle.uefi_node_reader.specs.Stops.{◌>?◌, stop_at}
 use Rattle.uefi_node_reader.specs.TableReading.{blank, put_at}
 use Rattle.uefi_node_reader.specs.WordReading.{after}
-use Rattle.uefi_node_reader.specs.declared.faults.Stop.{Stop}
+use Rattle.uefi_node_reader.specs.declared.errors.faults.Stop.{Stop}
 
 -- the rules for reading the start of a form, a field, and the literal after a field; each gives what is left
 -- of the text, or an `E` if the text is not read

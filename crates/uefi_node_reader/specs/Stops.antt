@@ -5,9 +5,9 @@ use Rattle.uefi_device_nodes.specs.declared.node_table.rows.Tail.{Tail}
 use Rattle.uefi_device_nodes.specs.declared.node_table.rows.Tail.TheVariants.{Bytes, Repeated}
 use Rattle.uefi_node_reader.specs.TableReading.{first_of, tail_read}
 use Rattle.uefi_node_reader.specs.WordReading.{after}
-use Rattle.uefi_node_reader.specs.declared.faults.Expected.{Expected}
-use Rattle.uefi_node_reader.specs.declared.faults.Expected.TheVariants as expected
-use Rattle.uefi_node_reader.specs.declared.faults.Stop.{Stop}
+use Rattle.uefi_node_reader.specs.declared.errors.faults.Expected.{Expected}
+use Rattle.uefi_node_reader.specs.declared.errors.faults.Expected.TheVariants as expected
+use Rattle.uefi_node_reader.specs.declared.errors.faults.Stop.{Stop}
 
 -- where a text stops being read: how much of it is left, and what was expected there
 abbrev pub stop_at : List ℕ → Expected → Stop

@@ -16,9 +16,9 @@ use Rattle.uefi_node_reader.specs.Mistakes.{past_mark}
 use Rattle.uefi_node_reader.specs.Notations.{head_in, lenient, pieces_in}
 use Rattle.uefi_node_reader.specs.Stops.{◌>?◌, stop_at}
 use Rattle.uefi_node_reader.specs.TableReading.{as_ids, first_of, is_empty, tail_read}
-use Rattle.uefi_node_reader.specs.declared.faults.Expected.{Expected}
-use Rattle.uefi_node_reader.specs.declared.faults.Expected.TheVariants as expected
-use Rattle.uefi_node_reader.specs.declared.faults.Stop.{Stop}
+use Rattle.uefi_node_reader.specs.declared.errors.faults.Expected.{Expected}
+use Rattle.uefi_node_reader.specs.declared.errors.faults.Expected.TheVariants as expected
+use Rattle.uefi_node_reader.specs.declared.errors.faults.Stop.{Stop}
 
 -- whether a form is printed and contains a text
 abbrev pub holds_text : Mode → Tail → Bool

@@ -12,8 +12,8 @@ ghost use Rattle.std.proofs.Math.ListN.{replicate};
 ghost use Rattle.uefi_node_reader.specs.Counted.{pushed_bytes};
 ghost use Rattle.uefi_node_reader.specs.ShortAddresses.{address_octets};
 
-use crate::clear_texts::first_of;
 use crate::counted_bytes::push;
+use crate::exact::clear_texts::first_of;
 use crate::texts::{Text, is_empty};
 
 /// An IPv6 address.

@@ -6,52 +6,24 @@
 #![tactic(auto)]
 
 mod address_texts;
-#[doc(hidden)]
-pub mod ambiguous;
-mod call_faults;
-mod clear_texts;
-mod complete_texts;
 mod counted_bytes;
-mod data_form;
-#[doc(hidden)]
-pub mod faults;
-mod fields;
+pub mod errors;
+pub mod exact;
 #[doc(hidden)]
 pub mod file_node;
-mod first_letters;
-mod form_attempts;
-mod form_heads;
-mod form_places;
-mod lenient_fields;
-#[doc(hidden)]
-pub mod lenient_names;
-mod lenient_table;
+pub mod lenient;
 mod libefivar;
-mod mistakes;
 mod name_data;
 #[doc(hidden)]
 pub mod named_files;
-mod near_names;
-mod node_tails;
 #[doc(hidden)]
 pub mod node_texts;
-mod notations;
-mod numerals;
-#[doc(hidden)]
-pub mod parsed_node;
 mod plain_nodes;
 #[doc(hidden)]
 pub mod read_node;
-mod short_addresses;
-mod stops;
 #[doc(hidden)]
 pub mod styles;
-mod table_reader;
-mod tail_stops;
-mod text_calls;
 #[doc(hidden)]
 pub mod texts;
-#[doc(hidden)]
-pub mod tidied;
 #[doc(hidden)]
 pub mod utf16_texts;

@@ -14,16 +14,16 @@ ghost use Rattle.uefi_node_reader.specs.Libefivar.{base_after, forms_exact, own_
 ghost use Rattle.uefi_node_reader.specs.TableReading.{is_filled, is_sound};
 ghost use Rattle.uefi_node_reader.specs.ParsedNodeViews.{parsed_node};
 
-use crate::ambiguous::begins_with;
-use crate::faults::{Expected, NodeFault, Stop};
-use crate::fields::after;
-use crate::lenient_names::begins_call;
-use crate::lenient_table::exact_told;
+use crate::errors::faults::{Expected, NodeFault, Stop};
+use crate::errors::stops::stop_at;
+use crate::exact::fields::after;
+use crate::exact::parsed_node::ParsedNode;
+use crate::lenient::ambiguous::begins_with;
+use crate::lenient::lenient_names::begins_call;
+use crate::lenient::lenient_table::exact_told;
+use crate::lenient::tidied::{Tidied, cut_call, place_at, tidy};
 use crate::named_files::NameText;
-use crate::parsed_node::ParsedNode;
-use crate::stops::stop_at;
 use crate::texts::Text;
-use crate::tidied::{Tidied, cut_call, place_at, tidy};
 use uefi_device_nodes::node_table::rows::Row;
 use uefi_device_nodes::node_table::table::libefivar_forms;
 

@@ -16,17 +16,17 @@ ghost use Rattle.uefi_node_reader.specs.PlainNodes.{plain_read};
 ghost use Rattle.uefi_node_reader.specs.ReadNodes.{node_from_text};
 ghost use Rattle.uefi_node_reader.specs.TableReading.{table_read};
 
-use crate::call_faults::by_call;
-use crate::clear_texts::first_of;
-use crate::faults::{Expected, NodeFault};
+use crate::errors::faults::{Expected, NodeFault};
+use crate::exact::clear_texts::first_of;
+use crate::exact::parsed_node::ParsedNode;
+use crate::exact::table_reader::by_table;
 use crate::file_node::name;
-use crate::lenient_fields::after_literal;
-use crate::lenient_names::{bare, begins_call, file, is_escaped_name};
+use crate::lenient::call_faults::by_call;
+use crate::lenient::lenient_fields::after_literal;
+use crate::lenient::lenient_names::{bare, begins_call, file, is_escaped_name};
 use crate::named_files::{NameText, is_after_node, past_spaces};
-use crate::parsed_node::ParsedNode;
 use crate::plain_nodes::plain;
 use crate::read_node::ReadNode;
-use crate::table_reader::by_table;
 use crate::texts::Text;
 
 /// Reads the node of a call at the start of a text, exactly as it is printed.

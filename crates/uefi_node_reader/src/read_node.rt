@@ -4,10 +4,10 @@
 ghost use Rattle.std.specs.Prelude.{◌≡◌, ◌≤◌, length};
 ghost use Rattle.uefi_node_reader.specs.ReadNodes.{node_from_text};
 
+use crate::exact::parsed_node::ParsedNode;
 use crate::file_node::FileNode;
+use crate::lenient::tidied::Tidied;
 use crate::named_files::NameText;
-use crate::parsed_node::ParsedNode;
-use crate::tidied::Tidied;
 use uefi_device_nodes::build_node::BuildNode;
 use uefi_device_nodes::node_table::layouts::{FILE_PATH, MEDIA_TYPE};
 use uefi_device_nodes::{DeviceSubType, DeviceType};

@@ -7,7 +7,7 @@ ghost use Rattle.uefi_node_reader.specs.Libefivar.{libefivar_read};
 ghost use Rattle.uefi_node_reader.specs.Styles.{PrintedExactly, StyledAgain, StyledEnds, StyledFaultWithin, StyledStarts, StyledTakes, styled_read};
 ghost use Rattle.uefi_node_reader.specs.ReadNodes.{node_from_text};
 
-use crate::faults::{Expected, NodeFault};
+use crate::errors::faults::{Expected, NodeFault};
 use crate::libefivar::{own, own_fault};
 use crate::named_files::NameText;
 use crate::node_texts::{ended, ended_at, read_lenient_node, read_node};

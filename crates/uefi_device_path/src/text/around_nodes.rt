@@ -4,7 +4,7 @@
 ghost use Rattle.std.specs.Prelude.{◌≡◌};
 ghost use Rattle.uefi_device_path.specs.AroundNodes.{after_first, before_closing, before_last, first_byte, first_place, is_grub_pci, is_mark, is_quoted, is_slashed, last_byte, may_begin, past_slash};
 
-use uefi_node_reader::ambiguous::begins_with;
+use uefi_node_reader::lenient::ambiguous::begins_with;
 use uefi_node_reader::named_files::{before_spaces, is_after_node, past_spaces};
 use uefi_node_reader::styles::TextStyle;
 use uefi_node_reader::texts::{Text, is_empty};

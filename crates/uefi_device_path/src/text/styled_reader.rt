@@ -15,7 +15,7 @@ use crate::text::text_errors::{PathTextError, TextFault};
 use std::alloc::Allocator;
 use uefi_device_nodes::build_node::RawNode;
 use uefi_device_nodes::{DeviceSubType, DeviceType};
-use uefi_node_reader::faults::NodeFault;
+use uefi_node_reader::errors::faults::NodeFault;
 use uefi_node_reader::named_files::NameText;
 use uefi_node_reader::node_texts::nodes_are_read;
 use uefi_node_reader::styles::{

@@ -7,7 +7,7 @@ ghost use Rattle.std.specs.Prelude.{Some};
 use crate::errors::DevicePathError;
 use std::error::Error;
 use std::fmt;
-pub use uefi_node_reader::faults::{Choice, Expected};
+pub use uefi_node_reader::errors::faults::{Choice, Expected};
 use uefi_text::number_texts::put_decimal;
 use uefi_text::text_sink::{Printed, TextSink, print};
 

@@ -8,7 +8,7 @@ ghost use Rattle.uefi_node_reader.specs.declared.styles.TextStyle.TheVariants.{L
 use crate::laws::styled_texts;
 use crate::text::styled_reader::put_text_in_buf;
 use crate::text::text_errors::{Expected, TextFault};
-use uefi_node_reader::lenient_names::past_file_call;
+use uefi_node_reader::lenient::lenient_names::past_file_call;
 use uefi_node_reader::named_files::NameText;
 use uefi_node_reader::styles::TextStyle;
 

@@ -1,0 +1,14 @@
+use Rattle.std.proofs.Common.{◌≡◌, length}
+use Rattle.uefi_text.specs.UnitBytes.{unit_bytes}
+use Rattle.uefi_node_reader.specs.Counted.{pushed_bytes}
+use Rattle.uefi_node_reader.specs.FieldReading.{clear_run}
+use Rattle.uefi_node_reader.proofs.exact.clear_texts.push_clear_units.Given as goal
+
+abbrev pub invariant-units : goal.invariant-units
+invariant-units g l =
+    (pushed_bytes (l.places, l.count) (unit_bytes (clear_run l.stop (g.T.Text.bytes l.rest)).0)
+    ≡ pushed_bytes (l.initial.places, l.fn.len) (unit_bytes (clear_run l.stop (g.T.Text.bytes l.fn.text)).0))
+    × ((clear_run l.stop (g.T.Text.bytes l.rest)).1 ≡ (clear_run l.stop (g.T.Text.bytes l.fn.text)).1)
+
+abbrev pub decreases-units : goal.decreases-units
+decreases-units g l = length (g.T.Text.bytes l.rest)
