@@ -1,7 +1,7 @@
 //! The whole device path of a disk or a network card, from the directories of sysfs that lead to it.
+use crate::files::program_ends::{End, WRONG_ARGUMENTS, refuse};
+use crate::files::variables::unreadable;
 use crate::partitions::described;
-use crate::program_ends::{End, WRONG_ARGUMENTS, refuse};
-use crate::variables::unreadable;
 use std::fs;
 use uefi_device_path::{DevicePathBuf, PathTextError};
 

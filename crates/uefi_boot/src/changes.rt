@@ -1,11 +1,11 @@
 //! Carries out plans, writing one whole variable after the other.
-use crate::boot_manager::{write_order, write_timeout};
-use crate::entry::Shown;
-use crate::mounts::is_efivarfs;
-use crate::program_ends::{End, Output, UNREADABLE, UNWRITTEN, refuse};
-use crate::variables::{
+use crate::files::mounts::is_efivarfs;
+use crate::files::program_ends::{End, Output, UNREADABLE, UNWRITTEN, refuse};
+use crate::files::variables::{
     Content, MOST_READ, VARIABLE_ATTRIBUTES, Variable, Variables, attributes_len, file_in,
 };
+use crate::output::boot_manager::{write_order, write_timeout};
+use crate::output::entry::Shown;
 use std::alloc::{AllocError, Global};
 use std::fmt::Write as _;
 use std::fs::{self, File, OpenFile, OpenOptions};

@@ -1,12 +1,12 @@
 //! Reports faults that would make firmware or the machine fail.
-use crate::arguments::Words;
-use crate::boot_manager::Head;
-use crate::entry::{File, Shown};
-use crate::partitions::DISKS;
-use crate::program_ends::{End, MALFORMED, Output, UNREADABLE};
-use crate::variables::{
+use crate::command_line::arguments::Words;
+use crate::files::program_ends::{End, MALFORMED, Output, UNREADABLE};
+use crate::files::variables::{
     Content, MOST_READ, OWN, PassedOver, Source, Variable, Variables, unreadable,
 };
+use crate::output::boot_manager::Head;
+use crate::output::entry::{File, Shown};
+use crate::partitions::DISKS;
 use crate::{Form, to_json};
 use serde::Serialize;
 use std::collections::BTreeMap;

@@ -1,10 +1,10 @@
 //! Creates the load option of a new entry from the words of `create`.
-use crate::arguments::Words;
-use crate::entry::Shown;
-use crate::mounts::{find_mounted, mount_point_above};
+use crate::command_line::arguments::Words;
+use crate::files::mounts::{find_mounted, mount_point_above};
+use crate::files::program_ends::{End, WRONG_ARGUMENTS, refuse};
+use crate::files::variables::{MOST_BYTES, MOST_READ, unreadable};
+use crate::output::entry::Shown;
 use crate::partitions::{GPT, Located, by_guid, by_number, on_disk};
-use crate::program_ends::{End, WRONG_ARGUMENTS, refuse};
-use crate::variables::{MOST_BYTES, MOST_READ, unreadable};
 use crate::{buses, fill};
 use std::alloc::Global;
 use std::fs;

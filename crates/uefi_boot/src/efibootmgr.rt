@@ -1,10 +1,10 @@
 //! Takes the options of efibootmgr 17 and prints what it prints, for scripts that call it by its name. Each
 //! change is made by the command of this program that does the same.
-use crate::arguments::{Verb, is_option};
-use crate::boot_manager::Head;
-use crate::entry::Shown;
-use crate::program_ends::{End, Output, WRONG_ARGUMENTS, refuse};
-use crate::variables::{Content, MOST_READ, OWN, Variable, Variables, find_all, find_own};
+use crate::command_line::arguments::{Verb, is_option};
+use crate::files::program_ends::{End, Output, WRONG_ARGUMENTS, refuse};
+use crate::files::variables::{Content, MOST_READ, OWN, Variable, Variables, find_all, find_own};
+use crate::output::boot_manager::Head;
+use crate::output::entry::Shown;
 use crate::verbs;
 use std::env;
 use std::fmt::Write;

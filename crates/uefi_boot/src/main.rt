@@ -32,34 +32,30 @@
 
 ghost use Rattle.std.specs.Prelude.{◌≤◌, IfOk, length};
 
-mod arguments;
-mod boot_manager;
 mod buses;
 mod changes;
 mod check;
+mod command_line;
 mod create;
 mod efibootmgr;
-mod entry;
-mod growing_texts;
-mod help;
-mod hints;
-mod listing;
-mod mounts;
-mod optional_data;
+mod files;
+mod output;
 mod partitions;
-mod program_ends;
-mod variables;
 mod verbs;
 
-use arguments::{Verb, first_plain, is_option, meant_verb, refuse_option};
-use entry::{Exact, Shown};
-use program_ends::{End, MALFORMED, Output, WRONG_ARGUMENTS, refuse, status_of};
+use command_line::arguments::{Verb, first_plain, is_option, meant_verb, refuse_option};
+use command_line::{help, hints};
+use files::program_ends::{End, MALFORMED, Output, WRONG_ARGUMENTS, refuse, status_of};
+use files::variables::{
+    Content, MOST_READ, OWN, file_name, find_all, find_own, without_attributes,
+};
+use output::entry::{Exact, Shown};
+use output::listing;
 use serde::Serialize;
 use std::alloc::Global;
 use std::io::{self, IsTerminal, Read};
 use std::process::ExitCode;
 use std::{env, fmt, fs};
-use variables::{Content, MOST_READ, OWN, file_name, find_all, find_own};
 
 const VERSION: &str = "uefi_boot 0.8.0-dev\n";
 
@@ -123,7 +119,7 @@ fn print_entry(rt: &HostRuntime, form: Form) -> Result<u8, End> {
     let Ok(count) = fill(&mut rt.reader(), &mut buffer) else {
         return Err(End::NoStream);
     };
-    let bytes = variables::without_attributes(&buffer[..count]);
+    let bytes = without_attributes(&buffer[..count]);
     let entry = Shown::of_entry(alloc, bytes)?;
     let status = if entry.is_well() { 0 } else { MALFORMED };
     let mut out = Output::new(rt);

@@ -1,8 +1,8 @@
 //! Finds partitions of the machine. Linux describes each block device in sysfs, and udev links each partition
 //! by its GUID. Without udev, the partition table has the GUID.
+use crate::files::program_ends::{End, WRONG_ARGUMENTS, refuse};
+use crate::files::variables::{file_name, unreadable};
 use crate::fill;
-use crate::program_ends::{End, WRONG_ARGUMENTS, refuse};
-use crate::variables::{file_name, unreadable};
 use std::alloc::AllocError;
 use std::io::{Seek, SeekFrom};
 use std::{fs, io};

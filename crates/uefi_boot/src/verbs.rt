@@ -1,8 +1,10 @@
 //! Changes boot variables: reads the values that a verb needs, and carries out its plan.
-use crate::arguments::{Verb, Words};
 use crate::changes::Machine;
-use crate::program_ends::{End, MALFORMED, Output, UNREADABLE, UNWRITTEN, WRONG_ARGUMENTS, refuse};
-use crate::variables::{
+use crate::command_line::arguments::{Verb, Words};
+use crate::files::program_ends::{
+    End, MALFORMED, Output, UNREADABLE, UNWRITTEN, WRONG_ARGUMENTS, refuse,
+};
+use crate::files::variables::{
     Content, MOST_BYTES, MOST_READ, OWN, Variable, file_name, find_all, find_own, lowercase_file,
 };
 use crate::{check, create};

@@ -1,8 +1,8 @@
 //! The variables of a machine: their names, and the locations of their files.
 ghost use Rattle.std.specs.Prelude.{◌≤◌, IfOk, length};
 
+use crate::files::program_ends::{End, UNREADABLE, WRONG_ARGUMENTS, refuse};
 use crate::fill;
-use crate::program_ends::{End, UNREADABLE, WRONG_ARGUMENTS, refuse};
 use std::alloc::{AllocError, Global};
 use std::fmt::{self, Write};
 use std::{fs, io};

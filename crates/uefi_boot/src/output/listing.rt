@@ -1,8 +1,8 @@
 //! Prints a machine's boot variables, each entry as soon as it is read.
-use crate::boot_manager::{Head, HeadJson, name_of};
-use crate::entry::{Exact, Shown, push, write_shown};
-use crate::program_ends::{End, MALFORMED, Output, UNREADABLE};
-use crate::variables::{Content, MOST_READ, PassedOver, Source, Variable, Variables};
+use crate::files::program_ends::{End, MALFORMED, Output, UNREADABLE};
+use crate::files::variables::{Content, MOST_READ, PassedOver, Source, Variable, Variables};
+use crate::output::boot_manager::{Head, HeadJson, name_of};
+use crate::output::entry::{Exact, Shown, push, write_shown};
 use crate::{Form, to_json};
 use serde::Serialize;
 use std::alloc::Global;

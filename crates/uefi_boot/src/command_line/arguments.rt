@@ -1,7 +1,7 @@
 //! The words after the program's name: its verbs, their options, and the nearest match of a wrong
 //! one.
-use crate::program_ends::{End, WRONG_ARGUMENTS, refuse};
-use crate::{help, hints};
+use crate::command_line::{help, hints};
+use crate::files::program_ends::{End, WRONG_ARGUMENTS, refuse};
 use std::alloc::{AllocError, Global};
 use strsim::levenshtein;
 use uefi_boot_variables::LoadOptionKind;

@@ -1,6 +1,6 @@
 //! The mounted file systems of the machine, from proc_pid_mountinfo(5).
-use crate::program_ends::{End, WRONG_ARGUMENTS, refuse};
-use crate::variables::unreadable;
+use crate::files::program_ends::{End, WRONG_ARGUMENTS, refuse};
+use crate::files::variables::unreadable;
 use std::alloc::{AllocError, Global};
 use std::os::unix::fs::MetadataExt;
 use std::{fs, io};

@@ -1,7 +1,7 @@
 //! The contents of an entry.
-use crate::growing_texts::text_of;
-use crate::optional_data::{OptionalData, hexadecimal};
-use crate::variables::{Content, MOST_BYTES};
+use crate::files::variables::{Content, MOST_BYTES};
+use crate::output::growing_texts::text_of;
+use crate::output::optional_data::{OptionalData, hexadecimal};
 use serde::Serialize;
 use std::alloc::{AllocError, Global};
 use std::fmt::{self, Write};

@@ -1,7 +1,7 @@
 //! The variables that determine the order of entries, and the other settings of a boot manager.
-use crate::entry::push;
-use crate::program_ends::End;
-use crate::variables::{Content, MOST_BYTES, Variable, Variables};
+use crate::files::program_ends::End;
+use crate::files::variables::{Content, MOST_BYTES, Variable, Variables};
+use crate::output::entry::push;
 use serde::Serialize;
 use std::alloc::{AllocError, Global};
 use std::fmt::{self, Write};
