@@ -1,0 +1,22 @@
+//! The forms of nodes as lists of steps.
+//!
+//! A form prints a node as a text, and reads the text back. It is made of leaves, each of which
+//! prints and reads the values of one type: a letter, a number, a word, a GUID. A leaf has two
+//! laws: what it prints is read back, and whatever it reads is a value that it prints. Combinations
+//! of leaves keep these laws, and so does a whole table of forms.
+//!
+//! Texts are read as people write them: in either case, with blanks between the letters, and with numbers in
+//! decimal or in hexadecimal. An exact text equals the text that is printed for what was read.
+#![tactic(auto)]
+
+pub mod examples;
+mod fields;
+pub mod forms;
+pub mod items;
+pub mod laws;
+mod leaves;
+pub mod printing;
+pub mod reading;
+pub mod steps;
+pub mod texts;
+pub mod words;
