@@ -1,33 +1,12 @@
 -- Steps that are printed one after the other.
-use Rattle.std.proofs.Common.{◌≡◌, ℕ, zero, suc, ◌+◌, ◌-◌, ◌*◌, ◌/◌, ◌<◌, ◌≤◌, Bool, true, List, [], ◌∷◌, ◌++◌, length, get_or, map, take, drop, refl, ap, sym, ◌∙◌, append_assoc, add-one, arith, length-drop}
+use Rattle.std.proofs.Common.{◌≡◌, ℕ, zero, suc, ◌+◌, ◌-◌, ◌*◌, ◌/◌, ◌<◌, ◌≤◌, List, [], ◌∷◌, ◌++◌, length, map, take, drop, refl, ap, sym, ◌∙◌, add-one, arith, length-drop}
 use Rattle.std.proofs.Math.Nat.{le-div_iff_mul-le}
-use Rattle.std.proofs.lemmas.Bool.{and_parts}
-use Rattle.std.proofs.lemmas.List.{append-nil, drop-drop, flat_map_more}
-use Rattle.std.specs.List.{flat_map, list_all}
+use Rattle.std.proofs.lemmas.List.{drop-drop, flat_map_more}
 use Rattle.std.specs.Simd.{first_chunks}
 use Rattle.uefi_node_steps.specs.Leaves.{ByteLeaf, many_text}
 use Rattle.uefi_node_steps.specs.Printing.{items_text, steps_text}
 use Rattle.uefi_node_steps.specs.Steps.{Laid, Parts, Step, item_leaf, no_list, part_of, step_leaf, steps_leaf}
 use Rattle.uefi_node_steps.specs.declared.steps.Items.{Items}
-
-module _ {X Y : Type 0} (h : X → Y) where
-  -- what holds of all elements holds of each
-  pub all_at : (p : Y → Bool) (xs : List X) (i : ℕ) (d : X) → i < length xs → list_all p (map h xs) ≡ true → p (h (get_or xs i d)) ≡ true
-  all_at p [] i d l e = absurd (omega arith)
-  all_at p (x ∷ xs) zero d l e = (and_parts (p (h x)) (list_all p (map h xs)) e).0
-  all_at p (x ∷ xs) (suc i) d l e = all_at p xs i d (omega arith) (and_parts (p (h x)) (list_all p (map h xs)) e).1
-
-  -- the text of one element more
-  text_suc : (f : Y → List ℕ) (xs : List X) (i : ℕ) (d : X) → i < length xs
-      → flat_map f (map h (take i xs)) ++ f (h (get_or xs i d)) ≡ flat_map f (map h (take (suc i) xs))
-  text_suc f [] i d l = absurd (omega arith)
-  text_suc f (x ∷ xs) zero d l = sym (append-nil (f (h x)))
-  text_suc f (x ∷ xs) (suc i) d l = append_assoc (f (h x)) (flat_map f (map h (take i xs))) (f (h (get_or xs i d)))
-      ∙ ap (λ (t : List ℕ). f (h x) ++ t) (text_suc f xs i d (omega arith))
-
-  pub text_more : (f : Y → List ℕ) (xs : List X) (i : ℕ) (d : X) → i < length xs
-      → flat_map f (map h (take i xs)) ++ f (h (get_or xs i d)) ≡ flat_map f (map h (take (i + 1) xs))
-  text_more f xs i d l = text_suc f xs i d l ∙ ap (λ (n : ℕ). flat_map f (map h (take n xs))) (sym (add-one i))
 
 -- the text of steps is that of their leaf
 pub steps_are : (lists : Items → ByteLeaf) (data_ : Parts) (steps : List Step) → steps_text lists data_ steps ≡ (steps_leaf (step_leaf lists) steps).text (map (part_of data_) steps)

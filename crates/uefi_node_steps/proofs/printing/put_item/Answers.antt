@@ -2,7 +2,7 @@ use Rattle.std.proofs.Common.{length, []}
 use Rattle.uefi_text.proofs.Puts.{puts_two}
 use Rattle.uefi_node_steps.specs.Printing.{is_item_step, step_by, step_text}
 use Rattle.uefi_node_steps.specs.Steps.{no_list}
-use Rattle.uefi_node_steps.proofs.Printed.{all_at, text_more}
+use Rattle.uefi_device_nodes.proofs.Lists.{all_at, text_more}
 use Rattle.uefi_node_steps.proofs.printing.put_item.Goals as goal
 
 pub put_item_step-requires : goal.put_item_step-requires

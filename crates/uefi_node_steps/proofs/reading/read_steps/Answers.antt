@@ -3,7 +3,7 @@ use Rattle.std.specs.List.{list_all}
 use Rattle.uefi_node_steps.specs.Steps.{is_sound_step}
 use Rattle.uefi_node_steps.specs.Views.{is_read_step}
 use Rattle.uefi_node_steps.specs.Printing.{step_by}
-use Rattle.uefi_node_steps.proofs.Printed.{all_at}
+use Rattle.uefi_device_nodes.proofs.Lists.{all_at}
 use Rattle.uefi_node_steps.proofs.reading.read_steps.Goals as goal
 
 pub read_step-requires-clause-sound : goal.read_step-requires-clause-sound
