@@ -40,7 +40,7 @@ pub extern "C" fn nard_units_from_bytes(bytes: &[u8], buffer: &mut [u16], len: &
     if buffer.len() < count {
         return BUFFER_TOO_SMALL;
     }
-    // `UnalignedSlice::copy_to` would be a call of `memmove`.
+    // `UnalignedSlice::copy_to` would need 8 KB of stack.
     read_items(bytes, &mut buffer[..count]);
     OK
 }

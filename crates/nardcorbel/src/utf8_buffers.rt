@@ -10,18 +10,6 @@ ghost use Rattle.uefi_text.specs.Units.{nul_terminated};
 use uefi_text::BufferTooSmall;
 use uefi_text::text_sink::{Printed, TextSink};
 
-/// Copies the first of some bytes to `places`. Not inlined, because the compiler calls `memcpy`, which
-/// firmware lacks, if it sees that the bytes do not overlap.
-#[inline(never)]
-fn copy_bytes(places: &mut [u8], bytes: &[u8])
-    requires { length places.now ≤ length bytes.now }
-    ensures { places.new ≡ take (length places.old) bytes.now }
-{
-    for i in 0..places.len() {
-        places[i] = bytes[i];
-    }
-}
-
 /// Returns from where to where a buffer that was given `len` bytes before takes `count` more, as many as
 /// fit.
 fn places_of_part(room: usize, len: usize, count: usize) -> (usize, usize)
@@ -39,7 +27,7 @@ fn sink_bytes(buffer: &mut [u8], len: usize, bytes: &[u8]) -> usize
         AreSunk (before ++ bytes.now) old buffer.new result }
 {
     let (start, end) = places_of_part(buffer.len(), len, bytes.len());
-    copy_bytes(&mut buffer[start..end], bytes);
+    buffer[start..end].copy_from_slice(&bytes[..end - start]);
     len.saturating_add(bytes.len())
 }
 

@@ -38,18 +38,6 @@ pub trait BuildNode {
         ensures { bytes.new ≡ (node self.now).content };
 }
 
-/// Copies bytes one by one, to as many bytes. Public only for the exports to C, because `copy_from_slice`
-/// calls `memmove`, which firmware lacks.
-#[doc(hidden)]
-pub fn copy_bytes(dest: &mut [u8], bytes: &[u8])
-    requires { length dest.now ≡ length bytes.now }
-    ensures { dest.new ≡ bytes.now }
-{
-    for place in 0..bytes.len() {
-        dest[place] = bytes[place];
-    }
-}
-
 /// A node that was read, or a node of another path.
 impl BuildNode for DevicePathNode<'_> {
     ghost node = { node_of };
@@ -63,7 +51,7 @@ impl BuildNode for DevicePathNode<'_> {
     }
 
     fn write_data(&self, bytes: &mut [u8]) {
-        copy_bytes(bytes, self.data());
+        bytes.copy_from_slice(self.data());
     }
 }
 
@@ -99,6 +87,6 @@ impl BuildNode for RawNode<'_> {
     }
 
     fn write_data(&self, bytes: &mut [u8]) {
-        copy_bytes(bytes, self.content);
+        bytes.copy_from_slice(self.content);
     }
 }

@@ -8,7 +8,6 @@ ghost use Rattle.uefi_text.specs.UnitBytes.{unit_bytes};
 ghost use Rattle.uefi_text.specs.Units.{nul_terminated};
 ghost use Rattle.uefi_text.specs.Views.{text_of};
 
-use crate::build_node::copy_bytes;
 use crate::field_texts::guid::Guid;
 use uefi_text::CStr16;
 use uefi_text::scan::split;
@@ -49,7 +48,7 @@ impl TailBytes for &[u8] {
     }
 
     fn write_tail(self, dest: &mut [u8]) {
-        copy_bytes(dest, self);
+        dest.copy_from_slice(self);
     }
 }
 
@@ -119,9 +118,9 @@ impl TailBytes for (Option<Guid>, &[u8]) {
                 let guid = guid.to_bytes();
                 let (first, rest) = dest.split_at_mut(guid.len());
                 first.copy_from_slice(&guid);
-                copy_bytes(rest, self.1);
+                rest.copy_from_slice(self.1);
             }
-            None => copy_bytes(dest, self.1),
+            None => dest.copy_from_slice(self.1),
         }
     }
 }

@@ -13,7 +13,6 @@ ghost use Rattle.uefi_device_path.specs.Views.{nodes_of, option_entry};
 use crate::device_path::DevicePath;
 use crate::errors::OptionBuildError;
 use std::alloc::Allocator;
-use uefi_device_nodes::build_node::copy_bytes;
 use uefi_text::scan::{find_nul, split};
 
 /// The longest file path list that the header of a load option can state.
@@ -72,7 +71,7 @@ fn put_paths(bytes: &mut [u8], paths: &[DevicePath<'_>])
     for place in 0..paths.len() {
         let path = paths[place].as_bytes();
         let end = start + path.len();
-        copy_bytes(&mut bytes[start..end], path);
+        bytes[start..end].copy_from_slice(path);
         start = end;
     }
 }
@@ -163,7 +162,7 @@ impl<'a> LoadOptionBuilder<'a> {
         put_description(description, self.description);
         let (listed, optional) = rest.split_at_mut(list);
         put_paths(listed, self.paths);
-        copy_bytes(optional, self.optional);
+        optional.copy_from_slice(self.optional);
     }
 
     /// Writes the load option to the start of a buffer, and returns its length in bytes. The rest

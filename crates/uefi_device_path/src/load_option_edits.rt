@@ -16,7 +16,6 @@ ghost use Rattle.uefi_device_path.specs.declared.errors.LoadOptionError.{LoadOpt
 use crate::errors::{LoadOptionError, OptionBuildError};
 use crate::load_option::LoadOption;
 use crate::load_option_builder::put_description;
-use uefi_device_nodes::build_node::copy_bytes;
 use uefi_text::CStr16;
 
 /// Checks that bytes are a load option.
@@ -79,10 +78,10 @@ fn put_parts(bytes: &mut [u8], header: &[u8], units: &[u16], rest: &[u8])
     ensures { bytes.new ≡ header.now ++ (unit_bytes (nul_terminated units.now) ++ rest.now) }
 {
     let (head, described) = bytes.split_at_mut(6);
-    copy_bytes(head, header);
+    head.copy_from_slice(header);
     let (description, tail) = described.split_at_mut(2 * units.len() + 2);
     put_description(description, units);
-    copy_bytes(tail, rest);
+    tail.copy_from_slice(rest);
 }
 
 impl<'a> LoadOption<'a> {

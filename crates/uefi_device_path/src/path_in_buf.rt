@@ -14,7 +14,7 @@ ghost use Rattle.uefi_device_path.specs.Views.{nodes_of};
 use crate::device_path::DevicePath;
 use crate::device_path_buf::{check_node, node_header};
 use crate::errors::{BuildError, DevicePathError, GrowError, NodeError};
-use uefi_device_nodes::build_node::{BuildNode, copy_bytes};
+use uefi_device_nodes::build_node::BuildNode;
 
 /// Writes a node that may be before the end of a path, and the node that ends a path after it.
 fn put_node<N: BuildNode>(places: &mut [u8], node: &N)
@@ -102,9 +102,7 @@ pub(crate) fn push_at<N: BuildNode>(
 }
 
 /// Adds the nodes of another path, for which there is room, before the end of the path in the first `len`
-/// bytes of a buffer. Returns the number of bytes that the path then has. Not inlined, because the compiler
-/// calls `memcpy`, which firmware lacks, if it sees that the bytes do not overlap.
-#[inline(never)]
+/// bytes of a buffer. Returns the number of bytes that the path then has.
 pub(crate) fn put_nodes_at(buffer: &mut [u8], len: usize, path: DevicePath<'_>) -> usize
     requires within { len ≤ length buffer.now }
     requires is_path { IsPath (take len buffer.now) }
@@ -113,7 +111,7 @@ pub(crate) fn put_nodes_at(buffer: &mut [u8], len: usize, path: DevicePath<'_>) 
 {
     let added = path.as_bytes();
     let end = len + (added.len() - 4);
-    copy_bytes(&mut buffer[len - 4..end], added);
+    buffer[len - 4..end].copy_from_slice(added);
     end
 }
 

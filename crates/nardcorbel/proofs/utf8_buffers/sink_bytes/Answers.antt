@@ -15,8 +15,7 @@ returns c = λ before old sunk.
     let end = c.places_of_part-start.result.1 in
     let fits : length (slice_range buffer start end) ≡ end - start =
     omega (arith, length-take (end - start) (drop start buffer), length-drop start buffer, c.places_of_part-start.ensures.end) in
-    let copied : c.copy_bytes.new.places ≡ take (end - start) bytes =
-    c.copy_bytes.ensures ∙ ap (λ n. take n bytes) fits in
+    let copied : c.copy_from_slice.new.self ≡ take (end - start) bytes = c.copy_from_slice.ensures.after in
     record {
       count = omega (arith, c.saturating_add.ensures, sunk.count, length-append before bytes);
       written =

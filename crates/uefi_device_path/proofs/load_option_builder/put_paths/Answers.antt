@@ -7,8 +7,8 @@ use Rattle.uefi_device_path.proofs.load_option_builder.put_paths.Goals as goal
 pub loop-place-init : goal.loop-place-init
 loop-place-init c = (ap length (sym (front_none c.args.paths.now)), sym (front_none c.args.paths.now))
 
-pub slice_bounds-copy_bytes-end : goal.slice_bounds-copy_bytes-end
-slice_bounds-copy_bytes-end c =
+pub slice_bounds-copy_from_slice-end : goal.slice_bounds-copy_from_slice-end
+slice_bounds-copy_from_slice-end c =
     let paths = c.args.paths.now in
     let more = long_more paths c.loop-place.place c.index-paths-place.result c.as_bytes-path.result.now c.loop-place-test.true c.index-paths-place.is c.as_bytes-path.ensures.bytes in
     let all = front_within paths (c.loop-place.place + 1) in
@@ -20,8 +20,8 @@ loop-place-preserved c =
     let front = front_more paths c.loop-place.place c.index-paths-place.result c.as_bytes-path.result.now c.loop-place-test.true c.index-paths-place.is c.as_bytes-path.ensures.bytes in
     let more = long_more paths c.loop-place.place c.index-paths-place.result c.as_bytes-path.result.now c.loop-place-test.true c.index-paths-place.is c.as_bytes-path.ensures.bytes in
     let all = front_within paths c.loop-place.place in
-    let path = c.copy_bytes.new.dest in
-    let same : path ≡ c.as_bytes-path.result.now = c.copy_bytes.ensures in
+    let path = c.copy_from_slice.new.self in
+    let same : path ≡ c.as_bytes-path.result.now = c.copy_from_slice.ensures in
     let long : length path ≡ length c.as_bytes-path.result.now = ap length same in
     let taken = take-put_mid c.loop-place.start _ c.loop-place.bytes path (c.loop-place.start + length c.as_bytes-path.result.now)
     (omega (arith, long)) (omega (arith, all, c.loop-place.invariant.0, c.requires, c.loop-place.auto.bytes)) in (

@@ -8,7 +8,7 @@ use Rattle.uefi_device_path.proofs.path_in_buf.put_nodes_at.Goals as goal
 
 pub returns : goal.returns
 returns c =
-    let added = c.copy_bytes.new.dest in
+    let added = c.copy_from_slice.new.self in
     let is : added ≡ path_bytes (nodes_of c.args.path) = grind (arith, common_steps) in
     let ends : c.args.len + (length c.as_bytes-added.result.now - 4) ≡ c.args.len + (length added - 4) = grind (arith, common_steps) in
     record {

@@ -8,9 +8,9 @@ unfolding option_entry
 split_at_mut-description-requires c =
     omega (arith, long-entry_bytes (option_entry c.args.self.now), c.requires.whole, c.split_at_mut-header.ensures.back_len)
 
-pub copy_bytes-requires : goal.copy_bytes-requires
+pub copy_from_slice-requires : goal.copy_from_slice-requires
 unfolding option_entry
-copy_bytes-requires c =
+copy_from_slice-requires c =
     omega (
       arith,
       long-entry_bytes (option_entry c.args.self.now),
