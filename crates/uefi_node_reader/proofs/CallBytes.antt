@@ -1,9 +1,10 @@
 -- The data that a call of a connection over IP version 6 tells are bytes.
-use Rattle.std.proofs.Common.{◌≡◌, ℕ, zero, suc, ◌+◌, ◌-◌, ◌*◌, ◌/◌, ◌%◌, ◌^◌, ◌<◌, ◌≤◌, Bool, true, false, cond, eqb, List, [], ◌∷◌, ◌++◌, codes, length, take, drop, replicate, sym, ap, subst, ◌∙◌, arith, inl, inr, lit≤}
+use Rattle.std.proofs.Common.{◌≡◌, ℕ, zero, suc, ◌+◌, ◌-◌, ◌*◌, ◌/◌, ◌%◌, ◌^◌, ◌<◌, ◌≤◌, refl, Bool, true, false, cond, eqb, leb, List, [], ◌∷◌, ◌++◌, codes, length, take, drop, replicate, sym, ap, subst, ◌∙◌, arith, inl, inr, lit≤}
 use Rattle.std.specs.Prelude.{All, Option, Some, None}
 use Rattle.std.proofs.lemmas.Option.{none-some, same_Some}
 use Rattle.std.specs.List.{position_or_len}
 use Rattle.std.specs.Net.Addr.{octets_of, segments_of}
+use Rattle.std.specs.Option.{option_map}
 use Rattle.std.specs.Net.Grammar.{IsColonHex, IsDotted, IsGroup, IsGroupsAfter}
 use Rattle.std.specs.Net.Reader.{read_ipv6, whole_value}
 use Rattle.std.proofs.Math.Nat.{pow-le-pow_right}
@@ -17,7 +18,6 @@ use Rattle.uefi_node_reader.specs.ShortAddresses.{address_octets, address_read, 
 use Rattle.uefi_node_reader.specs.TableReading.{first_of}
 use Rattle.uefi_node_reader.specs.WordReading.{after, or_word}
 use Rattle.uefi_node_reader.proofs.LenientNumbers.{number_small}
-use Rattle.uefi_node_reader.proofs.SegmentOctets.{octets_of-append}
 
 abbrev AreBytes : List ℕ → Type 0
 AreBytes bytes = All (λ (b : ℕ). b < 256) bytes
@@ -61,6 +61,10 @@ groups_bytes ipv4 lead text (s ∷ segments) (inl h) =
 groups_bytes ipv4 lead text (s ∷ segments) (inr h) =
     subst (λ (x : List ℕ). AreBytes (octets_of x)) (sym h.5) (dotted_bytes h.0 h.1 h.4)
 
+octets_of-append : (head tail : List ℕ) → octets_of (head ++ tail) ≡ octets_of head ++ octets_of tail
+octets_of-append [] tail = refl
+octets_of-append (s ∷ head) tail = ap (λ (x : List ℕ). s / 256 ∷ (s % 256 ∷ x)) (octets_of-append head tail)
+
 hex_bytes : (text segments : List ℕ) → IsColonHex text segments → AreBytes (octets_of segments)
 hex_bytes text segments (inl h) = groups_bytes true [] text segments h.0
 hex_bytes text segments (inr h) =
@@ -70,10 +74,16 @@ hex_bytes text segments (inr h) =
     (both (octets_of h.head) (octets_of gap) (groups_bytes false [] h.head_text h.head h.head_groups) (zero_segments (8 - length h.head - length h.tail)))
     (groups_bytes true [] h.tail_text h.tail h.tail_groups))
 
+-- what is read if a test holds
+if_some : {A : Type 0} (b : Bool) (read : Option A) (a : A) → cond b read None ≡ Some a → read ≡ Some a
+if_some true read a e = e
+if_some false read a e = cc
+
 octets_bytes : (text octets : List ℕ) → address_octets text ≡ Some octets → AreBytes octets
 unfolding address_octets
 octets_bytes text octets e =
-    map_some octets_of (whole_value (read_ipv6 text)) octets e λ segments found same.
+    let read = if_some (leb (length text) 45) (option_map octets_of (whole_value (read_ipv6 text))) octets e in
+    map_some octets_of (whole_value (read_ipv6 text)) octets read λ segments found same.
     and_then_some _ (read_ipv6 text) segments found λ read is kept.
     let value = (cond_some (eqb (length read.1) 0) read.0 segments kept).1 in
     let (front, split, hex) = read_ipv6_sound text read.0 read.1 is in

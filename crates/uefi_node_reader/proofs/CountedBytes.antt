@@ -3,7 +3,7 @@ use Rattle.std.proofs.Common.{◌≡◌, ℕ, zero, suc, ◌+◌, ◌-◌, ◌^�
 use Rattle.std.proofs.lemmas.List.{append-nil, drop-set-lt, drop_all, length-set, length-take-le, set_past, take_all, take_at, take_more_set, take-append-drop}
 use Rattle.std.proofs.Math.Seq.{take-append-add}
 use Rattle.std.proofs.lemmas.Bool.{leb-false, leb-true, ltb-false, ltb-true}
-use Rattle.uefi_node_reader.specs.Counted.{pushed_bytes, pushed_byte}
+use Rattle.uefi_node_reader.specs.CountedBytes.{pushed_bytes, pushed_byte}
 
 -- first some, and then others
 pub pushed_bytes-append : (state : List ℕ × ℕ) (xs ys : List ℕ) → pushed_bytes state (xs ++ ys) ≡ pushed_bytes (pushed_bytes state xs) ys

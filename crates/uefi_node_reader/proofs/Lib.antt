@@ -9,8 +9,7 @@ pub mod PieceLaws
 pub mod ListLaws
 pub mod CountedBytes
 pub mod FixedParts
-pub mod SegmentOctets
-pub mod Heads
+pub mod FormsByFirstBytes
 pub mod ParsedNodes
 pub mod ListReads
 pub mod ClearTexts
@@ -29,7 +28,6 @@ pub mod PlainNodes
 pub mod NamedFiles
 mod FileNodes
 pub mod NodeLaws
-pub mod Spares
 pub mod LenientFields
 pub mod ToldNodes
 pub mod CallBytes

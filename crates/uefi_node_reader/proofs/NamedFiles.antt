@@ -20,7 +20,7 @@ use Rattle.uefi_text.proofs.Surrogates.{lone_first, pair_first}
 use Rattle.uefi_device_nodes.specs.FieldTexts.{is_escaped, shown_char, shown_units, until_nul, utf16_text}
 use Rattle.uefi_device_nodes.specs.Nodes.{Node, node_with}
 use Rattle.uefi_device_nodes.specs.NodeTexts.{irregular_text, node_text}
-use Rattle.uefi_node_reader.specs.Counted.{pushed_byte, pushed_bytes}
+use Rattle.uefi_node_reader.specs.CountedBytes.{pushed_byte, pushed_bytes}
 use Rattle.uefi_node_reader.specs.FieldReading.{read_if}
 use Rattle.uefi_node_reader.proofs.CountedBytes.{counted, past, pushed_bytes-append}
 use Rattle.uefi_node_reader.proofs.Digits.{some_pair}

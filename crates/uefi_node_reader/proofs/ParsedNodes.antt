@@ -9,7 +9,7 @@ use Rattle.uefi_device_nodes.specs.Rows.{Form}
 use Rattle.uefi_device_nodes.specs.declared.node_table.rows.Tail.{Tail}
 use Rattle.uefi_device_nodes.specs.declared.node_table.rows.Tail.TheVariants.{Nothing, Bytes, Text, Utf16, Name, Padded, Ids, Repeated}
 use Rattle.uefi_device_nodes.specs.Nodes.{Node, node_with}
-use Rattle.uefi_node_reader.specs.Counted.{pushed_bytes, put_on}
+use Rattle.uefi_node_reader.specs.CountedBytes.{pushed_bytes, put_on}
 use Rattle.uefi_node_reader.specs.FieldReading.{read_if}
 use Rattle.uefi_node_reader.specs.TableReading.{added, first_of, form_place, kept, prints, tail_read}
 use Rattle.uefi_node_reader.specs.ParsedNodes.{read_data, fitting}

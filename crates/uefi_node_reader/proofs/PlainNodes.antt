@@ -12,7 +12,7 @@ use Rattle.uefi_node_reader.specs.FieldReading.{comma_read, read_if}
 use Rattle.uefi_node_reader.specs.TableReading.{added}
 use Rattle.uefi_node_reader.specs.ParsedNodes.{fitting}
 use Rattle.uefi_node_reader.specs.WordReading.{after}
-use Rattle.uefi_node_reader.proofs.Heads.{form_shown}
+use Rattle.uefi_node_reader.proofs.FormsByFirstBytes.{form_shown}
 use Rattle.uefi_node_reader.specs.PlainNodes.{IsPlainNode, is_formed, is_plain, plain_read, plain_rest}
 use Rattle.uefi_node_reader.proofs.Digits.{decimal_base, number_again, number_takes, some_pair}
 use Rattle.uefi_node_reader.proofs.Literals.{after_takes, bind_some}

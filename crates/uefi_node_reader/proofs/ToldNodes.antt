@@ -18,13 +18,13 @@ use Rattle.uefi_device_nodes.specs.declared.node_table.rows.Tail.TheVariants.{No
 use Rattle.uefi_device_nodes.proofs.Forms.{found, long_enough}
 use Rattle.uefi_device_nodes.specs.Nodes.{Node, node_with}
 use Rattle.uefi_text.specs.UnitBytes.{unit_bytes}
-use Rattle.uefi_node_reader.specs.Counted.{pushed_bytes}
+use Rattle.uefi_node_reader.specs.CountedBytes.{pushed_bytes}
 use Rattle.uefi_node_reader.specs.FieldReading.{field_kept, is_clear}
 use Rattle.uefi_node_reader.specs.TableReading.{AreItems, IsTabled, IsTailTold, as_ids, blank, first_of, is_filled, is_exact, is_sound, overlay, padded, prints, put_at}
 use Rattle.uefi_node_reader.specs.CompleteTexts.{are_items, are_texts, tells, tells_data, tells_fixed, tells_tail}
 use Rattle.uefi_node_reader.proofs.CountedBytes.{pushed_is}
 use Rattle.uefi_node_reader.proofs.Groups.{table_filled, table_sound}
-use Rattle.uefi_node_reader.proofs.Heads.{form_same}
+use Rattle.uefi_node_reader.proofs.FormsByFirstBytes.{form_same}
 use Rattle.uefi_node_reader.proofs.LenientFields.{SetIn}
 use Rattle.uefi_node_reader.proofs.TableLaws.{exact_is_read, sound, values_same}
 

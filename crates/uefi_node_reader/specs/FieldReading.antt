@@ -24,14 +24,19 @@ byte_read (a ∷ b ∷ text) = if nat_lt (digit_of a) 16 && nat_lt (digit_of b) 
 -- bytes of two digits each, with `between` before each, and the rest of the text
 abbrev pub more_read : List ℕ → ℕ → List ℕ → Option (List ℕ × List ℕ)
 more_read between zero text = Some ([], text)
-more_read between (suc count) text = after between text >>= λ t. byte_read t >>= λ first.
-    more_read between count first.1 >>= λ others. Some (first.0 ∷ others.0, others.1)
+more_read between (suc count) text = do
+  t ← after between text
+  first ← byte_read t
+  others ← more_read between count first.1
+  Some (first.0 ∷ others.0, others.1)
 
 -- bytes of two digits each, with `between` between each two, and the rest of the text
 abbrev pub bytes_read : List ℕ → ℕ → List ℕ → Option (List ℕ × List ℕ)
 bytes_read between zero text = Some ([], text)
-bytes_read between (suc count) text = byte_read text >>= λ first.
-    more_read between count first.1 >>= λ others. Some (first.0 ∷ others.0, others.1)
+bytes_read between (suc count) text = do
+  first ← byte_read text
+  others ← more_read between count first.1
+  Some (first.0 ∷ others.0, others.1)
 
 -- the bytes of a number, the low byte first
 abbrev pub low_bytes : ℕ → ℕ → List ℕ
@@ -81,8 +86,9 @@ some_id id rest = if id == 0 then None else Some (id, rest)
 
 -- an ID from its four digits on, and the rest of the text
 abbrev pub digits_of_id : ℕ → ℕ × List ℕ → Option (ℕ × List ℕ)
-digits_of_id letters high =
-    byte_read high.1 >>= λ low. some_id (letters + (high.0 * 256 + low.0) * 65536) low.1
+digits_of_id letters high = do
+  low ← byte_read high.1
+  some_id (letters + (high.0 * 256 + low.0) * 65536) low.1
 
 -- an EISA ID, or 0, and the rest of the text
 abbrev pub eisa_read : List ℕ → Option (ℕ × List ℕ)

@@ -131,12 +131,16 @@ plain_names = (codes "Path(", None) ∷ (codes "HardwarePath(", Some HARDWARE_TY
 
 -- the node of no known kind of a type, from its sub-type on in a tidied text, and the rest of the text
 abbrev pub sub_type_told : ℕ → List ℕ → Option (Node × List ℕ)
-sub_type_told kind text = any_number 256 text >>= λ sub_kind. plain_rest kind sub_kind.0 sub_kind.1
+sub_type_told kind text = do
+  sub_kind ← any_number 256 text
+  plain_rest kind sub_kind.0 sub_kind.1
 
 -- the node of no known kind, from its type on in a tidied text, or from its sub-type on if its type is known,
 -- and the rest of the text
 abbrev pub types_told : Option ℕ → List ℕ → Option (Node × List ℕ)
-types_told None text = any_number 256 text >>= λ kind. after (codes ",") kind.1 >>= sub_type_told kind.0
+types_told None text = do
+  kind ← any_number 256 text
+  after (codes ",") kind.1 >>= sub_type_told kind.0
 types_told (Some kind) text = sub_type_told kind text
 
 -- the rest of a text after a node of no known kind, from its sub-type on, or where the text stops

@@ -22,9 +22,10 @@ pub mod LenientNodes
 pub mod Alike
 pub mod Libefivar
 pub mod Styles
-pub mod Counted
+pub mod CountedBytes
 pub mod DataForms
 pub mod ParsedNodes
 pub mod ParsedNodeViews
 pub mod ReadNodes
+pub mod ReadViews
 pub mod Utf16Texts

@@ -23,8 +23,9 @@ forms_exact (form ∷ forms) text = option_or (told_in form (form_read form text
 
 -- the node of the call at the start of a text in a form that only libefivar writes, and the rest of the text
 abbrev pub own_call : List ℕ → Option (Node × List ℕ)
-own_call text = cut_call text >>= λ call.
-    option_map (λ node. (node, call.1)) (forms_exact libefivar_forms (tidied call.0))
+own_call text = do
+  call ← cut_call text
+  option_map (λ node. (node, call.1)) (forms_exact libefivar_forms (tidied call.0))
 
 -- the node in a form that only libefivar prints, and the rest of the text, if the text begins with a call
 abbrev pub own_read : List ℕ → Option (Node × List ℕ)
@@ -36,8 +37,9 @@ stop_after what name text = option_map (λ rest. stop_at rest what) (after name 
 
 -- a stop after this name, if a tidied call begins with it and no `0x` follows
 abbrev pub base_after : List ℕ → List ℕ → Option Stop
-base_after name text = after name text >>= λ rest.
-    if begins_with (codes "0x") rest then None else Some (stop_at rest expected.Base)
+base_after name text = do
+  rest ← after name text
+  if begins_with (codes "0x") rest then None else Some (stop_at rest expected.Base)
 
 -- where a tidied call stops that libefivar prints for different nodes, in a form that it does not share, or
 -- with a text of the device in place of its number
@@ -50,9 +52,10 @@ own_stop text = option_or (stop_after expected.AsPrinted (codes "NVME(") text)
 
 -- the fault of a text that begins with a call of libefivar that stops
 abbrev pub own_fault : List ℕ → Option NodeFault
-own_fault text = cut_call text >>= λ call.
-    option_map (λ stop. fault_at_byte (place_at (length (tidied call.0) - stop.left) text) stop.expected)
-    (own_stop (tidied call.0))
+own_fault text = do
+  call ← cut_call text
+  option_map (λ stop. fault_at_byte (place_at (length (tidied call.0) - stop.left) text) stop.expected)
+      (own_stop (tidied call.0))
 
 -- what was read in a form that only libefivar prints, or else the fault of a call of libefivar that stops, or
 -- else what people write

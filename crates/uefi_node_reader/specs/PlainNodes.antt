@@ -26,14 +26,18 @@ pub record IsPlainNode (node : Node) : Type 0 where
 
 -- the node of a type and a sub-type, from its data on in a text, and the rest of the text
 abbrev pub plain_rest : ℕ → ℕ → List ℕ → Option (Node × List ℕ)
-plain_rest kind sub_kind text = comma_read text >>= λ content. after (codes ")") content.1 >>= λ rest.
-    read_if (is_plain (node_with kind sub_kind content.0)) (node_with kind sub_kind content.0) rest
+plain_rest kind sub_kind text = do
+  content ← comma_read text
+  rest ← after (codes ")") content.1
+  read_if (is_plain (node_with kind sub_kind content.0)) (node_with kind sub_kind content.0) rest
 
 -- the node of no known kind, from its type on in a text, and the rest of the text
 abbrev pub types_read : List ℕ → Option (Node × List ℕ)
-types_read text = number_read 10 256 text >>= λ kind.
-    after (codes ",") kind.1 >>= λ u. number_read 10 256 u >>= λ sub_kind.
-    plain_rest kind.0 sub_kind.0 sub_kind.1
+types_read text = do
+  kind ← number_read 10 256 text
+  u ← after (codes ",") kind.1
+  sub_kind ← number_read 10 256 u
+  plain_rest kind.0 sub_kind.0 sub_kind.1
 
 -- the node of no known kind at the start of a text, and the rest of the text
 abbrev pub plain_read : List ℕ → Option (Node × List ℕ)

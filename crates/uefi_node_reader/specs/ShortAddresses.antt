@@ -1,8 +1,9 @@
 -- Nodes of IPv6 connections as people write them, in tidied calls: with addresses in any form of RFC 4291,
 -- section 2.2, and without the fields that people omit.
-use Rattle.std.specs.Prelude.{ℕ, Bool, true, false, ◌==◌, ◌&&◌, ◌||◌, if◌then◌else◌, List, [], ◌∷◌, ◌++◌, codes, drop, length, slice_index, take, Option, Some, None}
+use Rattle.std.specs.Prelude.{ℕ, nat_le, Bool, true, false, ◌==◌, ◌&&◌, ◌||◌, if◌then◌else◌, List, [], ◌∷◌, ◌++◌, codes, drop, length, slice_index, take, Option, Some, None}
 use Rattle.std.specs.List.{position_or_len}
-use Rattle.std.specs.Net.Addr.{octets_of}
+use Rattle.std.specs.Net.Addr.{ipv6_octets, octets_of}
+use Rattle.std.specs.declared.net.ipv6_addr.Ipv6Addr.{Ipv6Addr}
 use Rattle.std.specs.Net.Reader.{read_ipv6, whole_value}
 use Rattle.std.specs.Option.{option_map}
 use Rattle.std.proofs.Math.ListN.{replicate}
@@ -18,9 +19,11 @@ use Rattle.uefi_node_reader.specs.LenientFields.{any_number}
 use Rattle.uefi_node_reader.specs.TableReading.{first_of, prints}
 use Rattle.uefi_node_reader.specs.WordReading.{after, or_word}
 
--- the octets of the address that a whole text encodes
+-- the octets of the address that a whole text encodes; the longest text is that of eight segments, of which
+-- an IPv4 address stands for the last two
 unfoldable pub address_octets : List ℕ → Option (List ℕ)
-address_octets text = option_map octets_of (whole_value (read_ipv6 text))
+address_octets text = if nat_le (length text) 45
+    then option_map octets_of (whole_value (read_ipv6 text)) else None
 
 -- whether a byte ends an address: a comma, a `)` or a `]`
 abbrev pub ends_address : ℕ → Bool
@@ -33,8 +36,10 @@ bare_address text = option_map (λ octets. (octets, drop (position_or_len ends_a
 
 -- the octets of an address from the byte after `[` on, and the rest of the text after the `]`
 abbrev pub closed_address : List ℕ → Option (List ℕ × List ℕ)
-closed_address text = bare_address text >>= λ address.
-    after (codes "]") address.1 >>= λ rest. Some (address.0, rest)
+closed_address text = do
+  address ← bare_address text
+  rest ← after (codes "]") address.1
+  Some (address.0, rest)
 
 -- the octets of an address, perhaps in brackets, and the rest of the text
 abbrev pub address_read : List ℕ → Option (List ℕ × List ℕ)
@@ -65,13 +70,18 @@ at_end read = if closes_call read.1 then Some read.0 else None
 
 -- the prefix length and the gateway at the end of a call
 abbrev pub last_fields : List ℕ → Option (ℕ × List ℕ)
-last_fields text = any_number 256 text >>= λ prefix. after (codes ",") prefix.1 >>= address_read >>= at_end
-    >>= λ gateway. Some (prefix.0, gateway)
+last_fields text = do
+  prefix ← any_number 256 text
+  gateway ← after (codes ",") prefix.1 >>= address_read >>= at_end
+  Some (prefix.0, gateway)
 
 -- the end of a connection's data: the prefix length and the gateway, which a short node lacks
 abbrev pub last_part : Option (ℕ × List ℕ) → List ℕ
 last_part None = []
 last_part (Some gateway) = gateway.0 ∷ gateway.1
+
+abbrev pub gateway_part : Option (ℕ × Ipv6Addr) → List ℕ
+gateway_part gateway = last_part (option_map (λ y. (y.0, ipv6_octets y.1)) gateway)
 
 -- the end of the data, from the end of a call after the local address; a call that ends there is a short node
 abbrev pub last_read : List ℕ → Option (List ℕ)
@@ -120,9 +130,12 @@ is_fixed tail = false
 
 -- a node with no data after its fixed part, if it is completely described by the text that it is printed as
 abbrev pub told_fixed : Node → Option Node
-told_fixed node = find_form (prints node) forms >>= λ form.
-    if is_fixed form.tail && tells form node then Some node else None
+told_fixed node = do
+  form ← find_form (prints node) forms
+  if is_fixed form.tail && tells form node then Some node else None
 
 -- the node of an IPv6 connection, from its tidied call
 unfoldable pub short_ipv6 : List ℕ → Option Node
-short_ipv6 text = call_data text >>= λ content. told_fixed (node_with MESSAGING_TYPE IPV6 content)
+short_ipv6 text = do
+  content ← call_data text
+  told_fixed (node_with MESSAGING_TYPE IPV6 content)

@@ -36,22 +36,27 @@ put_at piece value content =
 
 -- data with a field from a text, and the rest of the text after the field's ending
 abbrev pub piece_put : Piece → List ℕ → List ℕ → Option (List ℕ × List ℕ)
-piece_put piece content text = field_read piece.shape piece.width text >>= λ value.
-    after piece.ending value.1 >>= λ rest. Some (put_at piece value.0 content, rest)
+piece_put piece content text = do
+  value ← field_read piece.shape piece.width text
+  rest ← after piece.ending value.1
+  Some (put_at piece value.0 content, rest)
 
 -- data with several fields from a text, and the rest of the text after their endings
 abbrev pub pieces_put : List Piece → List ℕ → List ℕ → Option (List ℕ × List ℕ)
 pieces_put [] content text = Some (content, text)
-pieces_put (piece ∷ pieces) content text =
-    piece_put piece content text >>= λ read. pieces_put pieces read.0 read.1
+pieces_put (piece ∷ pieces) content text = do
+  read ← piece_put piece content text
+  pieces_put pieces read.0 read.1
 
 -- the items of a list that continue in a text, given the text after the start of the first, if an item begins
 -- there
 abbrev pub more_items : (List ℕ → Option (List ℕ × List ℕ)) → Item → List ℕ → Option (List ℕ)
     → Option (List ℕ × List ℕ)
 more_items others item text None = Some ([], text)
-more_items others item text (Some fields) = pieces_put item.pieces (replicate item.size 0) fields >>= λ first.
-    others first.1 >>= λ read. Some (first.0 ++ read.0, read.1)
+more_items others item text (Some fields) = do
+  first ← pieces_put item.pieces (replicate item.size 0) fields
+  read ← others first.1
+  Some (first.0 ++ read.0, read.1)
 
 -- the items at the start of a text, at most `most`, and the rest of the text
 abbrev pub items_read : ℕ → Item → List ℕ → Option (List ℕ × List ℕ)
@@ -90,9 +95,10 @@ as_ids hid cid uid = hid ++ (0 ∷ (uid ++ (0 ∷ (cid ++ (0 ∷ [])))))
 -- the ID strings of a device from a text: the strings of _HID and of _CID up to a comma, and then the string
 -- of _UID
 abbrev pub ids_read : ℕ → List ℕ → Option (List ℕ × List ℕ)
-ids_read stop text = after (codes ",") (clear_run 44 text).1 >>= λ t.
-    after (codes ",") (clear_run 44 t).1 >>= λ u.
-    Some (as_ids (clear_run 44 text).0 (clear_run 44 t).0 (clear_run stop u).0, (clear_run stop u).1)
+ids_read stop text = do
+  t ← after (codes ",") (clear_run 44 text).1
+  u ← after (codes ",") (clear_run 44 t).1
+  Some (as_ids (clear_run 44 text).0 (clear_run 44 t).0 (clear_run stop u).0, (clear_run stop u).1)
 
 -- the data after the fields, before the end of the text, and the rest of the text
 abbrev pub tail_read : Tail → List ℕ → List ℕ → Option (List ℕ × List ℕ)
@@ -115,8 +121,10 @@ followed tail fixed = Some (fixed.0 ++ tail, fixed.1)
 
 -- all data of a node, from the data after the fields on, given the fixed part
 abbrev pub rest_read : Form → List ℕ × List ℕ → Option (List ℕ × List ℕ)
-rest_read form head = tail_read form.tail form.close head.1 >>= λ tail. after form.close tail.1 >>= λ rest.
-    pieces_put form.rest head.0 rest >>= followed tail.0
+rest_read form head = do
+  tail ← tail_read form.tail form.close head.1
+  rest ← after form.close tail.1
+  pieces_put form.rest head.0 rest >>= followed tail.0
 
 -- whether texts of a form are read
 abbrev pub is_read : Mode → Bool

@@ -3,7 +3,7 @@
 #![tactic(auto)]
 
 ghost use Rattle.std.specs.Prelude.{◌≡◌};
-ghost use Rattle.uefi_node_reader.specs.Counted.{pushed_bytes, pushed_byte};
+ghost use Rattle.uefi_node_reader.specs.CountedBytes.{pushed_bytes, pushed_byte};
 
 /// Puts a byte after `len` others, if there is room. Returns the new number of bytes.
 pub(crate) fn push(places: &mut [u8], len: usize, byte: u8) -> usize

@@ -2,10 +2,10 @@
 #![tactic(auto)]
 
 ghost use Rattle.std.specs.Prelude.{◌≡◌, ◌∷◌, ℕ, List, ◌≤◌, None, Some, if◌then◌else◌, length, nat_le, true};
-ghost use Rattle.std.specs.Option.{option_map};
 ghost use Rattle.std.specs.Str.{is_utf8};
+ghost use Rattle.uefi_node_reader.specs.ReadViews.{read_as};
 ghost use Rattle.uefi_node_reader.specs.FileNodes.{node_of_file, rooted_data};
-ghost use Rattle.uefi_node_reader.specs.Counted.{pushed_bytes};
+ghost use Rattle.uefi_node_reader.specs.CountedBytes.{pushed_bytes};
 ghost use Rattle.uefi_node_reader.specs.NamedFiles.{name_read};
 
 use crate::counted_bytes::push;
@@ -78,7 +78,7 @@ impl<T: NameText> FileNode<T> {
 
 /// Reads the node of the name whose first backslash precedes a text, and returns the rest of the text too.
 pub(crate) fn after_root<T: NameText>(text: T) -> Option<(FileNode<T>, T)>
-    ensures { option_map (λ x. (node_of_file x.0, T.bytes x.1)) result ≡ name_read (92 ∷ T.bytes text) }
+    ensures { read_as node_of_file T.bytes result ≡ name_read (92 ∷ T.bytes text) }
 {
     let (name, rest) = text.split_name();
     if !name.has_name_chars() {
@@ -90,7 +90,7 @@ pub(crate) fn after_root<T: NameText>(text: T) -> Option<(FileNode<T>, T)>
 
 /// Reads the node of the name at the start of a text, and returns the rest of the text too.
 pub(crate) fn name<T: NameText>(text: T) -> Option<(FileNode<T>, T)>
-    ensures { option_map (λ x. (node_of_file x.0, T.bytes x.1)) result ≡ name_read (T.bytes text) }
+    ensures { read_as node_of_file T.bytes result ≡ name_read (T.bytes text) }
 {
     let (first, rest) = text.split_first()?;
     if first != b'\\' {

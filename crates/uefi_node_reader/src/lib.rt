@@ -5,7 +5,6 @@
 //! prints them. Callers use `uefi_device_path`, which reads whole paths.
 #![tactic(auto)]
 
-mod address_texts;
 mod counted_bytes;
 pub mod errors;
 pub mod exact;

@@ -10,6 +10,7 @@ ghost use Rattle.std.specs.Prelude.{◌≡◌, IsTrue, map};
 ghost use Rattle.std.specs.List.{list_all};
 ghost use Rattle.std.specs.Option.{option_map};
 ghost use Rattle.uefi_device_nodes.specs.Rows.{as_form};
+ghost use Rattle.uefi_node_reader.specs.ReadViews.{read_as};
 ghost use Rattle.uefi_node_reader.specs.Libefivar.{base_after, forms_exact, own_call, own_fault, own_read, own_stop, stop_after};
 ghost use Rattle.uefi_node_reader.specs.TableReading.{is_filled, is_sound};
 ghost use Rattle.uefi_node_reader.specs.ParsedNodeViews.{parsed_node};
@@ -43,7 +44,7 @@ fn exact_group<T: Text>(rows: &[Row], text: T) -> Option<ParsedNode<T>>
 
 /// Reads the call at the start of a text in a form of libefivar. Returns the node and the rest of the text.
 fn own_call<T: NameText>(text: T) -> Option<(ParsedNode<Tidied<T>>, T)>
-    ensures { option_map (λ x. (parsed_node x.0, T.bytes x.1)) result ≡ own_call (T.bytes text) }
+    ensures { read_as parsed_node T.bytes result ≡ own_call (T.bytes text) }
 {
     let (front, rest) = cut_call(text)?;
     let node = exact_group(libefivar_forms(), tidy(front))?;
@@ -53,7 +54,7 @@ fn own_call<T: NameText>(text: T) -> Option<(ParsedNode<Tidied<T>>, T)>
 /// Reads a node in a form of libefivar, if the text begins with a call. Returns the rest of the text
 /// too.
 pub(crate) fn own<T: NameText>(text: T) -> Option<(ParsedNode<Tidied<T>>, T)>
-    ensures { option_map (λ x. (parsed_node x.0, T.bytes x.1)) result ≡ own_read (T.bytes text) }
+    ensures { read_as parsed_node T.bytes result ≡ own_read (T.bytes text) }
 {
     if begins_call(text) {
         return own_call(text);

@@ -6,7 +6,7 @@ ghost use Rattle.std.specs.Char.Escape.{encode_utf16};
 ghost use Rattle.std.specs.List.{flat_map};
 ghost use Rattle.std.specs.Str.{chars};
 ghost use Rattle.uefi_text.specs.UnitBytes.{unit_bytes};
-ghost use Rattle.uefi_node_reader.specs.Counted.{pushed_byte, pushed_bytes};
+ghost use Rattle.uefi_node_reader.specs.CountedBytes.{pushed_byte, pushed_bytes};
 
 use crate::counted_bytes::push;
 

@@ -6,7 +6,7 @@ ghost use Rattle.std.specs.Char.Escape.{encode_utf16};
 ghost use Rattle.std.specs.List.{flat_map, list_all, position_or_len};
 ghost use Rattle.std.specs.Str.{IsAscii, chars, is_utf8};
 ghost use Rattle.uefi_text.specs.UnitBytes.{unit_bytes};
-ghost use Rattle.uefi_node_reader.specs.Counted.{pushed_bytes};
+ghost use Rattle.uefi_node_reader.specs.CountedBytes.{pushed_bytes};
 ghost use Rattle.uefi_node_reader.specs.NamedFiles.{before_spaces, ends_name, is_after_node, is_name_char, name_bytes, past_spaces};
 
 use crate::name_data::push_text;

@@ -2,9 +2,8 @@
 #![tactic(auto, unfolding(crate::specs::NamedFiles::node_read))]
 
 ghost use Rattle.std.specs.Prelude.{◌≡◌, codes};
-ghost use Rattle.std.specs.Option.{option_map};
-ghost use Rattle.std.specs.Result.{result_map_both};
 ghost use Rattle.uefi_device_nodes.specs.Table.{forms};
+ghost use Rattle.uefi_node_reader.specs.ReadViews.{read_as, read_or_err};
 ghost use Rattle.uefi_node_reader.specs.Alike.{CallsAlike, ZerosAlike, ZerosAlikeAfterBase};
 ghost use Rattle.uefi_node_reader.specs.FieldReading.{either_read};
 ghost use Rattle.uefi_node_reader.specs.Laws.{NodeAgain, NodeFits, NodeStarts, NodeTakes, NodeTextOnce};
@@ -31,7 +30,7 @@ use crate::texts::Text;
 
 /// Reads the node of a call at the start of a text, exactly as it is printed.
 fn call<T: Text>(text: T) -> Option<(ParsedNode<T>, T)>
-    ensures { option_map (λ x. (parsed_node x.0, T.bytes x.1)) result
+    ensures { read_as parsed_node T.bytes result
         ≡ either_read (table_read forms (T.bytes text)) (plain_read (T.bytes text)) }
 {
     if let Some(read) = by_table(text) {
@@ -44,7 +43,7 @@ fn call<T: Text>(text: T) -> Option<(ParsedNode<T>, T)>
 /// rest may begin with any byte. Returns `None` only if no node that its text describes completely has such a
 /// text before a slash, a comma or the end. Does not allocate.
 pub fn read_node<T: NameText>(text: T) -> Option<(ReadNode<T>, T)>
-    ensures { option_map (λ x. (node_from_text x.0, T.bytes x.1)) result ≡ node_read (T.bytes text) }
+    ensures { read_as node_from_text T.bytes result ≡ node_read (T.bytes text) }
 {
     // No text of a call begins with a backslash.
     if first_of(text) != b'\\' {
@@ -57,8 +56,8 @@ pub fn read_node<T: NameText>(text: T) -> Option<(ReadNode<T>, T)>
 
 /// Returns what was read, if a node may end there.
 pub(crate) fn ended<T: NameText>(read: Option<(ReadNode<T>, T)>) -> Option<(ReadNode<T>, T)>
-    ensures { option_map (λ x. (node_from_text x.0, T.bytes x.1)) result
-        ≡ ended (option_map (λ x. (node_from_text x.0, T.bytes x.1)) read) }
+    ensures { read_as node_from_text T.bytes result
+        ≡ ended (read_as node_from_text T.bytes read) }
 {
     let (node, rest) = read?;
     if is_after_node(rest) {
@@ -83,7 +82,7 @@ pub(crate) fn ended_at<T: NameText>(
     text: T,
     read: (ReadNode<T>, T),
 ) -> Result<(ReadNode<T>, T), NodeFault>
-    ensures { result_map_both (λ x. (node_from_text x.0, T.bytes x.1)) (λ e. e) result
+    ensures { read_or_err node_from_text T.bytes result
         ≡ ended_at (T.bytes text) (node_from_text read.0, T.bytes read.1) }
 {
     let (node, rest) = read;
@@ -96,7 +95,7 @@ pub(crate) fn ended_at<T: NameText>(
 
 /// Reads the node at the start of a text that begins with a call.
 fn called<T: NameText>(text: T) -> Result<(ReadNode<T>, T), NodeFault>
-    ensures { result_map_both (λ x. (node_from_text x.0, T.bytes x.1)) (λ e. e) result
+    ensures { read_or_err node_from_text T.bytes result
         ≡ file_or_call (after_literal (codes "File(") (past_spaces (T.bytes text))) (T.bytes text) }
 {
     match after_literal(b"File(", past_spaces(text)) {
@@ -110,7 +109,7 @@ fn called<T: NameText>(text: T) -> Result<(ReadNode<T>, T), NodeFault>
 
 /// Reads the node at the start of a text, in any form that people write except the printed one.
 fn written<T: NameText>(is_rooted: bool, text: T) -> Result<(ReadNode<T>, T), NodeFault>
-    ensures { result_map_both (λ x. (node_from_text x.0, T.bytes x.1)) (λ e. e) result
+    ensures { read_or_err node_from_text T.bytes result
         ≡ written_read is_rooted (T.bytes text) }
 {
     if begins_call(text) {
@@ -161,7 +160,7 @@ pub fn read_lenient_node<T: NameText>(
     is_rooted: bool,
     text: T,
 ) -> Result<(ReadNode<T>, T), NodeFault>
-    ensures { result_map_both (λ x. (node_from_text x.0, T.bytes x.1)) (λ e. e) result
+    ensures { read_or_err node_from_text T.bytes result
         ≡ lenient_read is_rooted (T.bytes text) }
 {
     if is_escaped_name(text) {

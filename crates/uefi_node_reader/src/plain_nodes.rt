@@ -2,10 +2,10 @@
 #![tactic(auto)]
 
 ghost use Rattle.std.specs.Prelude.{◌≡◌, ℕ, List, false, length};
-ghost use Rattle.std.specs.Option.{ok_or, option_and_then, option_map};
-ghost use Rattle.std.specs.Result.{result_map_both};
+ghost use Rattle.std.specs.Option.{ok_or, option_and_then};
 ghost use Rattle.uefi_device_nodes.specs.Nodes.{node_with};
 ghost use Rattle.uefi_device_nodes.specs.NodeTexts.{is_irregular};
+ghost use Rattle.uefi_node_reader.specs.ReadViews.{read_as, rest_or_err, value_of};
 ghost use Rattle.uefi_node_reader.specs.LenientFields.{any_number};
 ghost use Rattle.uefi_node_reader.specs.LenientCalls.{sub_type_end, sub_type_told, types_end, types_told};
 ghost use Rattle.uefi_node_reader.specs.Numerals.{number_read};
@@ -51,7 +51,7 @@ fn is_plain<T: Text>(node: &ParsedNode<T>) -> bool
 
 /// Reads a byte in decimal, and returns the rest of the text too.
 fn byte_number<T: Text>(text: T) -> Option<(u8, T)>
-    ensures { option_map (λ x. (x.0, T.bytes x.1)) result ≡ number_read 10 256 (T.bytes text) }
+    ensures { value_of T.bytes result ≡ number_read 10 256 (T.bytes text) }
 {
     let (value, rest) = number(10, 0xff, text)?;
     Some((value as u8, rest))
@@ -69,7 +69,7 @@ fn types<T: Text>(text: T) -> Option<(u8, u8, T)>
 
 /// Reads a node of a type and a sub-type from its data on.
 fn plain_from<T: Text>(device_type: u8, sub_type: u8, text: T) -> Option<(ParsedNode<T>, T)>
-    ensures { option_map (λ x. (parsed_node x.0, T.bytes x.1)) result
+    ensures { read_as parsed_node T.bytes result
         ≡ plain_rest device_type sub_type (T.bytes text) }
 {
     let (node, rest) = ParsedNode::with_tail(
@@ -90,7 +90,7 @@ fn plain_from<T: Text>(device_type: u8, sub_type: u8, text: T) -> Option<(Parsed
 
 /// Reads a node of no known kind from its type on, and returns the rest of the text too.
 fn plain_types<T: Text>(text: T) -> Option<(ParsedNode<T>, T)>
-    ensures { option_map (λ x. (parsed_node x.0, T.bytes x.1)) result ≡ types_read (T.bytes text) }
+    ensures { read_as parsed_node T.bytes result ≡ types_read (T.bytes text) }
 {
     let (device_type, sub_type, rest) = types(text)?;
     plain_from(device_type, sub_type, rest)
@@ -98,14 +98,14 @@ fn plain_types<T: Text>(text: T) -> Option<(ParsedNode<T>, T)>
 
 /// Reads a node of no known kind, and returns the rest of the text too.
 pub(crate) fn plain<T: Text>(text: T) -> Option<(ParsedNode<T>, T)>
-    ensures { option_map (λ x. (parsed_node x.0, T.bytes x.1)) result ≡ plain_read (T.bytes text) }
+    ensures { read_as parsed_node T.bytes result ≡ plain_read (T.bytes text) }
 {
     plain_types(after(b"Path(", text)?)
 }
 
 /// Reads a byte of a tidied text from its number, and returns the rest of the text too.
 fn any_byte<T: Text>(text: T) -> Option<(u8, T)>
-    ensures { option_map (λ x. (x.0, T.bytes x.1)) result ≡ any_number 256 (T.bytes text) }
+    ensures { value_of T.bytes result ≡ any_number 256 (T.bytes text) }
 {
     let (value, rest) = any_number(0xff, text)?;
     Some((value as u8, rest))
@@ -114,7 +114,7 @@ fn any_byte<T: Text>(text: T) -> Option<(u8, T)>
 /// Reads a node of no known kind of a type from its sub-type on, as people write it, and returns the rest of
 /// the text too.
 fn told_sub_type<T: Text>(device_type: u8, text: T) -> Option<(ParsedNode<T>, T)>
-    ensures { option_map (λ x. (parsed_node x.0, T.bytes x.1)) result
+    ensures { read_as parsed_node T.bytes result
         ≡ sub_type_told device_type (T.bytes text) }
 {
     let (sub_type, rest) = any_byte(text)?;
@@ -124,7 +124,7 @@ fn told_sub_type<T: Text>(device_type: u8, text: T) -> Option<(ParsedNode<T>, T)
 /// Reads a node of no known kind from its type on, as people write it, or from its sub-type on if its type
 /// is known. Returns the rest of the text too.
 pub(crate) fn told_types<T: Text>(device_type: Option<u8>, text: T) -> Option<(ParsedNode<T>, T)>
-    ensures { option_map (λ x. (parsed_node x.0, T.bytes x.1)) result
+    ensures { read_as parsed_node T.bytes result
         ≡ types_told device_type (T.bytes text) }
 {
     if let Some(device_type) = device_type {
@@ -136,7 +136,7 @@ pub(crate) fn told_types<T: Text>(device_type: Option<u8>, text: T) -> Option<(P
 
 /// Reads the number of a byte, and returns the rest of the text.
 fn byte_end<T: Text>(text: T) -> Result<T, Stop>
-    ensures { result_map_both (λ x. T.bytes x) (λ e. e) result
+    ensures { rest_or_err T.bytes result
         ≡ ok_or (past (any_number 256 (T.bytes text))) (stop_at (T.bytes text) (Number 255)) }
 {
     match any_number(0xff, text) {
@@ -148,7 +148,7 @@ fn byte_end<T: Text>(text: T) -> Result<T, Stop>
 /// Reads a node of no known kind from its sub-type on, as people write it, and returns only the rest of the
 /// text.
 fn sub_type_end<T: Text>(text: T) -> Result<T, Stop>
-    ensures { result_map_both (λ x. T.bytes x) (λ e. e) result ≡ sub_type_end (T.bytes text) }
+    ensures { rest_or_err T.bytes result ≡ sub_type_end (T.bytes text) }
 {
     let rest = byte_end(text)?;
     rest_end(Tail::Bytes, b")", rest)
@@ -156,7 +156,7 @@ fn sub_type_end<T: Text>(text: T) -> Result<T, Stop>
 
 /// Reads a node as [`told_types`] does, and returns only the rest of the text.
 pub(crate) fn types_end<T: Text>(device_type: Option<u8>, text: T) -> Result<T, Stop>
-    ensures { result_map_both (λ x. T.bytes x) (λ e. e) result ≡ types_end device_type (T.bytes text) }
+    ensures { rest_or_err T.bytes result ≡ types_end device_type (T.bytes text) }
 {
     if device_type.is_some() {
         return sub_type_end(text);

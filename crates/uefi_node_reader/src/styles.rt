@@ -2,7 +2,7 @@
 #![tactic(auto)]
 
 ghost use Rattle.std.specs.Prelude.{◌≡◌};
-ghost use Rattle.std.specs.Result.{result_map_both};
+ghost use Rattle.uefi_node_reader.specs.ReadViews.{read_or_err};
 ghost use Rattle.uefi_node_reader.specs.Libefivar.{libefivar_read};
 ghost use Rattle.uefi_node_reader.specs.Styles.{PrintedExactly, StyledAgain, StyledEnds, StyledFaultWithin, StyledStarts, StyledTakes, styled_read};
 ghost use Rattle.uefi_node_reader.specs.ReadNodes.{node_from_text};
@@ -28,7 +28,7 @@ pub enum TextStyle {
 /// fault of the text.
 #[tactic(auto, unfolding(crate::specs::Libefivar::libefivar_read))]
 fn read_libefivar_node<T: NameText>(is_rooted: bool, text: T) -> Result<(ReadNode<T>, T), NodeFault>
-    ensures { result_map_both (λ x. (node_from_text x.0, T.bytes x.1)) (λ e. e) result
+    ensures { read_or_err node_from_text T.bytes result
         ≡ libefivar_read is_rooted (T.bytes text) }
 {
     if let Some((node, rest)) = own(text) {
@@ -51,7 +51,7 @@ pub fn read_styled_node<T: NameText>(
     is_rooted: bool,
     text: T,
 ) -> Result<(ReadNode<T>, T), NodeFault>
-    ensures { result_map_both (λ x. (node_from_text x.0, T.bytes x.1)) (λ e. e) result
+    ensures { read_or_err node_from_text T.bytes result
         ≡ styled_read style is_rooted (T.bytes text) }
 {
     match style {

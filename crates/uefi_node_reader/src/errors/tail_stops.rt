@@ -3,7 +3,7 @@
 
 ghost use Rattle.std.specs.Option.{ok_or, option_map};
 ghost use Rattle.std.specs.Prelude.{◌≡◌};
-ghost use Rattle.std.specs.Result.{result_map_both};
+ghost use Rattle.uefi_node_reader.specs.ReadViews.{rest_or_err};
 ghost use Rattle.uefi_node_reader.specs.Stops.{close_stop, exact_end, past, rest_end, stop_of, tail_stop};
 ghost use Rattle.uefi_node_reader.specs.TableReading.{tail_read};
 
@@ -17,7 +17,7 @@ use uefi_device_nodes::node_table::rows::Tail;
 
 /// Reads a literal exactly as it is printed, and returns the rest of the text.
 pub(crate) fn exact_end<T: Text>(literal: &[u8], text: T) -> Result<T, Stop>
-    ensures { result_map_both (λ x. T.bytes x) (λ e. e) result ≡ exact_end literal.now (T.bytes text) }
+    ensures { rest_or_err T.bytes result ≡ exact_end literal.now (T.bytes text) }
 {
     after(literal, text).ok_or(stop_at(text, Expected::Byte(first_of(literal))))
 }
@@ -46,7 +46,7 @@ fn close_stop<T: Text>(tail: Tail, close: &[u8], text: T) -> Stop
 
 /// Reads the data after the fields, and returns the rest of the text.
 pub(crate) fn tail_rest<T: Text>(tail: Tail, close: &[u8], text: T) -> Option<T>
-    ensures { option_map (λ x. T.bytes x) result ≡ past (tail_read tail close.now (T.bytes text)) }
+    ensures { option_map T.bytes result ≡ past (tail_read tail close.now (T.bytes text)) }
 {
     let (_, rest) = push_tail(tail, close, &mut [], 0, text)?;
     Some(rest)
@@ -55,7 +55,7 @@ pub(crate) fn tail_rest<T: Text>(tail: Tail, close: &[u8], text: T) -> Option<T>
 /// Reads the data after the fields and the end of the text. Returns the rest, or where the text
 /// stops.
 pub(crate) fn rest_end<T: Text>(tail: Tail, close: &[u8], text: T) -> Result<T, Stop>
-    ensures { result_map_both (λ x. T.bytes x) (λ e. e) result ≡ rest_end tail close.now (T.bytes text) }
+    ensures { rest_or_err T.bytes result ≡ rest_end tail close.now (T.bytes text) }
 {
     let rest = tail_rest(tail, close, text).ok_or(tail_stop(tail, text))?;
     after(close, rest).ok_or(close_stop(tail, close, rest))
@@ -64,7 +64,7 @@ pub(crate) fn rest_end<T: Text>(tail: Tail, close: &[u8], text: T) -> Result<T, 
 /// Returns where the text of a node stops. If all of it was read, it does not describe the node
 /// completely.
 pub(crate) fn stop_of<T: Text>(read: Result<T, Stop>) -> Stop
-    ensures { result ≡ stop_of (result_map_both (λ x. T.bytes x) (λ e. e) read) }
+    ensures { result ≡ stop_of (rest_or_err T.bytes read) }
 {
     match read {
         Ok(rest) => stop_at(rest, Expected::Untold),

@@ -3,7 +3,7 @@
 
 ghost use Rattle.std.specs.Prelude.{◌≡◌, ◌++◌, ◌∷◌, []};
 ghost use Rattle.uefi_text.specs.UnitBytes.{unit_bytes};
-ghost use Rattle.uefi_node_reader.specs.Counted.{pushed_bytes};
+ghost use Rattle.uefi_node_reader.specs.CountedBytes.{pushed_bytes};
 ghost use Rattle.uefi_node_reader.specs.FieldReading.{clear_run, is_clear};
 ghost use Rattle.uefi_node_reader.specs.TableReading.{first_of};
 

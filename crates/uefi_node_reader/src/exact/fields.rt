@@ -3,6 +3,7 @@
 
 ghost use Rattle.std.specs.Prelude.{◌≡◌, ◌+◌, ◌*◌, ◌^◌, ◌<◌, ◌≤◌, IfSome, IsTrue, length, map, if◌then◌else◌};
 ghost use Rattle.std.specs.Option.{option_and_then, option_map};
+ghost use Rattle.uefi_node_reader.specs.ReadViews.{filled_with, value_of};
 ghost use Rattle.uefi_node_reader.specs.FieldReading.{as_bytes, byte_read, bytes_read, default_read, eisa_read, field_read, letter_of, letters_read, low_bytes, next_read, turned};
 ghost use Rattle.uefi_node_reader.specs.WordReading.{after, word_read};
 ghost use Rattle.uefi_device_nodes.specs.Words.{as_word, words_of};
@@ -17,7 +18,7 @@ use uefi_device_nodes::node_table::words::{Word, Words};
 
 /// Reads a literal at the start of a text, and returns the rest.
 pub(crate) fn after<T: Text>(literal: &[u8], text: T) -> Option<T>
-    ensures { option_map (λ x. T.bytes x) result ≡ after literal.now (T.bytes text) }
+    ensures { option_map T.bytes result ≡ after literal.now (T.bytes text) }
 {
     let mut left = literal;
     let mut rest = text;
@@ -38,7 +39,7 @@ pub(crate) fn after<T: Text>(literal: &[u8], text: T) -> Option<T>
 
 /// Reads a byte of two digits, and returns the rest of the text too.
 pub(crate) fn byte<T: Text>(text: T) -> Option<(u8, T)>
-    ensures { option_map (λ x. (x.0, T.bytes x.1)) result ≡ byte_read (T.bytes text) }
+    ensures { value_of T.bytes result ≡ byte_read (T.bytes text) }
 {
     let (first, after) = text.split_first()?;
     let (second, rest) = after.split_first()?;
@@ -52,7 +53,7 @@ pub(crate) fn byte<T: Text>(text: T) -> Option<(u8, T)>
 /// Reads the next byte of two digits, after `between` unless it is the first, and returns the rest of the
 /// text too.
 fn next_byte<T: Text>(between: &[u8], is_first: bool, text: T) -> Option<(u8, T)>
-    ensures { option_map (λ x. (x.0, T.bytes x.1)) result
+    ensures { value_of T.bytes result
         ≡ (if is_first then byte_read (T.bytes text)
         else option_and_then byte_read (after between.now (T.bytes text))) }
 {
@@ -65,7 +66,7 @@ fn next_byte<T: Text>(between: &[u8], is_first: bool, text: T) -> Option<(u8, T)
 /// Fills a buffer with bytes of two digits each, with `between` between each two. Returns the rest of the
 /// text.
 fn fill<T: Text>(between: &[u8], found: &mut [u8], text: T) -> Option<T>
-    ensures { option_map (λ x. (found.new, T.bytes x)) result
+    ensures { filled_with T.bytes found.new result
         ≡ bytes_read between.now (length found.old) (T.bytes text) }
 {
     let mut rest = text;
@@ -106,20 +107,11 @@ pub(crate) fn put_low(found: &mut [u8], number: u64)
     }
 }
 
-/// Fills a buffer of one byte with the low byte of a number. A loop over more bytes, which are zero, would
-/// become a call of `memset`, which firmware lacks.
-fn put_byte(found: &mut [u8], number: u64)
-    requires { length found.old ≡ 1 }
-    ensures { found.new ≡ low_bytes (length found.old) number }
-{
-    found[0] = (number % 256) as u8;
-}
-
 /// Fills a buffer with the bytes of a number in a base. Returns the rest of the text.
 fn number_into<T: Text>(base: u64, found: &mut [u8], text: T) -> Option<T>
     requires some { 1 ≤ length found.old }
     requires few { length found.old ≤ 8 }
-    ensures { option_map (λ x. (found.new, T.bytes x)) result
+    ensures { filled_with T.bytes found.new result
         ≡ option_and_then (as_bytes (length found.old))
         (number_read base (256 ^ length found.old) (T.bytes text)) }
 {
@@ -130,7 +122,7 @@ fn number_into<T: Text>(base: u64, found: &mut [u8], text: T) -> Option<T>
 
 /// Reads a decimal number from 1 to `last`, or the word `DEFAULT` for 0. Returns the rest of the text too.
 fn number_or_default<T: Text>(last: u64, text: T) -> Option<(u64, T)>
-    ensures { option_map (λ x. (x.0, T.bytes x.1)) result ≡ default_read (last + 1) (T.bytes text) }
+    ensures { value_of T.bytes result ≡ default_read (last + 1) (T.bytes text) }
 {
     match number(10, last, text) {
         Some((0, _)) => None,
@@ -144,7 +136,7 @@ fn number_or_default<T: Text>(last: u64, text: T) -> Option<(u64, T)>
 fn default_into<T: Text>(found: &mut [u8], text: T) -> Option<T>
     requires some { 1 ≤ length found.old }
     requires few { length found.old ≤ 8 }
-    ensures { option_map (λ x. (found.new, T.bytes x)) result
+    ensures { filled_with T.bytes found.new result
         ≡ option_and_then (as_bytes (length found.old))
         (default_read (256 ^ length found.old) (T.bytes text)) }
 {
@@ -156,14 +148,14 @@ fn default_into<T: Text>(found: &mut [u8], text: T) -> Option<T>
 /// Fills a buffer of one byte with one less than a hexadecimal number. Returns the rest of the text.
 fn next_into<T: Text>(found: &mut [u8], text: T) -> Option<T>
     requires { length found.old ≡ 1 }
-    ensures { option_map (λ x. (found.new, T.bytes x)) result
+    ensures { filled_with T.bytes found.new result
         ≡ option_and_then (as_bytes (length found.old)) (next_read (T.bytes text)) }
 {
     let (value, rest) = number(16, 256, text)?;
     if value == 0 {
         return None;
     }
-    put_byte(found, value - 1);
+    put_low(found, value - 1);
     Some(rest)
 }
 
@@ -179,7 +171,7 @@ fn letter_of(byte: u8) -> u64
 
 /// Reads the 15 bits of three letters, and returns the rest of the text too.
 fn letters<T: Text>(text: T) -> Option<(u64, T)>
-    ensures letters { option_map (λ x. (x.0, T.bytes x.1)) result ≡ letters_read (T.bytes text) }
+    ensures letters { value_of T.bytes result ≡ letters_read (T.bytes text) }
     ensures small { IfSome result (λ x. x.0 < 32768) }
 {
     let (first, rest) = text.split_first()?;
@@ -194,7 +186,7 @@ fn letters<T: Text>(text: T) -> Option<(u64, T)>
 
 /// Reads an EISA ID, or 0, and returns the rest of the text too.
 fn eisa<T: Text>(text: T) -> Option<(u64, T)>
-    ensures { option_map (λ x. (x.0, T.bytes x.1)) result ≡ eisa_read (T.bytes text) }
+    ensures { value_of T.bytes result ≡ eisa_read (T.bytes text) }
 {
     if let Some(rest) = after(b"0", text) {
         return Some((0, rest));
@@ -211,7 +203,7 @@ fn eisa<T: Text>(text: T) -> Option<(u64, T)>
 
 /// Fills a buffer with the bytes of an EISA ID, or of 0. Returns the rest of the text.
 fn eisa_into<T: Text>(found: &mut [u8], text: T) -> Option<T>
-    ensures { option_map (λ x. (found.new, T.bytes x)) result
+    ensures { filled_with T.bytes found.new result
         ≡ option_and_then (as_bytes (length found.old)) (eisa_read (T.bytes text)) }
 {
     let (value, rest) = eisa(text)?;
@@ -221,7 +213,7 @@ fn eisa_into<T: Text>(found: &mut [u8], text: T) -> Option<T>
 
 /// Reads a word, and returns its number and the rest of the text.
 fn word<T: Text>(words: &[Word], text: T) -> Option<(u64, T)>
-    ensures { option_map (λ x. (x.0, T.bytes x.1)) result ≡ word_read (map as_word words.now) (T.bytes text) }
+    ensures { value_of T.bytes result ≡ word_read (map as_word words.now) (T.bytes text) }
 {
     for word in words {
         if let Some(rest) = after(word.text.as_bytes(), text) {
@@ -233,7 +225,7 @@ fn word<T: Text>(words: &[Word], text: T) -> Option<(u64, T)>
 
 /// Fills a buffer with the bytes of the number of a word. Returns the rest of the text.
 fn word_into<T: Text>(words: Words, found: &mut [u8], text: T) -> Option<T>
-    ensures { option_map (λ x. (found.new, T.bytes x)) result
+    ensures { filled_with T.bytes found.new result
         ≡ option_and_then (as_bytes (length found.old)) (word_read (words_of words) (T.bytes text)) }
 {
     let (value, rest) = word(words_of(words), text)?;
@@ -243,7 +235,7 @@ fn word_into<T: Text>(words: Words, found: &mut [u8], text: T) -> Option<T>
 
 /// Fills a buffer with bytes of two digits each, the last byte first. Returns the rest of the text.
 fn fill_back<T: Text>(between: &[u8], found: &mut [u8], text: T) -> Option<T>
-    ensures { option_map (λ x. (found.new, T.bytes x)) result
+    ensures { filled_with T.bytes found.new result
         ≡ option_and_then turned (bytes_read between.now (length found.old) (T.bytes text)) }
 {
     let rest = fill(between, found, text)?;
@@ -254,7 +246,7 @@ fn fill_back<T: Text>(between: &[u8], found: &mut [u8], text: T) -> Option<T>
 /// Fills a buffer with the bytes of a field. Returns the rest of the text.
 pub(crate) fn read_value<T: Text>(shape: Shape, found: &mut [u8], text: T) -> Option<T>
     requires { IsTrue (fits_shape shape (length found.old)) }
-    ensures { option_map (λ x. (found.new, T.bytes x)) result
+    ensures { filled_with T.bytes found.new result
         ≡ field_read shape (length found.old) (T.bytes text) }
 {
     match shape {

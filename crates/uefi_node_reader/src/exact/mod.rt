@@ -3,9 +3,9 @@
 pub(crate) mod clear_texts;
 pub(crate) mod data_form;
 pub(crate) mod fields;
+pub(crate) mod first_form;
 pub(crate) mod first_letters;
-pub(crate) mod form_attempts;
-pub(crate) mod form_heads;
+pub(crate) mod form_fields;
 pub(crate) mod form_places;
 pub(crate) mod node_tails;
 pub(crate) mod notations;

@@ -2,11 +2,12 @@
 #![tactic(auto)]
 
 ghost use Rattle.std.specs.List.{list_all};
-ghost use Rattle.std.specs.Option.{option_and_then, option_map};
+ghost use Rattle.std.specs.Option.{option_and_then};
 ghost use Rattle.std.specs.Prelude.{◌≡◌, ◌≤◌, ◌∷◌, [], IsTrue, length};
 ghost use Rattle.std.proofs.Math.ListN.{replicate};
 ghost use Rattle.uefi_device_nodes.specs.Rows.{as_item, is_within};
-ghost use Rattle.uefi_node_reader.specs.Counted.{pushed_bytes, put_on};
+ghost use Rattle.uefi_node_reader.specs.ReadViews.{read_as};
+ghost use Rattle.uefi_node_reader.specs.CountedBytes.{pushed_bytes, put_on};
 ghost use Rattle.uefi_node_reader.specs.FieldReading.{clear_run, comma_read, run_read};
 ghost use Rattle.uefi_node_reader.specs.TableReading.{as_ids, as_padded, ids_read, list_read, pieces_put, tail_read};
 
@@ -15,7 +16,7 @@ use crate::exact::clear_texts::{
     cut_clear, first_of, past_clear, push_clear, push_clear_name, push_clear_units,
 };
 use crate::exact::fields::{after, byte};
-use crate::exact::form_heads::exact_pieces;
+use crate::exact::form_fields::exact_pieces;
 use crate::texts::Text;
 use uefi_device_nodes::node_table::rows::{Item, Tail};
 use uefi_device_nodes::node_table::table::item_of;
@@ -37,7 +38,7 @@ pub(crate) fn push_run<T: Text>(places: &mut [u8], len: usize, text: T) -> (usiz
 
 /// Puts the bytes after a comma, or nothing if the text begins with no comma.
 fn push_comma_bytes<T: Text>(places: &mut [u8], len: usize, text: T) -> Option<(usize, T)>
-    ensures { option_map (λ x. ((places.new, x.0), T.bytes x.1)) result
+    ensures { read_as (λ count. (places.new, count)) T.bytes result
         ≡ option_and_then (put_on (places.old, len)) (comma_read (T.bytes text)) }
 {
     let Some((b',', digits)) = text.split_first() else {
@@ -51,7 +52,7 @@ fn push_comma_bytes<T: Text>(places: &mut [u8], len: usize, text: T) -> Option<(
 fn push_item<T: Text>(places: &mut [u8], len: usize, item: &Item, text: T) -> Option<(usize, T)>
     requires few { item.now.size ≤ 16 }
     requires laid_out { IsTrue (list_all (is_within item.now.size) (as_item item.now).pieces) }
-    ensures { option_map (λ x. ((places.new, x.0), T.bytes x.1)) result
+    ensures { read_as (λ count. (places.new, count)) T.bytes result
         ≡ option_and_then (put_on (places.old, len))
         (pieces_put (as_item item.now).pieces (replicate item.now.size 0) (T.bytes text)) }
 {
@@ -65,7 +66,7 @@ fn push_item<T: Text>(places: &mut [u8], len: usize, item: &Item, text: T) -> Op
 fn push_items<T: Text>(places: &mut [u8], len: usize, item: &Item, text: T) -> Option<(usize, T)>
     requires few { item.now.size ≤ 16 }
     requires laid_out { IsTrue (list_all (is_within item.now.size) (as_item item.now).pieces) }
-    ensures { option_map (λ x. ((places.new, x.0), T.bytes x.1)) result
+    ensures { read_as (λ count. (places.new, count)) T.bytes result
         ≡ option_and_then (put_on (places.old, len)) (list_read (as_item item.now) (T.bytes text)) }
 {
     let mut count = len;
@@ -83,7 +84,7 @@ fn push_items<T: Text>(places: &mut [u8], len: usize, item: &Item, text: T) -> O
 
 /// Puts a text, padded with zeros to 32 bytes.
 fn push_padded<T: Text>(places: &mut [u8], len: usize, stop: u8, text: T) -> Option<(usize, T)>
-    ensures { option_map (λ x. ((places.new, x.0), T.bytes x.1)) result
+    ensures { read_as (λ count. (places.new, count)) T.bytes result
         ≡ option_and_then (put_on (places.old, len)) (as_padded (clear_run stop (T.bytes text))) }
 {
     let spare = 32usize.checked_sub(cut_clear(stop, text).0.len())?;
@@ -93,7 +94,7 @@ fn push_padded<T: Text>(places: &mut [u8], len: usize, stop: u8, text: T) -> Opt
 
 /// Puts the ID strings that a text contains in the order of the node's data.
 fn push_ids<T: Text>(places: &mut [u8], len: usize, stop: u8, text: T) -> Option<(usize, T)>
-    ensures { option_map (λ x. ((places.new, x.0), T.bytes x.1)) result
+    ensures { read_as (λ count. (places.new, count)) T.bytes result
         ≡ option_and_then (put_on (places.old, len)) (ids_read stop (T.bytes text)) }
 {
     let cid = after(b",", past_clear(b',', text))?;
@@ -124,7 +125,7 @@ pub(crate) fn push_tail<T: Text>(
     len: usize,
     text: T,
 ) -> Option<(usize, T)>
-    ensures { option_map (λ x. ((places.new, x.0), T.bytes x.1)) result
+    ensures { read_as (λ count. (places.new, count)) T.bytes result
         ≡ option_and_then (put_on (places.old, len)) (tail_read tail close.now (T.bytes text)) }
 {
     match tail {

@@ -5,6 +5,7 @@ ghost use Rattle.std.specs.Prelude.{◌≡◌, IsTrue, length};
 ghost use Rattle.std.specs.Result.{result_map_both};
 ghost use Rattle.uefi_device_nodes.specs.Fields.{fits_shape};
 ghost use Rattle.uefi_device_nodes.specs.Rows.{as_piece};
+ghost use Rattle.uefi_node_reader.specs.ReadViews.{rest_or_err};
 ghost use Rattle.uefi_node_reader.specs.Notations.{Rules, exact, lenient};
 
 use crate::errors::faults::Stop;
@@ -23,7 +24,7 @@ pub(crate) trait Notation {
 
     /// Reads the start of a form.
     fn literal<T: Text>(literal: &[u8], text: T) -> Result<T, Self::Fault>
-        ensures { result_map_both (λ x. T.bytes x) (λ e. e) result
+        ensures { rest_or_err T.bytes result
             ≡ rules.literal literal.now (T.bytes text) };
 
     /// Fills a buffer with the bytes of a field.
@@ -35,7 +36,7 @@ pub(crate) trait Notation {
 
     /// Reads the literal after a field.
     fn ending<T: Text>(ending: &[u8], text: T) -> Result<T, Self::Fault>
-        ensures { result_map_both (λ x. T.bytes x) (λ e. e) result
+        ensures { rest_or_err T.bytes result
             ≡ rules.ending ending.now (T.bytes text) };
 }
 

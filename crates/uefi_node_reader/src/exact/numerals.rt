@@ -2,7 +2,7 @@
 #![tactic(auto)]
 
 ghost use Rattle.std.specs.Prelude.{◌≡◌, ◌+◌, ◌<◌};
-ghost use Rattle.std.specs.Option.{option_map};
+ghost use Rattle.uefi_node_reader.specs.ReadViews.{value_of};
 ghost use Rattle.uefi_node_reader.specs.Numerals.{digit_of, digits_after, number_read};
 
 use crate::texts::Text;
@@ -21,7 +21,7 @@ pub(crate) fn digit_of(byte: u8) -> u64
 /// Reads all digits at the start of a text, after digits with the value `first`. Returns the number and
 /// the rest of the text, or `None` if the number is above `last`.
 pub(crate) fn digits_after<T: Text>(base: u64, last: u64, first: u64, text: T) -> Option<(u64, T)>
-    ensures { option_map (λ x. (x.0, T.bytes x.1)) result
+    ensures { value_of T.bytes result
         ≡ digits_after base (last + 1) first (T.bytes text) }
 {
     let mut number = first;
@@ -43,7 +43,7 @@ pub(crate) fn digits_after<T: Text>(base: u64, last: u64, first: u64, text: T) -
 
 /// Reads a number up to `last`, without leading zeros, and returns the rest of the text too.
 pub(crate) fn number<T: Text>(base: u64, last: u64, text: T) -> Option<(u64, T)>
-    ensures { option_map (λ x. (x.0, T.bytes x.1)) result ≡ number_read base (last + 1) (T.bytes text) }
+    ensures { value_of T.bytes result ≡ number_read base (last + 1) (T.bytes text) }
 {
     let (byte, after) = text.split_first()?;
     let digit = digit_of(byte);

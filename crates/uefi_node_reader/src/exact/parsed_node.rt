@@ -4,6 +4,7 @@
 ghost use Rattle.std.specs.List.{list_all};
 ghost use Rattle.std.specs.Option.{option_and_then, option_map};
 ghost use Rattle.std.specs.Prelude.{◌≡◌, ◌≤◌, ◌++◌, ◌∷◌, [], IfSome, IsTrue, true, drop, if◌then◌else◌, length, map, nat_le, take, None, Some};
+ghost use Rattle.uefi_node_reader.specs.ReadViews.{read_as};
 ghost use Rattle.uefi_node_reader.specs.FieldReading.{clear_run};
 ghost use Rattle.uefi_node_reader.specs.ParsedNodeViews.{TextNode, text_node_data, parsed_node};
 ghost use Rattle.uefi_device_nodes.specs.Rows.{as_piece, is_within};
@@ -14,7 +15,7 @@ ghost use Rattle.uefi_node_reader.specs.ParsedNodes.{IsDecoded, all_data, fittin
 use crate::counted_bytes::push_all;
 use crate::exact::clear_texts::first_of;
 use crate::exact::data_form::DataForm;
-use crate::exact::form_heads::exact_pieces;
+use crate::exact::form_fields::exact_pieces;
 use crate::exact::node_tails::{push_tail, push_uid};
 use crate::texts::Text;
 use std::marker::Model;
@@ -64,7 +65,7 @@ impl<T: Text> ParsedNode<T> {
         requires { fixed ≤ 56 }
         ensures types { IfSome result (λ x. (x.0.device_type ≡ device_type) × (x.0.sub_type ≡ sub_type)) }
         ensures fixed { IfSome result (λ x. x.0.fixed ≡ fixed) }
-        ensures data { option_map (λ x. (text_node_data x.0, T.bytes x.1)) result
+        ensures data { read_as text_node_data T.bytes result
             ≡ fitting (option_and_then (added (take fixed fixed_bytes))
             (tail_read tail close.now (T.bytes text))) }
     {
@@ -93,7 +94,7 @@ impl<T: Text> ParsedNode<T> {
         requires { IsTrue (list_all (is_within self.fixed) (map as_piece pieces.now)) }
         ensures types { IfSome result (λ x.
             (x.0.device_type ≡ self.device_type) × (x.0.sub_type ≡ self.sub_type)) }
-        ensures data { option_map (λ x. (text_node_data x.0, T.bytes x.1)) result
+        ensures data { read_as text_node_data T.bytes result
             ≡ option_and_then (followed (drop self.fixed (text_node_data self)))
             (pieces_put (map as_piece pieces.now)
             (take self.fixed (text_node_data self)) (T.bytes text)) }

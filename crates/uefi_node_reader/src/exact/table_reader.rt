@@ -2,11 +2,12 @@
 #![tactic(auto)]
 
 ghost use Rattle.std.specs.List.{list_all};
-ghost use Rattle.std.specs.Option.{ok_or, option_map};
+ghost use Rattle.std.specs.Option.{ok_or};
 ghost use Rattle.std.specs.Prelude.{◌≡◌, None, false, ◌≤◌, ℕ, IfSome, IsTrue, List, length, take};
 ghost use Rattle.uefi_device_nodes.specs.Rows.{as_form, is_within};
 ghost use Rattle.uefi_device_nodes.specs.Table.{forms};
 ghost use Rattle.uefi_device_nodes.specs.Nodes.{Node, node_with};
+ghost use Rattle.uefi_node_reader.specs.ReadViews.{read_as};
 ghost use Rattle.uefi_node_reader.specs.TableReading.{are_within, blank, form_place, form_read, is_exact, is_filled, is_sound, kept, prints, put_all, rest_read, table_read};
 ghost use Rattle.uefi_node_reader.specs.ParsedNodes.{fitting};
 ghost use Rattle.uefi_node_reader.specs.WordReading.{after};
@@ -14,9 +15,9 @@ ghost use Rattle.uefi_node_reader.specs.ParsedNodeViews.{text_node_data, parsed_
 
 use crate::errors::faults::Stop;
 use crate::exact::fields::after;
+use crate::exact::first_form::{Attempt, try_table};
 use crate::exact::first_letters::begins_in;
-use crate::exact::form_attempts::{Attempt, try_table};
-use crate::exact::form_heads::read_head;
+use crate::exact::form_fields::read_head;
 use crate::exact::form_places::{FormTest, form_place};
 use crate::exact::notations::Exact;
 use crate::exact::parsed_node::ParsedNode;
@@ -52,7 +53,7 @@ pub(crate) fn finish_row<T: Text>(row: &Row, fixed: [u8; 56], text: T) -> Option
     requires within { IsTrue (list_all (is_within row.now.least) (as_form row.now).rest) }
     ensures types { IfSome result (λ x.
         (x.0.device_type ≡ row.now.kind) × (x.0.sub_type ≡ row.now.sub_kind)) }
-    ensures data { option_map (λ x. (text_node_data x.0, T.bytes x.1)) result
+    ensures data { read_as text_node_data T.bytes result
         ≡ fitting (rest_read (as_form row.now) (take row.now.least fixed, (T.bytes text))) }
 {
     let (node, rest) = ParsedNode::with_tail(
@@ -81,7 +82,7 @@ pub(crate) fn read_row<T: Text>(row: &Row, text: T) -> Option<(ParsedNode<T>, T)
     requires filled { IsTrue (is_filled (as_form row.now)) }
     ensures types { IfSome result (λ x.
         (x.0.device_type ≡ row.now.kind) × (x.0.sub_type ≡ row.now.sub_kind)) }
-    ensures data { option_map (λ x. (text_node_data x.0, T.bytes x.1)) result
+    ensures data { read_as text_node_data T.bytes result
         ≡ fitting (form_read (as_form row.now) (T.bytes text)) }
 {
     if !is_exact(row.mode) {
@@ -141,7 +142,7 @@ fn begin_alike<T: Text>(start: &[u8], text: T) -> bool
 fn read_kept<T: Text>(row: &Row, place: usize, text: T) -> Option<(ParsedNode<T>, T)>
     requires sound { IsTrue (is_sound (as_form row.now)) }
     requires filled { IsTrue (is_filled (as_form row.now)) }
-    ensures { option_map (λ x. (parsed_node x.0, T.bytes x.1)) result
+    ensures { read_as parsed_node T.bytes result
         ≡ kept forms place (as_form row.now) (form_read (as_form row.now) (T.bytes text)) }
 {
     let (node, rest) = read_row(row, text)?;
@@ -186,7 +187,7 @@ impl<T: Text> Attempt for ExactText<T> {
 
 /// Reads the node at the start of a text in a form of the table, and returns the rest of the text too.
 pub(crate) fn by_table<T: Text>(text: T) -> Option<(ParsedNode<T>, T)>
-    ensures { option_map (λ x. (parsed_node x.0, T.bytes x.1)) result ≡ table_read forms (T.bytes text) }
+    ensures { read_as parsed_node T.bytes result ≡ table_read forms (T.bytes text) }
 {
     try_table(&ExactText { text }).ok()
 }

@@ -3,6 +3,7 @@
 
 ghost use Rattle.std.specs.Prelude.{◌≡◌};
 ghost use Rattle.std.specs.Result.{result_map_both};
+ghost use Rattle.uefi_node_reader.specs.ReadViews.{read_or_err};
 ghost use Rattle.uefi_node_reader.specs.LenientCalls.{call_told, cut_call};
 ghost use Rattle.uefi_node_reader.specs.LenientNodes.{call_in, call_read, is_base, unnamed_fault, open_fault, or_short, stop_fault};
 ghost use Rattle.uefi_node_reader.specs.ReadNodes.{node_from_text};
@@ -105,7 +106,7 @@ fn open_fault<T: NameText>(
 /// Reads the call at the start of a text. Returns its node and the rest of the text, or the fault of the
 /// text.
 pub(crate) fn by_call<T: NameText>(text: T) -> Result<(ReadNode<T>, T), NodeFault>
-    ensures { result_map_both (λ x. (node_from_text x.0, T.bytes x.1)) (λ e. e) result
+    ensures { read_or_err node_from_text T.bytes result
         ≡ call_in (T.bytes text) (cut_call (T.bytes text)) }
 {
     let Some((front, rest)) = cut_call(text) else {

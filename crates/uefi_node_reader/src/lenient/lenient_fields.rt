@@ -3,10 +3,10 @@
 
 ghost use Rattle.std.specs.Prelude.{◌≡◌, ◌+◌, ◌^◌, ◌≤◌, IsTrue, if◌then◌else◌, length, map};
 ghost use Rattle.std.specs.Option.{option_and_then, option_map};
-ghost use Rattle.std.specs.Result.{result_map_both};
 ghost use Rattle.std.proofs.Math.ListN.{replicate};
 ghost use Rattle.uefi_device_nodes.specs.Fields.{fits_shape};
 ghost use Rattle.uefi_device_nodes.specs.Words.{as_word, words_of};
+ghost use Rattle.uefi_node_reader.specs.ReadViews.{filled_with, rest_or_err, value_of};
 ghost use Rattle.uefi_node_reader.specs.FieldReading.{as_bytes, less_one};
 ghost use Rattle.uefi_node_reader.specs.LenientFields.{after_ending, after_letter, after_literal, any_field, any_number, any_word, begins_base, expected_field, expected_word, is_number, number_or_word, past_base, some_digits, spare_byte, value_or_spare};
 
@@ -39,7 +39,7 @@ pub(crate) fn past_base<T: Text>(text: T) -> T
 
 /// Reads a byte in either case, and returns the rest of the text.
 pub(crate) fn after_letter<T: Text>(letter: u8, text: T) -> Option<T>
-    ensures { option_map (λ x. T.bytes x) result ≡ after_letter letter (T.bytes text) }
+    ensures { option_map T.bytes result ≡ after_letter letter (T.bytes text) }
 {
     let (first, rest) = text.split_first()?;
     if letter.to_ascii_uppercase() != first.to_ascii_uppercase() {
@@ -51,7 +51,7 @@ pub(crate) fn after_letter<T: Text>(letter: u8, text: T) -> Option<T>
 /// Reads a literal of the table in either case, and returns the rest of the text, or the byte that differs.
 /// The text may omit the literal's `0x`. A `0x` at the end of the literal is left to the number after it.
 pub(crate) fn after_literal<T: Text>(literal: &[u8], text: T) -> Result<T, Stop>
-    ensures { result_map_both (λ x. T.bytes x) (λ e. e) result ≡ after_literal literal.now (T.bytes text) }
+    ensures { rest_or_err T.bytes result ≡ after_literal literal.now (T.bytes text) }
 {
     let mut left = literal;
     let mut at_x = false;
@@ -79,7 +79,7 @@ pub(crate) fn after_literal<T: Text>(literal: &[u8], text: T) -> Result<T, Stop>
 
 /// Reads a number up to `last` of at least one digit, and returns the rest of the text too.
 fn some_digits<T: Text>(base: u64, last: u64, text: T) -> Option<(u64, T)>
-    ensures { option_map (λ x. (x.0, T.bytes x.1)) result ≡ some_digits base (last + 1) (T.bytes text) }
+    ensures { value_of T.bytes result ≡ some_digits base (last + 1) (T.bytes text) }
 {
     let (first, _) = text.split_first()?;
     if base <= digit_of(first) {
@@ -90,7 +90,7 @@ fn some_digits<T: Text>(base: u64, last: u64, text: T) -> Option<(u64, T)>
 
 /// Reads a number up to `last`, in decimal, or in hexadecimal after `0x`. Returns the rest of the text too.
 pub(crate) fn any_number<T: Text>(last: u64, text: T) -> Option<(u64, T)>
-    ensures { option_map (λ x. (x.0, T.bytes x.1)) result ≡ any_number (last + 1) (T.bytes text) }
+    ensures { value_of T.bytes result ≡ any_number (last + 1) (T.bytes text) }
 {
     if begins_base(text) {
         return some_digits(16, last, past_base(text));
@@ -100,7 +100,7 @@ pub(crate) fn any_number<T: Text>(last: u64, text: T) -> Option<(u64, T)>
 
 /// Reads a number up to `last`, or the word `DEFAULT` for 0. Returns the rest of the text too.
 fn number_or_word<T: Text>(last: u64, text: T) -> Option<(u64, T)>
-    ensures { option_map (λ x. (x.0, T.bytes x.1)) result ≡ number_or_word (last + 1) (T.bytes text) }
+    ensures { value_of T.bytes result ≡ number_or_word (last + 1) (T.bytes text) }
 {
     if digit_of(first_of(text)) < 10 {
         return any_number(last, text);
@@ -113,7 +113,7 @@ fn number_or_word<T: Text>(last: u64, text: T) -> Option<(u64, T)>
 fn number_into<T: Text>(or_word: bool, found: &mut [u8], text: T) -> Option<T>
     requires some { 1 ≤ length found.old }
     requires few { length found.old ≤ 8 }
-    ensures { option_map (λ x. (found.new, T.bytes x)) result ≡ option_and_then (as_bytes (length found.old))
+    ensures { filled_with T.bytes found.new result ≡ option_and_then (as_bytes (length found.old))
         (if or_word then number_or_word (256 ^ length found.old) (T.bytes text)
         else any_number (256 ^ length found.old) (T.bytes text)) }
 {
@@ -129,7 +129,7 @@ fn number_into<T: Text>(or_word: bool, found: &mut [u8], text: T) -> Option<T>
 
 /// Fills a buffer of one byte with one less than a number. Returns the rest of the text.
 fn next_into<T: Text>(found: &mut [u8], text: T) -> Option<T>
-    ensures { option_map (λ x. (found.new, T.bytes x)) result
+    ensures { filled_with T.bytes found.new result
         ≡ option_and_then (as_bytes (length found.old))
         (option_and_then less_one (any_number 257 (T.bytes text))) }
 {
@@ -143,7 +143,7 @@ fn next_into<T: Text>(found: &mut [u8], text: T) -> Option<T>
 
 /// Reads a word in either case, and returns its number and the rest of the text.
 fn any_word<T: Text>(words: &[Word], text: T) -> Option<(u64, T)>
-    ensures { option_map (λ x. (x.0, T.bytes x.1)) result ≡ any_word (map as_word words.now) (T.bytes text) }
+    ensures { value_of T.bytes result ≡ any_word (map as_word words.now) (T.bytes text) }
 {
     for word in words {
         if let Ok(rest) = after_literal(word.text.as_bytes(), text) {
@@ -155,7 +155,7 @@ fn any_word<T: Text>(words: &[Word], text: T) -> Option<(u64, T)>
 
 /// Fills a buffer with the bytes of the number of a word. Returns the rest of the text.
 fn word_into<T: Text>(words: Words, found: &mut [u8], text: T) -> Option<T>
-    ensures { option_map (λ x. (found.new, T.bytes x)) result
+    ensures { filled_with T.bytes found.new result
         ≡ option_and_then (as_bytes (length found.old)) (any_word (words_of words) (T.bytes text)) }
 {
     let (value, rest) = any_word(words_of(words), text)?;
@@ -166,7 +166,7 @@ fn word_into<T: Text>(words: Words, found: &mut [u8], text: T) -> Option<T>
 /// Fills a buffer with the bytes of a field. Returns the rest of the text.
 fn read_field<T: Text>(shape: Shape, found: &mut [u8], text: T) -> Option<T>
     requires { IsTrue (fits_shape shape (length found.old)) }
-    ensures { option_map (λ x. (found.new, T.bytes x)) result
+    ensures { filled_with T.bytes found.new result
         ≡ any_field shape (length found.old) (T.bytes text) }
 {
     match shape {
@@ -196,15 +196,6 @@ fn spare_byte(spare: Spare) -> u8
     }
 }
 
-/// Fills a buffer with the bytes of a number that is omitted. A loop that puts the same byte would become a
-/// call of `memset`, which firmware lacks.
-fn put_spare(found: &mut [u8], spare: Spare)
-    requires { length found.old ≤ 8 }
-    ensures { found.new ≡ replicate (length found.old) (spare_byte spare) }
-{
-    put_low(found, u64::from(spare_byte(spare)) * 0x0101_0101_0101_0101);
-}
-
 /// Fills a buffer with the bytes of a field, or with those of a number that is omitted. Returns the rest of
 /// the text.
 pub(crate) fn value_or_spare<T: Text>(
@@ -214,11 +205,11 @@ pub(crate) fn value_or_spare<T: Text>(
     text: T,
 ) -> Option<T>
     requires { IsTrue (fits_shape shape (length found.old)) }
-    ensures { option_map (λ x. (found.new, T.bytes x)) result
+    ensures { filled_with T.bytes found.new result
         ≡ value_or_spare shape spare (length found.old) (T.bytes text) }
 {
     if is_number(shape) && first_of(text) == b')' {
-        put_spare(found, spare);
+        found.fill(spare_byte(spare));
         return Some(text);
     }
     read_field(shape, found, text)
@@ -227,7 +218,7 @@ pub(crate) fn value_or_spare<T: Text>(
 /// Reads the ending of a field, and returns the rest of the text. Before `)`, a comma and its `0x` may be
 /// omitted.
 pub(crate) fn after_ending<T: Text>(ending: &[u8], text: T) -> Result<T, Stop>
-    ensures { result_map_both (λ x. T.bytes x) (λ e. e) result ≡ after_ending ending.now (T.bytes text) }
+    ensures { rest_or_err T.bytes result ≡ after_ending ending.now (T.bytes text) }
 {
     if first_of(text) == b')' && after_literal(ending, b",".as_slice()).is_ok() {
         return Ok(text);

@@ -4,7 +4,7 @@
 ghost use Rattle.std.specs.Option.{option_map};
 ghost use Rattle.std.specs.List.{position_or_len};
 ghost use Rattle.std.specs.Prelude.{◌≡◌, ◌+◌, ◌<◌, ◌^◌, codes, drop};
-ghost use Rattle.std.specs.Result.{result_map_both};
+ghost use Rattle.uefi_node_reader.specs.ReadViews.{read_as, read_or_err};
 ghost use Rattle.uefi_node_reader.specs.FileNodes.{node_of_file};
 ghost use Rattle.uefi_node_reader.specs.LenientCalls.{whole};
 ghost use Rattle.uefi_node_reader.specs.LenientFields.{after_literal};
@@ -22,7 +22,7 @@ use crate::texts::{Text, is_empty};
 /// Returns the node that was read, if nothing is left of the text.
 fn whole<T: NameText>(read: Option<(FileNode<T>, T)>) -> Option<FileNode<T>>
     ensures { option_map node_of_file result
-        ≡ whole (option_map (λ x. (node_of_file x.0, T.bytes x.1)) read) }
+        ≡ whole (read_as node_of_file T.bytes read) }
 {
     let (node, rest) = read?;
     if !is_empty(rest) {
@@ -78,7 +78,7 @@ fn closes_node<T: Text>(text: T) -> bool
 
 /// Returns the text from the first `)` on that may end a node.
 fn from_name_end<T: Text>(text: T) -> Option<T>
-    ensures { option_map (λ x. T.bytes x) result
+    ensures { option_map T.bytes result
         ≡ option_map (λ place. drop place (T.bytes text)) (name_end (T.bytes text)) }
 {
     let mut rest = text;
@@ -105,7 +105,7 @@ fn opened(depth: usize, byte: u8) -> usize
 
 /// Returns the text from the `)` on that closes a call. No slash or comma comes before it.
 fn from_closing<T: Text>(text: T) -> Option<T>
-    ensures { option_map (λ x. T.bytes x) result
+    ensures { option_map T.bytes result
         ≡ option_map (λ place. drop place (T.bytes text)) (closing 0 (T.bytes text)) }
 {
     // At most all bytes are open parentheses, so their number fits.
@@ -127,7 +127,7 @@ fn from_closing<T: Text>(text: T) -> Option<T>
 
 /// Returns the text from the `)` on that ends a name in `File(..)`.
 fn from_file_end<T: Text>(text: T) -> Option<T>
-    ensures { option_map (λ x. T.bytes x) result
+    ensures { option_map T.bytes result
         ≡ option_map (λ place. drop place (T.bytes text)) (file_end (T.bytes text)) }
 {
     match from_name_end(text) {
@@ -149,7 +149,7 @@ fn cut_file<T: Text>(text: T) -> Option<(T, T)>
 
 /// Returns the text after its first byte, if no node may end there.
 fn past_end<T: Text>(text: T) -> Option<T>
-    ensures { option_map (λ x. T.bytes x) result ≡ past_end (T.bytes text) }
+    ensures { option_map T.bytes result ≡ past_end (T.bytes text) }
 {
     let (_, rest) = text.split_first()?;
     if is_after_node(past_spaces(rest)) {
@@ -160,14 +160,14 @@ fn past_end<T: Text>(text: T) -> Option<T>
 
 /// Returns the text after the `)` that closes a call, if no node may end there.
 fn past_closing<T: Text>(name: T) -> Option<T>
-    ensures { option_map (λ x. T.bytes x) result ≡ past_closing (T.bytes name) }
+    ensures { option_map T.bytes result ≡ past_closing (T.bytes name) }
 {
     past_end(from_closing(name)?)
 }
 
 /// Returns the text after `File(..)` at the start of a text, if no node may end there.
 fn past_file<T: Text>(text: T) -> Option<T>
-    ensures { option_map (λ x. T.bytes x) result ≡ past_file (after_literal (codes "File(") (T.bytes text)) }
+    ensures { option_map T.bytes result ≡ past_file (after_literal (codes "File(") (T.bytes text)) }
 {
     match after_literal(b"File(", text) {
         Ok(name) => past_closing(name),
@@ -178,7 +178,7 @@ fn past_file<T: Text>(text: T) -> Option<T>
 /// Returns the text after the first `File(..)` of a text after which no node may end: other text follows the
 /// path there.
 pub fn past_file_call<T: Text>(text: T) -> Option<T>
-    ensures { option_map (λ x. T.bytes x) result ≡ past_file_call (T.bytes text) }
+    ensures { option_map T.bytes result ≡ past_file_call (T.bytes text) }
 {
     let mut rest = text;
     'bytes: while let Some((_, after)) = rest.split_first() {
@@ -193,7 +193,7 @@ pub fn past_file_call<T: Text>(text: T) -> Option<T>
 /// Reads the name in `File(..)`, given the whole text and its part from the name on. Returns the node and
 /// the text after the `)`, or the fault of the text.
 pub(crate) fn file<T: NameText>(text: T, name: T) -> Result<(FileNode<T>, T), NodeFault>
-    ensures { result_map_both (λ x. (node_of_file x.0, T.bytes x.1)) (λ e. e) result
+    ensures { read_or_err node_of_file T.bytes result
         ≡ file_in (T.bytes text) (T.bytes name) (cut_file (T.bytes name)) }
 {
     let Some((front, rest)) = cut_file(name) else {
@@ -309,7 +309,7 @@ fn bare_name<T: NameText>(text: T) -> (T, T)
 /// Reads the name of a file at the start of a text, with blanks and line ends around it, if it may omit its
 /// first backslash. If `is_rooted`, it has to have that backslash. Returns the rest of the text too.
 pub(crate) fn bare<T: NameText>(is_rooted: bool, text: T) -> Option<(FileNode<T>, T)>
-    ensures { option_map (λ x. (node_of_file x.0, T.bytes x.1)) result ≡ bare_read is_rooted (T.bytes text) }
+    ensures { read_as node_of_file T.bytes result ≡ bare_read is_rooted (T.bytes text) }
 {
     let (name, rest) = bare_name(text);
     let may_be_name = if is_rooted {

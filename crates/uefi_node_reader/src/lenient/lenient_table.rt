@@ -6,6 +6,7 @@ ghost use Rattle.std.specs.Prelude.{◌≡◌, IfSome, IsTrue, map};
 ghost use Rattle.std.specs.Result.{result_map_both};
 ghost use Rattle.uefi_device_nodes.specs.Nodes.{Node};
 ghost use Rattle.uefi_device_nodes.specs.Rows.{as_form};
+ghost use Rattle.uefi_node_reader.specs.ReadViews.{read_as};
 ghost use Rattle.uefi_node_reader.specs.LenientFields.{after_literal};
 ghost use Rattle.uefi_node_reader.specs.LenientCalls.{begins_call_name, call_told, form_told, form_tried, is_textless, named_told, names_tried, plain_names, plain_told, textless_told, told_in, whole};
 ghost use Rattle.uefi_node_reader.specs.TableReading.{form_read, is_filled, is_read, is_sound};
@@ -15,9 +16,9 @@ ghost use Rattle.uefi_node_reader.specs.ReadNodes.{node_from_text};
 use crate::errors::faults::{Expected, Stop};
 use crate::errors::stops::{further, stop_at};
 use crate::errors::tail_stops::{rest_end, stop_of};
+use crate::exact::first_form::{Attempt, try_table};
 use crate::exact::first_letters::begins_in_either_case;
-use crate::exact::form_attempts::{Attempt, try_table};
-use crate::exact::form_heads::read_head;
+use crate::exact::form_fields::read_head;
 use crate::exact::notations::Lenient;
 use crate::exact::parsed_node::ParsedNode;
 use crate::exact::table_reader::{finish_row, fixed_part, read_row};
@@ -55,7 +56,7 @@ pub(crate) fn told<T: Text, R: Text>(
     requires types { IfSome read (λ x.
         (x.0.device_type ≡ row.now.kind) × (x.0.sub_type ≡ row.now.sub_kind)) }
     ensures { option_map parsed_node result
-        ≡ told_in (as_form row.now) (option_map (λ x. (text_node_data x.0, R.bytes x.1)) read) }
+        ≡ told_in (as_form row.now) (read_as text_node_data R.bytes read) }
 {
     let (node, rest) = read?;
     if !is_empty(rest) {
@@ -187,7 +188,7 @@ impl<T: NameText> Attempt for TextlessCall<T> {
 /// Returns the node that was read, if nothing is left of the text.
 fn whole<T: Text>(read: Option<(ParsedNode<T>, T)>) -> Option<ParsedNode<T>>
     ensures { option_map parsed_node result
-        ≡ whole (option_map (λ x. (parsed_node x.0, T.bytes x.1)) read) }
+        ≡ whole (read_as parsed_node T.bytes read) }
 {
     let (node, rest) = read?;
     if !is_empty(rest) {

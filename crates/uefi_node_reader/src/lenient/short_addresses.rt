@@ -4,27 +4,59 @@
 
 ghost use Rattle.std.specs.Prelude.{◌≡◌, ◌≤◌, IfSome, length, take};
 ghost use Rattle.std.specs.List.{position_or_len};
+ghost use Rattle.std.specs.Net.Addr.{ipv6_octets};
 ghost use Rattle.std.specs.Option.{option_map};
+ghost use Rattle.uefi_node_reader.specs.ReadViews.{read_as, value_of};
 ghost use Rattle.uefi_node_reader.specs.LenientFields.{any_number};
-ghost use Rattle.uefi_node_reader.specs.ShortAddresses.{address_read, bare_address, call_data, closed_address, closes_call, connection, ends_address, is_fixed, last_fields, last_part, last_read, local_read, origin_on, origin_read, protocol_read, settings_read, short_ipv6, told_fixed};
+ghost use Rattle.uefi_node_reader.specs.ShortAddresses.{address_octets, address_read, bare_address, call_data, closed_address, closes_call, connection, ends_address, is_fixed, gateway_part, last_fields, last_read, local_read, origin_on, origin_read, protocol_read, settings_read, short_ipv6, told_fixed};
 ghost use Rattle.uefi_node_reader.specs.ParsedNodeViews.{parsed_node};
 
-use crate::address_texts::{Address, whole_address};
 use crate::counted_bytes::{push, push_all};
 use crate::exact::fields::after;
 use crate::exact::parsed_node::ParsedNode;
 use crate::lenient::complete_texts::tells;
 use crate::lenient::lenient_fields::any_number;
 use crate::texts::{Text, is_empty};
+use std::net::Ipv6Addr;
 use uefi_device_nodes::node_table::layouts::{IPV6, MESSAGING_TYPE};
 use uefi_device_nodes::node_table::printing::form_of;
 use uefi_device_nodes::node_table::rows::Tail;
 
-/// The address `::`.
-const NO_ADDRESS: Address = Address { octets: [0; 16] };
-
 /// The prefix length and the gateway of a connection that a driver of EDK II makes: 64 and `::`.
-const NO_GATEWAY: Option<(u8, Address)> = Some((64, NO_ADDRESS));
+const NO_GATEWAY: Option<(u8, Ipv6Addr)> = Some((64, Ipv6Addr::UNSPECIFIED));
+
+/// The number of bytes of the longest text of an address, `ffff:ffff:ffff:ffff:ffff:ffff:255.255.255.255`.
+const LONGEST_ADDRESS: usize = 45;
+
+/// Copies a text to the first of these places.
+fn copy_text<T: Text>(text: T, places: &mut [u8])
+    requires { length (T.bytes text) ≤ length places.old }
+    ensures { take (length (T.bytes text)) places.new ≡ T.bytes text }
+{
+    let mut rest = text;
+    for place in 0..text.len() {
+        let Some((byte, after)) = rest.split_first() else {
+            return;
+        };
+        places[place] = byte;
+        rest = after;
+    }
+}
+
+/// Reads a whole text as an address.
+#[tactic(auto, unfolding(crate::specs::ShortAddresses::address_octets))]
+fn whole_address<T: Text>(text: T) -> Option<Ipv6Addr>
+    ensures { option_map ipv6_octets result ≡ address_octets (T.bytes text) }
+{
+    let len = text.len();
+    if LONGEST_ADDRESS < len {
+        return None;
+    }
+    // A text can be UTF-16, and std reads bytes.
+    let mut bytes = [0; LONGEST_ADDRESS];
+    copy_text(text, &mut bytes);
+    Ipv6Addr::parse_ascii(&bytes[..len]).ok()
+}
 
 /// Returns whether a byte ends an address.
 fn ends_address(byte: u8) -> bool
@@ -52,8 +84,8 @@ fn address_len<T: Text>(text: T) -> usize
 }
 
 /// Reads an address, and returns the rest of the text too.
-fn bare_address<T: Text>(text: T) -> Option<(Address, T)>
-    ensures { option_map (λ x. (x.0.octets, T.bytes x.1)) result ≡ bare_address (T.bytes text) }
+fn bare_address<T: Text>(text: T) -> Option<(Ipv6Addr, T)>
+    ensures { read_as ipv6_octets T.bytes result ≡ bare_address (T.bytes text) }
 {
     let (front, rest) = text.split_at(address_len(text));
     let address = whole_address(front)?;
@@ -61,8 +93,8 @@ fn bare_address<T: Text>(text: T) -> Option<(Address, T)>
 }
 
 /// Reads an address from the byte after `[` on, and the `]`. Returns the rest of the text too.
-fn closed_address<T: Text>(text: T) -> Option<(Address, T)>
-    ensures { option_map (λ x. (x.0.octets, T.bytes x.1)) result ≡ closed_address (T.bytes text) }
+fn closed_address<T: Text>(text: T) -> Option<(Ipv6Addr, T)>
+    ensures { read_as ipv6_octets T.bytes result ≡ closed_address (T.bytes text) }
 {
     let (address, rest) = bare_address(text)?;
     let rest = after(b"]", rest)?;
@@ -70,8 +102,8 @@ fn closed_address<T: Text>(text: T) -> Option<(Address, T)>
 }
 
 /// Reads an address, perhaps in brackets, and returns the rest of the text too.
-fn address<T: Text>(text: T) -> Option<(Address, T)>
-    ensures { option_map (λ x. (x.0.octets, T.bytes x.1)) result ≡ address_read (T.bytes text) }
+fn address<T: Text>(text: T) -> Option<(Ipv6Addr, T)>
+    ensures { read_as ipv6_octets T.bytes result ≡ address_read (T.bytes text) }
 {
     match text.split_first() {
         Some((b'[', rest)) => closed_address(rest),
@@ -81,7 +113,7 @@ fn address<T: Text>(text: T) -> Option<(Address, T)>
 
 /// Reads a protocol, by its name or its number, and returns the rest of the text too.
 fn protocol<T: Text>(text: T) -> Option<(u16, T)>
-    ensures { option_map (λ x. (x.0, T.bytes x.1)) result ≡ protocol_read (T.bytes text) }
+    ensures { value_of T.bytes result ≡ protocol_read (T.bytes text) }
 {
     if let Some(rest) = after(b"TCP", text) {
         return Some((6, rest));
@@ -95,7 +127,7 @@ fn protocol<T: Text>(text: T) -> Option<(u16, T)>
 
 /// Reads the origin of an address, and returns the rest of the text too.
 fn origin<T: Text>(text: T) -> Option<(u8, T)>
-    ensures { option_map (λ x. (x.0, T.bytes x.1)) result ≡ origin_read (T.bytes text) }
+    ensures { value_of T.bytes result ≡ origin_read (T.bytes text) }
 {
     if let Some(rest) = after(b"STATIC", text) {
         return Some((0, rest));
@@ -118,8 +150,8 @@ fn closes_call<T: Text>(text: T) -> bool
 }
 
 /// Reads the prefix length and the gateway at the end of a call.
-fn last_fields<T: Text>(text: T) -> Option<(u8, Address)>
-    ensures { option_map (λ x. (x.0, x.1.octets)) result ≡ last_fields (T.bytes text) }
+fn last_fields<T: Text>(text: T) -> Option<(u8, Ipv6Addr)>
+    ensures { option_map (λ x. (x.0, ipv6_octets x.1)) result ≡ last_fields (T.bytes text) }
 {
     let (prefix_length, rest) = any_number(0xff, text)?;
     let (gateway, rest) = address(after(b",", rest)?)?;
@@ -131,9 +163,8 @@ fn last_fields<T: Text>(text: T) -> Option<(u8, Address)>
 
 /// Reads the prefix length and the gateway at the end of a call, after a comma. A call that ends there is a
 /// short node, which lacks them.
-fn last<T: Text>(text: T) -> Option<Option<(u8, Address)>>
-    ensures { option_map (λ x. last_part (option_map (λ y. (y.0, y.1.octets)) x)) result
-        ≡ last_read (T.bytes text) }
+fn last<T: Text>(text: T) -> Option<Option<(u8, Ipv6Addr)>>
+    ensures { option_map gateway_part result ≡ last_read (T.bytes text) }
 {
     if closes_call(text) {
         return Some(None);
@@ -144,12 +175,11 @@ fn last<T: Text>(text: T) -> Option<Option<(u8, Address)>>
 
 /// Reads the local address, the prefix length and the gateway at the end of a call. If all are omitted, they
 /// are those that the drivers of EDK II write.
-fn local<T: Text>(text: T) -> Option<(Address, Option<(u8, Address)>)>
-    ensures { option_map (λ x. (x.0.octets, last_part (option_map (λ y. (y.0, y.1.octets)) x.1))) result
-        ≡ local_read (T.bytes text) }
+fn local<T: Text>(text: T) -> Option<(Ipv6Addr, Option<(u8, Ipv6Addr)>)>
+    ensures { option_map (λ x. (ipv6_octets x.0, gateway_part x.1)) result ≡ local_read (T.bytes text) }
 {
     if closes_call(text) {
-        return Some((NO_ADDRESS, NO_GATEWAY));
+        return Some((Ipv6Addr::UNSPECIFIED, NO_GATEWAY));
     }
     let (local, rest) = address(after(b",", text)?)?;
     let last = last(rest)?;
@@ -159,25 +189,25 @@ fn local<T: Text>(text: T) -> Option<(Address, Option<(u8, Address)>)>
 /// Returns the data of a connection without ports, and zeros up to 56 bytes. Returns the number of bytes of
 /// the data too.
 fn connection(
-    remote: Address,
+    remote: Ipv6Addr,
     protocol: u16,
     origin: u8,
-    local: (Address, Option<(u8, Address)>),
+    local: (Ipv6Addr, Option<(u8, Ipv6Addr)>),
 ) -> ([u8; 56], usize)
-    ensures data { take result.1 result.0 ≡ connection remote.octets protocol origin
-        (local.0.octets, last_part (option_map (λ y. (y.0, y.1.octets)) local.1)) }
+    ensures data { take result.1 result.0 ≡ connection (ipv6_octets remote) protocol origin
+        (ipv6_octets local.0, gateway_part local.1) }
     ensures few { result.1 ≤ 56 }
 {
     let mut data = [0; 56];
     let (local, last) = local;
-    let len = push_all(&mut data, 0, &local.octets);
-    let len = push_all(&mut data, len, &remote.octets);
+    let len = push_all(&mut data, 0, &local.octets());
+    let len = push_all(&mut data, len, &remote.octets());
     let (low, high) = ((protocol % 256) as u8, (protocol / 256) as u8);
     let len = push_all(&mut data, len, &[0, 0, 0, 0, low, high, origin]);
     match last {
         Some((prefix_length, gateway)) => {
             let len = push(&mut data, len, prefix_length);
-            let len = push_all(&mut data, len, &gateway.octets);
+            let len = push_all(&mut data, len, &gateway.octets());
             (data, len)
         }
         None => (data, len),
@@ -185,12 +215,12 @@ fn connection(
 }
 
 /// Reads the end of a call after the protocol. Returns the data of the connection as [`connection`] does.
-fn origin_on<T: Text>(remote: Address, protocol: u16, text: T) -> Option<([u8; 56], usize)>
-    ensures data { option_map (λ x. take x.1 x.0) result ≡ origin_on remote.octets protocol (T.bytes text) }
+fn origin_on<T: Text>(remote: Ipv6Addr, protocol: u16, text: T) -> Option<([u8; 56], usize)>
+    ensures data { option_map (λ x. take x.1 x.0) result ≡ origin_on (ipv6_octets remote) protocol (T.bytes text) }
     ensures few { IfSome result (λ x. x.1 ≤ 56) }
 {
     if closes_call(text) {
-        return Some(connection(remote, protocol, 0, (NO_ADDRESS, NO_GATEWAY)));
+        return Some(connection(remote, protocol, 0, (Ipv6Addr::UNSPECIFIED, NO_GATEWAY)));
     }
     let (origin, rest) = origin(after(b",", text)?)?;
     let local = local(rest)?;
@@ -199,8 +229,8 @@ fn origin_on<T: Text>(remote: Address, protocol: u16, text: T) -> Option<([u8; 5
 
 /// Reads the end of a call after the remote address. Returns the data of the connection as [`connection`]
 /// does.
-fn settings<T: Text>(remote: Address, text: T) -> Option<([u8; 56], usize)>
-    ensures data { option_map (λ x. take x.1 x.0) result ≡ settings_read remote.octets (T.bytes text) }
+fn settings<T: Text>(remote: Ipv6Addr, text: T) -> Option<([u8; 56], usize)>
+    ensures data { option_map (λ x. take x.1 x.0) result ≡ settings_read (ipv6_octets remote) (T.bytes text) }
     ensures few { IfSome result (λ x. x.1 ≤ 56) }
 {
     if closes_call(text) {

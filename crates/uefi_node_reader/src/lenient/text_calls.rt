@@ -7,6 +7,7 @@ ghost use Rattle.std.specs.Prelude.{◌≡◌, ◌++◌, ◌≤◌, ℕ, IfSome,
 ghost use Rattle.std.specs.Result.{result_map_both};
 ghost use Rattle.uefi_device_nodes.specs.Nodes.{Node};
 ghost use Rattle.uefi_device_nodes.specs.Rows.{as_form};
+ghost use Rattle.uefi_node_reader.specs.ReadViews.{rest_or_err};
 ghost use Rattle.uefi_node_reader.specs.LenientCalls.{told_in};
 ghost use Rattle.uefi_node_reader.specs.ParsedNodeViews.{parsed_node, text_node_data};
 ghost use Rattle.uefi_node_reader.specs.ParsedNodes.{fitting};
@@ -20,9 +21,9 @@ use crate::errors::faults::{Expected, Stop};
 use crate::errors::stops::stop_at;
 use crate::errors::tail_stops::tail_rest;
 use crate::exact::clear_texts::{first_of, past_clear};
+use crate::exact::first_form::{Attempt, try_table};
 use crate::exact::first_letters::begins_in_either_case;
-use crate::exact::form_attempts::{Attempt, try_table};
-use crate::exact::form_heads::{read_head, read_pieces};
+use crate::exact::form_fields::{read_head, read_pieces};
 use crate::exact::notations::Lenient;
 use crate::exact::parsed_node::ParsedNode;
 use crate::exact::table_reader::fixed_part;
@@ -121,7 +122,7 @@ fn call_left<T: NameText>(call: Tidied<T>, left: T) -> Tidied<T>
 
 /// Returns the rest of a text after the data that a tail reads, or where the text stops.
 fn words_end<T: NameText>(tail: Tail, close: &[u8], words: T) -> Result<T, Stop>
-    ensures { let text = or_commas tail (T.bytes words) in result_map_both (λ x. T.bytes x) (λ e. e) result
+    ensures { let text = or_commas tail (T.bytes words) in rest_or_err T.bytes result
         ≡ ok_or (past (tail_read tail close.now text)) (text_stop tail text) }
 {
     if are_left_out(tail, words) {

@@ -104,7 +104,7 @@ impl<T: NameText> Text for Tidied<T> {
 
 /// Returns the text from the first of these bytes on.
 fn from_mark<T: Text>(mark: u8, text: T) -> Option<T>
-    ensures { option_map (λ x. T.bytes x) result ≡ from_mark mark (T.bytes text) }
+    ensures { option_map T.bytes result ≡ from_mark mark (T.bytes text) }
 {
     let mut rest = text;
     'bytes: while let Some((byte, after)) = rest.split_first() {

@@ -3,7 +3,7 @@ use Rattle.std.specs.Char.Escape.{encode_utf16}
 use Rattle.std.specs.List.{flat_map}
 use Rattle.std.specs.Str.{chars}
 use Rattle.uefi_text.specs.UnitBytes.{unit_bytes}
-use Rattle.uefi_node_reader.specs.Counted.{pushed_byte, pushed_bytes}
+use Rattle.uefi_node_reader.specs.CountedBytes.{pushed_byte, pushed_bytes}
 use Rattle.uefi_node_reader.proofs.CountedBytes.{pushed_bytes-append}
 use Rattle.uefi_node_reader.proofs.NamedFiles.{text_end}
 use Rattle.uefi_node_reader.proofs.file_node.push_name.Goals as goal

@@ -1,5 +1,5 @@
 use Rattle.std.proofs.Common.{◌≡◌, ◌+◌, ◌-◌, ◌*◌, ◌/◌, ◌%◌, ◌^◌, min, length, List, ℕ, arith, ap, ◌∙◌}
-use Rattle.uefi_node_reader.specs.Counted.{pushed_byte}
+use Rattle.uefi_node_reader.specs.CountedBytes.{pushed_byte}
 use Rattle.uefi_node_reader.proofs.NamedFiles.{unit_more, units_counted}
 use Rattle.uefi_node_reader.proofs.name_data.push_ascii.Goals as goal
 

@@ -1,6 +1,6 @@
 use Rattle.std.proofs.Common.{◌≡◌, take}
 use Rattle.uefi_text.specs.UnitBytes.{unit_bytes}
-use Rattle.uefi_node_reader.specs.Counted.{pushed_bytes}
+use Rattle.uefi_node_reader.specs.CountedBytes.{pushed_bytes}
 use Rattle.uefi_node_reader.proofs.name_data.push_ascii.Given as goal
 
 abbrev pub invariant-loop-place : goal.invariant-loop-place

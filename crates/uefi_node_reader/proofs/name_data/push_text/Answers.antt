@@ -7,7 +7,7 @@ use Rattle.std.specs.List.{flat_map}
 use Rattle.std.specs.Str.{chars, IsAscii}
 use Rattle.uefi_text.proofs.SunkUnits.{encoded_ascii}
 use Rattle.uefi_text.specs.UnitBytes.{unit_bytes}
-use Rattle.uefi_node_reader.specs.Counted.{pushed_bytes}
+use Rattle.uefi_node_reader.specs.CountedBytes.{pushed_bytes}
 use Rattle.uefi_node_reader.proofs.NamedFiles.{text_more}
 use Rattle.uefi_node_reader.proofs.name_data.push_text.Goals as goal
 

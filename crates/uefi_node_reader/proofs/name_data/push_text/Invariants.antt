@@ -2,7 +2,7 @@ use Rattle.std.proofs.Common.{◌≡◌}
 use Rattle.std.specs.Char.Escape.{encode_utf16}
 use Rattle.std.specs.List.{flat_map}
 use Rattle.uefi_text.specs.UnitBytes.{unit_bytes}
-use Rattle.uefi_node_reader.specs.Counted.{pushed_bytes}
+use Rattle.uefi_node_reader.specs.CountedBytes.{pushed_bytes}
 use Rattle.uefi_node_reader.proofs.name_data.push_text.Given as goal
 
 abbrev pub invariant-loop-c : goal.invariant-loop-c

@@ -1,5 +1,5 @@
 use Rattle.std.proofs.Common.{List, ℕ, [], ◌∷◌, sym, ap, ◌∙◌}
-use Rattle.uefi_node_reader.specs.Counted.{pushed_byte}
+use Rattle.uefi_node_reader.specs.CountedBytes.{pushed_byte}
 use Rattle.uefi_node_reader.specs.FieldReading.{clear_run}
 use Rattle.uefi_node_reader.proofs.CountedBytes.{pushed_bytes-append}
 use Rattle.uefi_node_reader.proofs.exact.clear_texts.push_clear_name.Goals as goal

@@ -1,6 +1,6 @@
 use Rattle.std.proofs.Common.{◌≡◌, ℕ, ◌∷◌, [], ◌++◌, List, ap, codes, sym, ◌∙◌, append_assoc}
 use Rattle.std.specs.Prelude.{Option, Some, option_and_then}
-use Rattle.uefi_node_reader.specs.Counted.{pushed_bytes, put_on}
+use Rattle.uefi_node_reader.specs.CountedBytes.{pushed_bytes, put_on}
 use Rattle.uefi_node_reader.specs.FieldReading.{clear_run}
 use Rattle.uefi_node_reader.specs.TableReading.{as_ids, ids_read}
 use Rattle.uefi_node_reader.specs.WordReading.{after}

@@ -2,7 +2,7 @@ use Rattle.std.proofs.Common.{◌≡◌, ℕ, suc, ◌+◌, ◌-◌, ◌<◌, Li
 use Rattle.std.specs.Prelude.{Option, Some, None, option_and_then}
 use Rattle.std.specs.Option.{option_map}
 use Rattle.uefi_device_nodes.specs.Rows.{Item, as_item}
-use Rattle.uefi_node_reader.specs.Counted.{put_on}
+use Rattle.uefi_node_reader.specs.CountedBytes.{put_on}
 use Rattle.uefi_node_reader.specs.WordReading.{after}
 use Rattle.uefi_node_reader.specs.TableReading.{items_read}
 use Rattle.uefi_node_reader.proofs.ListReads.{list_ends, next_item, no_item}

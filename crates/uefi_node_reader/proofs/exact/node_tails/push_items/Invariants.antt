@@ -1,7 +1,7 @@
 use Rattle.std.proofs.Common.{◌≡◌, ◌-◌, length}
 use Rattle.std.specs.Prelude.{option_and_then}
 use Rattle.uefi_device_nodes.specs.Rows.{as_item}
-use Rattle.uefi_node_reader.specs.Counted.{put_on}
+use Rattle.uefi_node_reader.specs.CountedBytes.{put_on}
 use Rattle.uefi_node_reader.specs.TableReading.{items_read}
 use Rattle.uefi_node_reader.proofs.exact.node_tails.push_items.Given as goal
 

@@ -3,7 +3,7 @@ use Rattle.std.proofs.Math.ListN.{replicate}
 use Rattle.std.proofs.lemmas.Bool.{le-leb}
 use Rattle.std.proofs.lemmas.List.{take-replicate}
 use Rattle.std.specs.Prelude.{Option, Some, None, option_and_then}
-use Rattle.uefi_node_reader.specs.Counted.{pushed_bytes, put_on}
+use Rattle.uefi_node_reader.specs.CountedBytes.{pushed_bytes, put_on}
 use Rattle.uefi_node_reader.specs.FieldReading.{clear_run}
 use Rattle.uefi_node_reader.specs.TableReading.{as_padded, padded}
 use Rattle.uefi_node_reader.proofs.CountedBytes.{pushed_bytes-append}

@@ -1,5 +1,5 @@
 use Rattle.std.proofs.Common.{◌≡◌, length}
-use Rattle.uefi_node_reader.specs.Counted.{pushed_bytes}
+use Rattle.uefi_node_reader.specs.CountedBytes.{pushed_bytes}
 use Rattle.uefi_node_reader.specs.FieldReading.{run_read}
 use Rattle.uefi_node_reader.proofs.exact.node_tails.push_run.Given as goal
 

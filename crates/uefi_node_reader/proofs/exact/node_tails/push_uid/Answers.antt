@@ -1,5 +1,5 @@
 use Rattle.std.proofs.Common.{ℕ, ◌∷◌, [], ◌++◌, List, ap, sym, ◌∙◌, append_assoc}
-use Rattle.uefi_node_reader.specs.Counted.{pushed_byte, pushed_bytes}
+use Rattle.uefi_node_reader.specs.CountedBytes.{pushed_byte, pushed_bytes}
 use Rattle.uefi_node_reader.specs.FieldReading.{clear_run}
 use Rattle.uefi_node_reader.proofs.CountedBytes.{pushed_bytes-append}
 use Rattle.uefi_node_reader.proofs.exact.node_tails.push_uid.Goals as goal

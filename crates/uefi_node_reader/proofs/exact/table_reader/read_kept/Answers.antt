@@ -7,7 +7,7 @@ use Rattle.uefi_device_nodes.specs.Nodes.{Node, node_with}
 use Rattle.uefi_node_reader.specs.FieldReading.{read_if}
 use Rattle.uefi_node_reader.specs.TableReading.{form_place, form_read, kept, prints}
 use Rattle.uefi_node_reader.specs.ParsedNodeViews.{text_node_data, parsed_node}
-use Rattle.uefi_node_reader.proofs.Heads.{place_shown}
+use Rattle.uefi_node_reader.proofs.FormsByFirstBytes.{place_shown}
 use Rattle.uefi_node_reader.proofs.ParsedNodes.{fitting_fits, kept-fitting}
 use Rattle.uefi_node_reader.proofs.exact.table_reader.read_kept.Goals as goal
 

@@ -7,7 +7,7 @@ use Rattle.uefi_node_reader.specs.CompleteTexts.{tells}
 use Rattle.uefi_node_reader.specs.ParsedNodeViews.{parsed_node}
 use Rattle.uefi_node_reader.specs.ShortAddresses.{is_fixed}
 use Rattle.uefi_node_reader.specs.TableReading.{prints}
-use Rattle.uefi_node_reader.proofs.Heads.{form_same}
+use Rattle.uefi_node_reader.proofs.FormsByFirstBytes.{form_same}
 use Rattle.uefi_node_reader.proofs.ToldNodes.{by_parts}
 use Rattle.uefi_node_reader.proofs.lenient.short_addresses.told_fixed.Goals.{then-not-is_fixed-via-then-not-is_fixed, then-not-is_fixed-via-else-not-is_fixed+then-not-tells}
 use Rattle.uefi_node_reader.proofs.lenient.short_addresses.told_fixed.Goals as goal

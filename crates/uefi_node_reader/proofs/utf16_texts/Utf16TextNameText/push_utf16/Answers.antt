@@ -3,7 +3,7 @@ use Rattle.std.specs.Char.{IsScalar}
 use Rattle.std.specs.Char.Escape.{encode_utf16}
 use Rattle.std.specs.Str.{is_utf8}
 use Rattle.uefi_text.specs.UnitBytes.{unit_bytes}
-use Rattle.uefi_node_reader.specs.Counted.{pushed_bytes}
+use Rattle.uefi_node_reader.specs.CountedBytes.{pushed_bytes}
 use Rattle.uefi_node_reader.proofs.CountedBytes.{pushed_bytes-append}
 use Rattle.uefi_node_reader.proofs.Utf16Texts.{ascii_utf16, ascii_whole, bytes_of, next_shorter, utf16_bytes, utf16_more, utf16_none, utf8_more}
 use Rattle.uefi_node_reader.proofs.utf16_texts.Utf16TextNameText.push_utf16.Goals as goal

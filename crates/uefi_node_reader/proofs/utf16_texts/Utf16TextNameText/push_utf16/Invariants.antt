@@ -1,6 +1,6 @@
 use Rattle.std.proofs.Common.{◌≡◌, length, true}
 use Rattle.std.specs.Str.{is_utf8}
-use Rattle.uefi_node_reader.specs.Counted.{pushed_bytes}
+use Rattle.uefi_node_reader.specs.CountedBytes.{pushed_bytes}
 use Rattle.uefi_node_reader.proofs.Utf16Texts.{bytes_of, utf16_bytes}
 use Rattle.uefi_node_reader.proofs.utf16_texts.Utf16TextNameText.push_utf16.Given as goal
 

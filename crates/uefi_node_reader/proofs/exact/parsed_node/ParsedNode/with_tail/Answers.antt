@@ -1,6 +1,6 @@
 use Rattle.std.proofs.Common.{◌≡◌, ℕ, ◌∷◌, [], List, length, take, ap, ◌∙◌, arith}
 use Rattle.std.specs.Prelude.{Option, option_and_then}
-use Rattle.uefi_node_reader.specs.Counted.{put_on}
+use Rattle.uefi_node_reader.specs.CountedBytes.{put_on}
 use Rattle.uefi_node_reader.specs.ParsedNodes.{fitting}
 use Rattle.uefi_node_reader.specs.TableReading.{added, first_of, tail_read}
 use Rattle.uefi_node_reader.proofs.ParsedNodes.{stop_alone, tail_fits, tail_long}

@@ -1,7 +1,7 @@
 use Rattle.uefi_device_nodes.specs.Rows.{as_form}
 use Rattle.uefi_device_nodes.proofs.Lists.{all_at}
 use Rattle.uefi_node_reader.specs.TableReading.{is_filled, is_sound}
-use Rattle.uefi_node_reader.proofs.exact.form_attempts.try_group.Goals as goal
+use Rattle.uefi_node_reader.proofs.exact.first_form.try_group.Goals as goal
 
 pub attempt-requires-clause-sound : goal.attempt-requires-clause-sound
 attempt-requires-clause-sound g c =

@@ -4,8 +4,8 @@
 ghost use Rattle.std.specs.Prelude.{◌≡◌, IsTrue, length, map};
 ghost use Rattle.std.specs.List.{list_all};
 ghost use Rattle.std.specs.Result.{result_map_both};
-ghost use Rattle.std.specs.Option.{option_map};
 ghost use Rattle.uefi_device_nodes.specs.Rows.{as_form, as_piece, is_within};
+ghost use Rattle.uefi_node_reader.specs.ReadViews.{filled_with};
 ghost use Rattle.uefi_node_reader.specs.Notations.{head_in, piece_in, pieces_in};
 ghost use Rattle.uefi_node_reader.specs.TableReading.{blank, is_read, is_sound, pieces_put};
 
@@ -50,7 +50,7 @@ pub(crate) fn read_pieces<S: Notation, T: Text>(
 /// text.
 pub(crate) fn exact_pieces<T: Text>(pieces: &[Piece], content: &mut [u8], text: T) -> Option<T>
     requires { IsTrue (list_all (is_within (length content.old)) (map as_piece pieces.now)) }
-    ensures { option_map (λ rest. (content.new, T.bytes rest)) result
+    ensures { filled_with T.bytes content.new result
         ≡ pieces_put (map as_piece pieces.now) content.old (T.bytes text) }
 {
     read_pieces::<Exact, T>(pieces, content, text).ok()

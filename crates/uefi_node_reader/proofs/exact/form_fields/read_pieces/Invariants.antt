@@ -1,7 +1,7 @@
 use Rattle.std.proofs.Common.{◌≡◌, drop, map}
 use Rattle.uefi_device_nodes.specs.Rows.{as_piece}
 use Rattle.uefi_node_reader.specs.Notations.{pieces_in}
-use Rattle.uefi_node_reader.proofs.exact.form_heads.read_pieces.Given as goal
+use Rattle.uefi_node_reader.proofs.exact.form_fields.read_pieces.Given as goal
 
 abbrev pub invariant-loop-piece : goal.invariant-loop-piece
 invariant-loop-piece g l =

@@ -2,7 +2,7 @@ use Rattle.std.proofs.Common.{map, ◌∙◌}
 use Rattle.uefi_device_nodes.specs.Rows.{as_piece}
 use Rattle.uefi_node_reader.proofs.Literals.{read_ok}
 use Rattle.uefi_node_reader.proofs.PieceReads.{pieces_exact}
-use Rattle.uefi_node_reader.proofs.exact.form_heads.exact_pieces.Goals as goal
+use Rattle.uefi_node_reader.proofs.exact.form_fields.exact_pieces.Goals as goal
 
 pub returns : goal.returns
 returns g c =

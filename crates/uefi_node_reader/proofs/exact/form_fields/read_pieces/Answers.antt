@@ -1,7 +1,7 @@
 use Rattle.std.proofs.Common.{length}
 use Rattle.uefi_device_nodes.specs.Rows.{as_piece, is_within}
 use Rattle.uefi_device_nodes.proofs.Lists.{all_at_same}
-use Rattle.uefi_node_reader.proofs.exact.form_heads.read_pieces.Goals as goal
+use Rattle.uefi_node_reader.proofs.exact.form_fields.read_pieces.Goals as goal
 
 pub read_piece-requires : goal.read_piece-requires
 read_piece-requires g c =

@@ -1,7 +1,7 @@
 use Rattle.std.proofs.Common.{◌≡◌, ◌+◌, drop, map}
 use Rattle.uefi_device_nodes.specs.Rows.{as_form}
 use Rattle.uefi_node_reader.specs.LenientCalls.{first_tried}
-use Rattle.uefi_node_reader.proofs.exact.form_attempts.try_group.Given as goal
+use Rattle.uefi_node_reader.proofs.exact.first_form.try_group.Given as goal
 
 abbrev pub invariant-loop-place : goal.invariant-loop-place
 invariant-loop-place g l =

@@ -11,8 +11,8 @@ use Rattle.uefi_node_reader.specs.declared.errors.faults.Stop.{Stop}
 use Rattle.uefi_node_reader.proofs.FirstLetters.{none_tried}
 use Rattle.uefi_node_reader.proofs.Groups.{group_filled, group_sound}
 use Rattle.uefi_node_reader.proofs.LenientReads.{tried_step}
-use Rattle.uefi_node_reader.proofs.exact.form_attempts.try_table.Goals as goal
-use Rattle.uefi_node_reader.proofs.exact.form_attempts.try_table.Goals.{then-may_begin+in-Err, else-may_begin}
+use Rattle.uefi_node_reader.proofs.exact.first_form.try_table.Goals as goal
+use Rattle.uefi_node_reader.proofs.exact.first_form.try_table.Goals.{then-may_begin+in-Err, else-may_begin}
 
 pub try_group-requires-clause-sound : goal.try_group-requires-clause-sound
 try_group-requires-clause-sound g c =
