@@ -1,10 +1,10 @@
 pub mod Inputs
-pub mod Nodes
+pub mod NodeOffsets
 pub mod Options
-pub mod Written
+pub mod CallOutputs
 mod Judged
 mod FirstUnits
 mod Halves
-pub mod Rooms
-mod Ends
+pub mod TextCapacities
+mod GrownPaths
 mod KindNumbers

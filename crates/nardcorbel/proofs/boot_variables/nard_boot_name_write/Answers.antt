@@ -5,7 +5,7 @@ use Rattle.uefi_boot_variables.specs.Names.{four_digits, word_of}
 use Rattle.nardcorbel.specs.Outcomes.{Shows}
 use Rattle.nardcorbel.specs.Outcomes.Outcome.{Text}
 use Rattle.nardcorbel.proofs.KindNumbers.{at_most}
-use Rattle.nardcorbel.proofs.Written.{text_written}
+use Rattle.nardcorbel.proofs.CallOutputs.{text_written}
 use Rattle.nardcorbel.proofs.boot_variables.nard_boot_name_write.Goals as goal
 
 pub returns-clause-unknown : goal.returns-clause-unknown

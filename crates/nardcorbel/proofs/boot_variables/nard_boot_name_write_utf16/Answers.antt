@@ -8,7 +8,7 @@ use Rattle.uefi_boot_variables.specs.declared.variable_names.LoadOptionName.{Loa
 use Rattle.nardcorbel.proofs.KindNumbers.{at_most}
 use Rattle.nardcorbel.specs.Outcomes.{Shows}
 use Rattle.nardcorbel.specs.Outcomes.Outcome.{Text}
-use Rattle.nardcorbel.proofs.Written.{text_written}
+use Rattle.nardcorbel.proofs.CallOutputs.{text_written}
 use Rattle.nardcorbel.proofs.boot_variables.nard_boot_name_write_utf16.Goals as goal
 
 short : (name : LoadOptionName) → length (name_text name) < 2 ^ 63

@@ -1,7 +1,7 @@
 -- The path in the buffer is its first units.
 use Rattle.std.proofs.Common.{◌≡◌, arith, false, length, nat_lt}
 use Rattle.std.proofs.lemmas.Grind.{common_steps}
-use Rattle.nardcorbel.proofs.Written.{text_shown}
+use Rattle.nardcorbel.proofs.CallOutputs.{text_shown}
 use Rattle.nardcorbel.proofs.buffers.nard_path_push.Goals as goal
 
 pub returns : goal.returns

@@ -3,7 +3,7 @@ use Rattle.std.proofs.Common.{arith, length-take}
 use Rattle.std.proofs.lemmas.Grind.{common_steps}
 use Rattle.std.specs.List.{position_or_len}
 use Rattle.uefi_text.specs.Units.{is_nul}
-use Rattle.nardcorbel.proofs.Written.{text_written}
+use Rattle.nardcorbel.proofs.CallOutputs.{text_written}
 use Rattle.nardcorbel.proofs.fat_names.nard_string_from_fat.Goals as goal
 
 pub returns-clause-shows : goal.returns-clause-shows

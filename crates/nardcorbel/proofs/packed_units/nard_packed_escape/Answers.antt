@@ -1,7 +1,7 @@
 -- The text is written, or counted.
 use Rattle.std.proofs.Common.{arith}
 use Rattle.std.proofs.lemmas.Grind.{common_steps}
-use Rattle.nardcorbel.proofs.Written.{text_written}
+use Rattle.nardcorbel.proofs.CallOutputs.{text_written}
 use Rattle.nardcorbel.proofs.packed_units.nard_packed_escape.Goals as goal
 
 pub returns : goal.returns

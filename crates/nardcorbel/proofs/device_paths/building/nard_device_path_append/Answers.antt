@@ -3,7 +3,7 @@ use Rattle.std.proofs.Common.{None}
 use Rattle.uefi_device_path.specs.Building.{ends_at}
 use Rattle.uefi_device_path.specs.Views.{nodes_of}
 use Rattle.nardcorbel.specs.PathEnds.{extended, missing_end}
-use Rattle.nardcorbel.proofs.Written.{grown_at}
+use Rattle.nardcorbel.proofs.CallOutputs.{grown_at}
 use Rattle.nardcorbel.proofs.device_paths.building.nard_device_path_append.Goals as goal
 
 pub returns : goal.returns

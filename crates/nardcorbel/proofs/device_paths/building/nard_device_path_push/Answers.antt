@@ -2,7 +2,7 @@
 use Rattle.std.proofs.Common.{◌/◌, ◌%◌}
 use Rattle.uefi_device_path.specs.Building.{build_refusal, ends_at, pushed_at}
 use Rattle.uefi_device_path.specs.Nodes.{node_with}
-use Rattle.nardcorbel.proofs.Written.{grown_at}
+use Rattle.nardcorbel.proofs.CallOutputs.{grown_at}
 use Rattle.nardcorbel.proofs.device_paths.building.nard_device_path_push.Goals as goal
 
 pub returns : goal.returns

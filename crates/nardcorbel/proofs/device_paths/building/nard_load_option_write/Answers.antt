@@ -7,7 +7,7 @@ use Rattle.uefi_device_path.specs.Views.{nodes_of, option_entry}
 use Rattle.uefi_text.specs.Views.{text_of}
 use Rattle.nardcorbel.specs.DevicePathBuffers.{written_entry}
 use Rattle.nardcorbel.specs.Outcomes.{Shows}
-use Rattle.nardcorbel.proofs.Written.{entry_by, fields_are}
+use Rattle.nardcorbel.proofs.CallOutputs.{entry_by, fields_are}
 use Rattle.nardcorbel.proofs.device_paths.building.nard_load_option_write.Goals as goal
 
 pub returns : goal.returns

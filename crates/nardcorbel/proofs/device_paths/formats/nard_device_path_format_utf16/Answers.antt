@@ -5,8 +5,8 @@ use Rattle.std.proofs.lemmas.List.Elements.{All-from_get_or}
 use Rattle.uefi_text.specs.Packed.{IsByte}
 use Rattle.uefi_device_path.proofs.TextRoom.{libefivar_texts_fit, path_texts_fit}
 use Rattle.uefi_device_path.specs.PathTexts.{libefivar_text, nodes_text}
-use Rattle.nardcorbel.proofs.Rooms.{path_has_room}
-use Rattle.nardcorbel.proofs.Written.{text_shown}
+use Rattle.nardcorbel.proofs.TextCapacities.{path_has_room}
+use Rattle.nardcorbel.proofs.CallOutputs.{text_shown}
 use Rattle.nardcorbel.proofs.device_paths.formats.nard_device_path_format_utf16.Goals as goal
 
 pub returns-in-Err-clause-room_is_enough : goal.returns-in-Err-clause-room_is_enough

@@ -11,7 +11,7 @@ use Rattle.uefi_device_path.specs.Nodes.{first_node}
 use Rattle.uefi_device_path.specs.NodeViews.{node_of}
 use Rattle.nardcorbel.specs.DevicePaths.{BeginWithNode}
 use Rattle.nardcorbel.specs.Reading.{read_node}
-use Rattle.nardcorbel.proofs.Written.{text_shown}
+use Rattle.nardcorbel.proofs.CallOutputs.{text_shown}
 use Rattle.nardcorbel.proofs.device_paths.formats.nard_node_format.Goals as goal
 
 begin : (bytes : List ℕ) → All IsByte bytes → node_fault bytes ≡ None → BeginWithNode bytes (first_node bytes)

@@ -10,8 +10,8 @@ use Rattle.uefi_device_path.specs.NodeTexts.{node_text}
 use Rattle.uefi_device_path.specs.Nodes.{first_node}
 use Rattle.uefi_device_path.specs.NodeViews.{node_of}
 use Rattle.nardcorbel.specs.Reading.{read_node}
-use Rattle.nardcorbel.proofs.Rooms.{node_has_room}
-use Rattle.nardcorbel.proofs.Written.{text_shown}
+use Rattle.nardcorbel.proofs.TextCapacities.{node_has_room}
+use Rattle.nardcorbel.proofs.CallOutputs.{text_shown}
 use Rattle.nardcorbel.proofs.device_paths.formats.nard_node_format_utf16.Goals as goal
 
 pub returns-in-Specified-clause-shows : goal.returns-in-Specified-clause-shows

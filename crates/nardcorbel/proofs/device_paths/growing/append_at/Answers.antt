@@ -2,7 +2,7 @@
 use Rattle.std.proofs.Common.{◌∙◌, ap, arith, length, sym, Ok, Err}
 use Rattle.std.proofs.lemmas.Grind.{common_steps}
 use Rattle.uefi_device_path.specs.Views.{nodes_of}
-use Rattle.nardcorbel.proofs.Ends.{appended_at}
+use Rattle.nardcorbel.proofs.GrownPaths.{appended_at}
 use Rattle.nardcorbel.proofs.device_paths.growing.append_at.Goals as goal
 
 pub returns-in-Ok : goal.returns-in-Ok

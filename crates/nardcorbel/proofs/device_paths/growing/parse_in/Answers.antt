@@ -5,7 +5,7 @@ use Rattle.std.proofs.lemmas.List.{take-append-drop}
 use Rattle.std.specs.Result.{is_err}
 use Rattle.uefi_device_path.specs.PushedPaths.{Leaves, text_pushed}
 use Rattle.uefi_device_path.specs.declared.text.text_errors.PushTextError.{PushTextError}
-use Rattle.nardcorbel.proofs.Ends.{begins_empty, ended, parsed_err, parsed_ok}
+use Rattle.nardcorbel.proofs.GrownPaths.{begins_empty, ended, parsed_err, parsed_ok}
 use Rattle.nardcorbel.specs.PathEnds.{text_parsed}
 use Rattle.nardcorbel.proofs.device_paths.growing.parse_in.Goals as goal
 

@@ -1,7 +1,7 @@
 -- A shorter buffer has no room for any path.
 use Rattle.std.proofs.Common.{arith, [], ◌∷◌}
 use Rattle.std.proofs.lemmas.Grind.{common_steps}
-use Rattle.nardcorbel.proofs.Ends.{begins_empty, parsed_err}
+use Rattle.nardcorbel.proofs.GrownPaths.{begins_empty, parsed_err}
 use Rattle.nardcorbel.proofs.device_paths.growing.parse_text.Goals as goal
 
 pub returns-in-Err : goal.returns-in-Err

@@ -1,7 +1,7 @@
 -- The end node alone is the path to which the nodes are added.
 use Rattle.std.proofs.Common.{◌∙◌, arith, sym, Ok, Err}
 use Rattle.std.proofs.lemmas.Grind.{common_steps}
-use Rattle.nardcorbel.proofs.Ends.{text_at}
+use Rattle.nardcorbel.proofs.GrownPaths.{text_at}
 use Rattle.nardcorbel.proofs.device_paths.growing.push_text_at.Goals as goal
 
 pub returns-in-Ok : goal.returns-in-Ok

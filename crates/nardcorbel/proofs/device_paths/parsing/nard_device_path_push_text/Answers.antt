@@ -3,7 +3,7 @@ use Rattle.std.proofs.Common.{◌∙◌, arith, refl, sym}
 use Rattle.std.proofs.lemmas.Grind.{common_steps}
 use Rattle.uefi_device_path.specs.Building.{ends_at}
 use Rattle.uefi_device_path.specs.StyledReading.{path_read}
-use Rattle.nardcorbel.proofs.Written.{pushed_shown}
+use Rattle.nardcorbel.proofs.CallOutputs.{pushed_shown}
 use Rattle.nardcorbel.specs.PathEnds.{extended, missing_end}
 use Rattle.nardcorbel.specs.Refusals.{text_refused}
 use Rattle.nardcorbel.proofs.device_paths.parsing.nard_device_path_push_text.Goals as goal

@@ -5,7 +5,7 @@ use Rattle.uefi_device_path.specs.Building.{ends_at}
 use Rattle.uefi_device_path.specs.StyledReading.{path_read}
 use Rattle.uefi_device_path.specs.declared.text.text_errors.PushTextError.{PushTextError}
 use Rattle.uefi_device_path.specs.declared.text.text_errors.PushTextError.TheVariants.{BufferTooSmall}
-use Rattle.nardcorbel.proofs.Written.{pushed_shown}
+use Rattle.nardcorbel.proofs.CallOutputs.{pushed_shown}
 use Rattle.nardcorbel.specs.DevicePathTexts.{error_in_units}
 use Rattle.nardcorbel.specs.Outcomes.{too_small}
 use Rattle.nardcorbel.specs.PathEnds.{extended, missing_end}

@@ -8,7 +8,7 @@ use Rattle.uefi_device_path.specs.Views.{nodes_of}
 use Rattle.uefi_device_path.specs.declared.errors.FilePathError.{FilePathError}
 use Rattle.nardcorbel.specs.DevicePaths.{GivesFilePath, file_outcome}
 use Rattle.nardcorbel.specs.Outcomes.{Shows}
-use Rattle.nardcorbel.proofs.Written.{text_shown}
+use Rattle.nardcorbel.proofs.CallOutputs.{text_shown}
 use Rattle.nardcorbel.proofs.device_paths.reading.nard_device_path_file_path.Goals as goal
 
 pub returns-in-Ok-display_file_path-clause-path : goal.returns-in-Ok-display_file_path-clause-path

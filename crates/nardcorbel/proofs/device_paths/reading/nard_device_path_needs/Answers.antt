@@ -1,7 +1,7 @@
 -- What begins at the place is what is left from it on.
 use Rattle.std.proofs.Common.{subst}
 use Rattle.uefi_device_path.specs.Extents.{BeginNoPath}
-use Rattle.nardcorbel.proofs.Nodes.{left_from}
+use Rattle.nardcorbel.proofs.NodeOffsets.{left_from}
 use Rattle.nardcorbel.proofs.device_paths.reading.nard_device_path_needs.Goals as goal
 
 pub returns-in-Err-clause-never : goal.returns-in-Err-clause-never

@@ -8,7 +8,7 @@ use Rattle.uefi_device_path.specs.Nodes.{IsInner, end_entire, node_bytes}
 use Rattle.uefi_device_path.specs.NodeError.TheVariants.{Missing}
 use Rattle.nardcorbel.specs.DevicePaths.{node_in}
 use Rattle.uefi_device_path.proofs.Splits.{path_step}
-use Rattle.nardcorbel.proofs.Nodes.{left_from, never_faulty, node_stands, none_before_end}
+use Rattle.nardcorbel.proofs.NodeOffsets.{left_from, never_faulty, node_stands, none_before_end}
 use Rattle.nardcorbel.proofs.device_paths.reading.nard_device_path_next_node.Goals as goal
 
 pub returns-in_default-clause-path : goal.returns-in_default-clause-path

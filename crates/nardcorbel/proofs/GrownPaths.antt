@@ -22,7 +22,7 @@ use Rattle.uefi_device_path.specs.declared.errors.GrowError.TheVariants.{Build}
 use Rattle.uefi_device_path.specs.declared.text.text_errors.PushTextError.{PushTextError}
 use Rattle.uefi_device_path.specs.declared.text.text_errors.PushTextError.TheVariants as push
 use Rattle.uefi_device_path.specs.declared.text.text_errors.TextFault.{TextFault}
-use Rattle.nardcorbel.proofs.Nodes.{left_from}
+use Rattle.nardcorbel.proofs.NodeOffsets.{left_from}
 use Rattle.nardcorbel.specs.PathEnds.{moved_error, moved_text_error, nodes_appended_at, room_or, text_parsed, text_pushed_at}
 
 -- where the first bytes end with an end node, it begins four bytes before their end
