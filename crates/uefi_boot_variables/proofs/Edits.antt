@@ -1,48 +1,34 @@
 -- Edits of an order in the first of its places.
-use Rattle.std.proofs.Common.{◌≡◌, ℕ, zero, suc, sym, ◌+◌, ◌<◌, ◌≤◌, ◌∙◌, ap, refl, Bool, true, false, ◌||◌, not, cond, eqb, ltb, List, [], ◌∷◌, ◌++◌, length, take, drop, min, arith, get_or, set, ◌-◌, append_assoc}
-use Rattle.std.proofs.lemmas.Bool.{false≢true}
-use Rattle.std.proofs.lemmas.Bool.Decides.{nat_tests}
+use Rattle.std.proofs.Common.{◌≡◌, ℕ, zero, suc, sym, ◌+◌, ◌<◌, ◌≤◌, ◌∙◌, ap, subst, refl, inl, inr, false, cond, ltb, List, [], ◌∷◌, ◌++◌, length, take, drop, min, arith, get_or, set, ◌-◌, append_assoc}
+use Rattle.std.proofs.lemmas.Bool.{cases_Bool, le-ltb, lt-ltb}
 use Rattle.std.proofs.lemmas.Grind.{common_steps}
-use Rattle.std.proofs.lemmas.List.Edits.{get_or-insert_at}
-use Rattle.std.proofs.lemmas.List.{append-nil, drop_all, length-append, length-take, drop_more, set_at, take_all, take_more}
+use Rattle.std.proofs.lemmas.List.Edits.{get_or-insert_at, insert_end}
+use Rattle.std.proofs.lemmas.List.{append-nil, drop_all, length-append, length-take, drop_more, set_at, take_more}
 use Rattle.std.proofs.lemmas.Slice.{drop-append-drop}
 use Rattle.std.specs.Prelude.{insert}
-use Rattle.uefi_boot_variables.proofs.OrderLists.{next_new, not_reached, stands-once_each, within, without_absent}
-use Rattle.uefi_boot_variables.specs.Orders.{no_twice, once_each, over, stands_in, with_front, without}
+use Rattle.uefi_boot_variables.proofs.OrderLists.{left_of, next, not_reached, stands-once_each, within, without_absent}
+use Rattle.uefi_boot_variables.specs.Orders.{NoTwice, once_each, over, stands_in, with_front, without}
 
--- and shorter where the number stands in it
-step_fewer : (b s : Bool) (x m : ℕ) (ws : List ℕ) → (b || s) ≡ true → length ws ≤ m → (s ≡ true → length ws < m)
-    → length (cond (not b) (x ∷ ws) ws) < suc m
-step_fewer true s x m ws stands e less = omega (arith, e)
-step_fewer false s x m ws stands e less = omega (arith, less stands)
+-- whether a number stands in a list, by how many numbers are left without it
+stands_by_length : (n : ℕ) (xs : List ℕ) → stands_in n xs ≡ ltb (length (without n xs)) (length xs)
+stands_by_length n xs = elim (cases_Bool (stands_in n xs)) [
+  | inl stands ↦ stands ∙ sym (lt-ltb (length (without n xs)) (length xs) (left_of n xs stands))
+  | inr absent ↦ absent ∙ sym (le-ltb (length (without n xs)) (length xs) (omega (arith, ap length (without_absent n xs absent))))
+]
 
-pub fewer : (n : ℕ) (xs : List ℕ) → stands_in n xs ≡ true → length (without n xs) < length xs
-fewer n [] stands = absurd (false≢true stands)
-fewer n (x ∷ xs) stands =
-    step_fewer (eqb x n) (stands_in n xs) x (length xs) (without n xs) stands (within n xs) (fewer n xs)
+pub stood_by_length : (n k len : ℕ) (xs : List ℕ) → k ≡ length (without n xs) → len ≡ length xs → ltb k len ≡ stands_in n xs
+stood_by_length n k len xs left all = rw (left, all) (sym (stands_by_length n xs))
 
--- so by its length one sees whether the number stands in it
-by_length : (s : Bool) (n : ℕ) (xs : List ℕ) → stands_in n xs ≡ s → length (without n xs) ≡ length xs → s ≡ false
-by_length true n xs stands e = absurd (omega (arith, fewer n xs stands, e))
-by_length false n xs stands e = refl
+pub absent_by_length : (n : ℕ) (xs : List ℕ) → length xs ≤ length (without n xs) → stands_in n xs ≡ false
+absent_by_length n xs all = stands_by_length n xs ∙ le-ltb (length (without n xs)) (length xs) all
 
-pub absent_by_length : (n : ℕ) (xs : List ℕ) → length (without n xs) ≡ length xs → stands_in n xs ≡ false
-absent_by_length n xs e = by_length (stands_in n xs) n xs refl e
+pub front_same : (n : ℕ) (xs : List ℕ) → length xs ≤ length (without n xs) → with_front n xs ≡ without n xs
+front_same n xs all =
+    let absent = absent_by_length n xs all in ap (λ b. cond b (n ∷ without n xs) xs) absent ∙ sym (without_absent n xs absent)
 
-by_shorter : (s : Bool) (n : ℕ) (xs : List ℕ) → stands_in n xs ≡ s → (length (without n xs) ≡ length xs → ⊥) → s ≡ true
-by_shorter true n xs stands e = refl
-by_shorter false n xs absent e = absurd (e (ap length (without_absent n xs absent)))
-
-pub stands_by_length : (n : ℕ) (xs : List ℕ) → (length (without n xs) ≡ length xs → ⊥) → stands_in n xs ≡ true
-stands_by_length n xs e = by_shorter (stands_in n xs) n xs refl e
-
-pub front_same : (n : ℕ) (xs : List ℕ) → length (without n xs) ≡ length xs → (with_front n xs ≡ xs) × (without n xs ≡ xs)
-front_same n xs e =
-    let absent = absent_by_length n xs e in
-    (ap (λ (b : Bool). cond b (n ∷ without n xs) xs) absent, without_absent n xs absent)
-
-pub front_moved : (n : ℕ) (xs : List ℕ) → (length (without n xs) ≡ length xs → ⊥) → with_front n xs ≡ n ∷ without n xs
-front_moved n xs e = ap (λ (b : Bool). cond b (n ∷ without n xs) xs) (stands_by_length n xs e)
+pub front_moved : (n : ℕ) (xs : List ℕ) → length (without n xs) < length xs → with_front n xs ≡ n ∷ without n xs
+front_moved n xs less =
+    ap (λ b. cond b (n ∷ without n xs) xs) (stands_by_length n xs ∙ lt-ltb (length (without n xs)) (length xs) less)
 
 -- numbers over others, of which there are no more
 pub over_again : (xs ys places : List ℕ) → length ys ≤ length xs → over xs (over ys places) ≡ over xs places
@@ -60,8 +46,8 @@ pub over_same : (len : ℕ) (places : List ℕ) → over (take len places) place
 over_same len places = grind (arith, common_steps)
 
 -- a place beyond the end is the end
-pub insert_end : (xs : List ℕ) (k place n : ℕ) → k ≡ length xs → insert xs (min place k) n ≡ insert xs place n
-insert_end xs k place n e = grind (arith, common_steps)
+pub insert_min : (xs : List ℕ) (k place n : ℕ) → k ≡ length xs → insert xs (min place k) n ≡ insert xs place n
+insert_min xs k place n e = grind (arith, common_steps)
 
 pub insert_length : (xs : List ℕ) (place n : ℕ) → length (insert xs place n) ≡ length xs + 1
 insert_length xs place n = grind (arith, common_steps)
@@ -73,25 +59,21 @@ put_over xs places made k place n e is =
     is ∙ ap (λ (l : List ℕ). over (insert l place n) (over xs places)) (over_front xs places k e)
     ∙ over_again (insert xs place n) xs places (omega (arith, insert_length xs place n))
 
--- how many places an order without a number takes, at most
-pub left : (n len : ℕ) (places : List ℕ) → length (over (without n (take len places)) places) ≡ length places
-left n len places =
-    over_length (without n (take len places)) places (omega (arith, within n (take len places), length-take len places))
+-- how many numbers and places there are, with and without a number
+pub counts : (n len : ℕ) (places : List ℕ)
+    → (length (over (without n (take len places)) places) ≡ length places)
+    × (length (take len places) ≡ min len (length places)) × (length (without n (take len places)) ≤ length (take len places))
+counts n len places =
+    let count = length-take len places in
+    let less = within n (take len places) in
+    (over_length (without n (take len places)) places (omega (arith, less, count)), count, less)
 
 -- the numbers of the order that an edit leaves
-pub over_within : (xs places made : List ℕ) (len : ℕ) → made ≡ over xs places → len ≡ length xs → len ≤ length made
-over_within xs places made len is e = omega (arith, ap length is, length-append xs (drop (length xs) places), e)
-
-pub over_once : (xs places made : List ℕ) (len : ℕ) → made ≡ over xs places → len ≡ length xs → no_twice xs ≡ true → no_twice (take len made) ≡ true
-over_once xs places made len is e once = ap (λ (l : List ℕ). no_twice (take len l)) is ∙ ap no_twice (over_front xs places len e) ∙ once
-
--- whether a number stood in a list, by how many numbers are left
-stood_case : (s : Bool) (n k len : ℕ) (xs : List ℕ) → stands_in n xs ≡ s → k ≡ length (without n xs) → len ≡ length xs → ltb k len ≡ s
-stood_case true n k len xs stands left all = let less = fewer n xs stands in grind (arith, nat_tests)
-stood_case false n k len xs absent left all = let same = ap length (without_absent n xs absent) in grind (arith, nat_tests)
-
-pub stood_by_length : (n k len : ℕ) (xs : List ℕ) → k ≡ length (without n xs) → len ≡ length xs → ltb k len ≡ stands_in n xs
-stood_by_length n k len xs left all = stood_case (stands_in n xs) n k len xs refl left all
+pub edited : (xs places made : List ℕ) (len : ℕ) → made ≡ over xs places → len ≡ length xs → NoTwice xs → (len ≤ length made) × NoTwice (take len made)
+edited xs places made len is e once = (
+  omega (arith, ap length is, length-append xs (drop (length xs) places), e),
+  subst NoTwice (sym (ap (take len) is ∙ over_front xs places len e)) once,
+)
 
 -- numbers that are moved on by one from a place on, up to another
 pub begun : (xs : List ℕ) (place n : ℕ) → place < length xs → xs ≡ take place (insert xs place n) ++ drop place xs
@@ -146,11 +128,10 @@ carried_out xs numbers place at n inside end within_xs e =
     ∙ ap (λ (k : ℕ). take k (insert xs place n)) all ∙ cut xs place n inside
 
 -- a number stands in the places that an order was copied to so far exactly where it stood before in the order
-pub stood_before : (all old places : List ℕ) (i len n : ℕ) (stands : Bool) → len ≡ length (once_each (take i all))
-    → places ≡ over (once_each (take i all)) old → stands ≡ stands_in n (take len places) → stands_in n (take i all) ≡ stands
-stood_before all old places i len n stands counted so_far e =
-    sym (stands-once_each n (take i all)) ∙ ap (stands_in n) (sym (over_front (once_each (take i all)) old len counted))
-    ∙ ap (λ (l : List ℕ). stands_in n (take len l)) (sym so_far) ∙ sym e
+pub stood_before : (all old places : List ℕ) (i len n : ℕ) → len ≡ length (once_each (take i all))
+    → places ≡ over (once_each (take i all)) old → stands_in n (take i all) ≡ stands_in n (take len places)
+stood_before all old places i len n counted so_far =
+    sym (stands-once_each n (take i all)) ∙ ap (stands_in n) (sym (ap (take len) so_far ∙ over_front (once_each (take i all)) old len counted))
 
 -- places after one more number of an order
 pub copied_new : (all old places made : List ℕ) (i len n : ℕ) → i < length all → n ≡ get_or all i 0
@@ -159,10 +140,8 @@ pub copied_new : (all old places made : List ℕ) (i len n : ℕ) → i < length
     → (len + 1 ≡ length (once_each (take (i + 1) all))) × (made ≡ over (once_each (take (i + 1) all)) old)
 copied_new all old places made i len n inside here counted so_far absent e =
     let zs = once_each (take i all) in
-    let more : once_each (take (i + 1) all) ≡ zs ++ n ∷ [] = next_new all i n inside here absent in
-    let front : take len zs ≡ zs = take_all len zs (omega arith) in
-    let none : drop len zs ≡ [] = drop_all len zs (omega arith) in (
+    let more : once_each (take (i + 1) all) ≡ zs ++ n ∷ [] = next all i n inside here ∙ ap (λ b. zs ++ cond b [] (n ∷ [])) absent in (
       omega (arith, ap length more, length-append zs (n ∷ [])),
       put_over zs old made len len n counted (rw (← so_far) e)
-          ∙ ap (λ (l : List ℕ). over l old) (rw (front, none) (sym more)),
+          ∙ ap (λ l. over l old) (ap (λ k. insert zs k n) counted ∙ insert_end zs n ∙ sym more),
     )

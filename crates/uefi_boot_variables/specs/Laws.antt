@@ -1,8 +1,8 @@
 -- The laws of names and orders.
-use Rattle.std.specs.Prelude.{◌≡◌, ◌≢◌, ◌↔◌, ℕ, ◌<◌, ◌≤◌, ◌^◌, IsTrue, true, false, List, AllPairs, Contains, length, slice_index}
+use Rattle.std.specs.Prelude.{◌≡◌, ◌≢◌, ◌↔◌, ℕ, ◌<◌, ◌≤◌, ◌^◌, IsTrue, false, List, Contains, length, slice_index}
 use Rattle.uefi_text.specs.Units.{IsText}
 use Rattle.uefi_boot_variables.specs.Names.{name_text}
-use Rattle.uefi_boot_variables.specs.Orders.{no_twice, once_each, stands_in, with_at, without}
+use Rattle.uefi_boot_variables.specs.Orders.{NoTwice, once_each, stands_in, with_at, without}
 use Rattle.uefi_boot_variables.specs.declared.variable_names.LoadOptionName.{LoadOptionName}
 
 -- names with one text are the same
@@ -17,10 +17,6 @@ NamesAreTexts = (name : LoadOptionName) → name.number < 2 ^ 16 → IsText (nam
 abbrev pub StandsIsContains : Type 0
 StandsIsContains = (number : ℕ) (numbers : List ℕ)
     → IsTrue (stands_in number numbers) ↔ Contains numbers number
-
--- the test that no number stands twice is that
-abbrev pub NoTwiceIsApart : Type 0
-NoTwiceIsApart = (numbers : List ℕ) → IsTrue (no_twice numbers) ↔ AllPairs (λ a b. a ≢ b) numbers
 
 -- a number that is taken out is gone
 abbrev pub TakenOutIsGone : Type 0
@@ -47,8 +43,8 @@ EachStands = (number : ℕ) (numbers : List ℕ) → stands_in number (once_each
 
 -- and none stands there twice
 abbrev pub EachOnce : Type 0
-EachOnce = (numbers : List ℕ) → no_twice (once_each numbers) ≡ true
+EachOnce = (numbers : List ℕ) → NoTwice (once_each numbers)
 
 -- a list in which none stands twice stays as it is
 abbrev pub OnceStays : Type 0
-OnceStays = (numbers : List ℕ) → no_twice numbers ≡ true → once_each numbers ≡ numbers
+OnceStays = (numbers : List ℕ) → NoTwice numbers → once_each numbers ≡ numbers

@@ -1,5 +1,5 @@
 -- Lists of the numbers of load options, and what edits make of them.
-use Rattle.std.specs.Prelude.{ℕ, Bool, true, ◌&&◌, ◌==◌, not, if◌then◌else◌, List, [], ◌∷◌, ◌++◌, drop, filter, insert, length}
+use Rattle.std.specs.Prelude.{◌≢◌, ℕ, Bool, ◌==◌, not, if◌then◌else◌, List, [], ◌∷◌, ◌++◌, AllPairs, drop, filter, insert, length}
 use Rattle.std.specs.List.{list_any}
 
 -- the test whether a list contains a number
@@ -15,10 +15,9 @@ abbrev pub once_each : List ℕ → List ℕ
 once_each [] = []
 once_each (number ∷ numbers) = number ∷ without number (once_each numbers)
 
--- the test that no number occurs twice
-abbrev pub no_twice : List ℕ → Bool
-no_twice [] = true
-no_twice (number ∷ numbers) = not (stands_in number numbers) && no_twice numbers
+-- no number occurs twice: those at two indices differ
+abbrev pub NoTwice : List ℕ → Type 0
+NoTwice numbers = AllPairs (λ a b. a ≢ b) numbers
 
 -- a list with a number inserted at an index among the others, which keep their order; an index
 -- beyond the end is the end

@@ -1,6 +1,6 @@
 //! The laws of names and orders, for proofs of callers. Each law is a function that does nothing:
 //! its contract is the law.
-ghost use Rattle.uefi_boot_variables.specs.Laws.{EachOnce, EachStands, NamesAreTexts, NamesOnce, NoTwiceIsApart, OnceStays, OthersKeepOrder, OthersStay, PutWhereAsked, StandsIsContains, TakenOutIsGone};
+ghost use Rattle.uefi_boot_variables.specs.Laws.{EachOnce, EachStands, NamesAreTexts, NamesOnce, OnceStays, OthersKeepOrder, OthersStay, PutWhereAsked, StandsIsContains, TakenOutIsGone};
 
 /// No two names have the same text, and each name can be stored as a string, so that
 /// [`LoadOptionName::write_cstr16`](crate::LoadOptionName::write_cstr16) writes a string that is
@@ -10,11 +10,9 @@ pub fn names_once()
     ensures texts { NamesAreTexts }
 {}
 
-/// The meaning of the tests in contracts of edits: that a list contains a number, and that no
-/// number of a list occurs twice.
+/// The meaning of the test in contracts of edits that a list contains a number.
 pub fn order_tests()
     ensures stands { StandsIsContains }
-    ensures apart { NoTwiceIsApart }
 {}
 
 /// An edit of an order changes the place of one number: a removed number is gone, an inserted

@@ -6,7 +6,7 @@
 #![tactic(auto, unfolding(crate::specs::Views::memory_of, crate::specs::Views::numbers_in, crate::specs::Views::numbers_of, crate::specs::Views::order_places))]
 
 ghost use Rattle.std.specs.Prelude.{◌≡◌, ◌==◌, ◌+◌, ◌*◌, ◌<◌, ◌≤◌, ◌↔◌, ◌∷◌, ◌++◌, [], drop, insert, length, remove, take, true, false, IfOk, IsErr, IsTrue, OnErr, OnOk};
-ghost use Rattle.uefi_boot_variables.specs.Orders.{no_twice, once_each, over, stands_in, with_at, with_front, without};
+ghost use Rattle.uefi_boot_variables.specs.Orders.{NoTwice, once_each, over, stands_in, with_at, with_front, without};
 ghost use Rattle.uefi_text.specs.UnitBytes.{unit_bytes};
 
 use crate::order_edits::{OrderFull, copy, insert, move_to_front, put, remove};
@@ -32,7 +32,7 @@ pub struct OrderBuffer<'a> {
     places: &'a mut [u16],
     len: usize,
     pub ghost within: { len ≤ length places.now },
-    pub ghost once: { no_twice (take len places.now) ≡ true },
+    pub ghost once: { NoTwice (take len places.now) },
 }
 
 impl<'a> OrderBuffer<'a> {
@@ -80,7 +80,7 @@ impl<'a> OrderBuffer<'a> {
     /// Returns the numbers in order.
     pub fn as_slice(&self) -> &[u16]
         ensures numbers { result.now ≡ numbers_in self.now }
-        ensures once { no_twice result.now ≡ true }
+        ensures once { NoTwice result.now }
     {
         &self.places[..self.len]
     }

@@ -1,5 +1,5 @@
-use Rattle.uefi_boot_variables.proofs.OrderLists.{stands_is_contains, no_twice_is_apart}
+use Rattle.uefi_boot_variables.proofs.OrderLists.{stands_is_contains}
 use Rattle.uefi_boot_variables.proofs.laws.order_tests.Goals as goal
 
 pub returns : goal.returns
-returns c = record { stands = stands_is_contains; apart = no_twice_is_apart }
+returns c = record { stands = stands_is_contains }

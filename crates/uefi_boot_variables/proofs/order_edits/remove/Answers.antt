@@ -12,7 +12,7 @@ loop-place-preserved c =
           (omega arith) so_far.kept so_far.within so_far.places w.if-places-place.true in
           record { kept = w.kept-is ∙ next.0; places = w.places-is ∙ next.1; within = omega (arith, w.kept-is, so_far.within) }
       | else-places-place w ↦
-          let next = goes c.args.number c.args.places.now c.loop-place.places c.loop-place.kept c.loop-place.place
-          (omega arith) so_far.kept so_far.within so_far.places w.if-places-place.false in
-          record { kept = w.kept-is ∙ next.0; places = w.places-is ∙ next.1; within = omega (arith, w.kept-is, so_far.within) }
+          rw (goes c.args.number c.args.places.now c.loop-place.places c.loop-place.kept c.loop-place.place
+          (omega arith) so_far.kept so_far.within so_far.places w.if-places-place.false)
+          (record { kept = w.kept-is ∙ so_far.kept; places = w.places-is ∙ so_far.places; within = omega (arith, w.kept-is, so_far.within) })
     ]
