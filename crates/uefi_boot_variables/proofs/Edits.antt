@@ -1,12 +1,12 @@
 -- Edits of an order in the first of its places.
-use Rattle.std.proofs.Common.{◌≡◌, ℕ, zero, suc, sym, ◌+◌, ◌<◌, ◌≤◌, ◌∙◌, ap, subst, refl, inl, inr, false, cond, ltb, List, [], ◌∷◌, ◌++◌, length, take, drop, min, arith, get_or, set, ◌-◌, append_assoc}
+use Rattle.std.proofs.Common.{◌≡◌, ℕ, sym, ◌+◌, ◌<◌, ◌≤◌, ◌∙◌, ap, subst, refl, inl, inr, false, cond, ltb, List, [], ◌∷◌, ◌++◌, length, take, drop, min, arith, get_or, set, ◌-◌}
 use Rattle.std.proofs.lemmas.Bool.{cases_Bool, le-ltb, lt-ltb}
 use Rattle.std.proofs.lemmas.Grind.{common_steps}
-use Rattle.std.proofs.lemmas.List.Edits.{get_or-insert_at, insert_end}
-use Rattle.std.proofs.lemmas.List.{append-nil, drop_all, length-append, length-take, drop_more, set_at, take_more}
+use Rattle.std.proofs.lemmas.List.Edits.{insert_end}
+use Rattle.std.proofs.lemmas.List.{append-nil, drop-take, drop_all, drop_more, length-append, length-drop, length-take, length-take-le, set_at, take-take}
 use Rattle.std.proofs.lemmas.Slice.{drop-append-drop}
 use Rattle.std.specs.Prelude.{insert}
-use Rattle.uefi_boot_variables.proofs.OrderLists.{left_of, next, not_reached, stands-once_each, within, without_absent}
+use Rattle.uefi_boot_variables.proofs.OrderLists.{left_of, next, stands-once_each, within, without_absent}
 use Rattle.uefi_boot_variables.specs.Orders.{NoTwice, once_each, over, stands_in, with_front, without}
 
 -- whether a number stands in a list, by how many numbers are left without it
@@ -75,57 +75,21 @@ edited xs places made len is e once = (
   subst NoTwice (sym (ap (take len) is ∙ over_front xs places len e)) once,
 )
 
--- numbers that are moved on by one from a place on, up to another
-pub begun : (xs : List ℕ) (place n : ℕ) → place < length xs → xs ≡ take place (insert xs place n) ++ drop place xs
-begun xs place n inside = grind (arith, common_steps)
-
-pub first_carried : (xs : List ℕ) (place n : ℕ) → place < length xs → n ≡ get_or (insert xs place n) place 0
-first_carried xs place n inside = sym (get_or-insert_at xs place n 0 (omega (arith, inside)))
-
-inserted_after : (xs : List ℕ) (place at n : ℕ) → place ≤ at → get_or (insert xs place n) (suc at) 0 ≡ get_or xs at 0
-inserted_after xs zero at n from = refl
-inserted_after [] (suc place) at n from = refl
-inserted_after (x ∷ xs) (suc place) zero n from = absurd (omega arith)
-inserted_after (x ∷ xs) (suc place) (suc at) n from = inserted_after xs place at n (omega arith)
-
-pub next_carried : (xs numbers : List ℕ) (place at n : ℕ) → place ≤ at → at < length xs → numbers ≡ take at (insert xs place n) ++ drop at xs
-    → get_or numbers at 0 ≡ get_or (insert xs place n) (at + 1) 0
-next_carried xs numbers place at n from inside e =
-    let front = take at (insert xs place n) in
-    let count : at ≡ length front = omega (arith, length-take at (insert xs place n), insert_length xs place n, inside) in
-    let more : at + 1 ≡ suc at = omega arith in
-    not_reached front xs numbers at at count (omega arith) (e ∙ ap (λ (k : ℕ). front ++ drop k xs) count)
-    ∙ sym (ap (λ (k : ℕ). get_or (insert xs place n) k 0) more ∙ inserted_after xs place at n from)
-
-pub carried_on : (xs numbers : List ℕ) (place at n carried : ℕ) → place ≤ at → at < length xs
-    → numbers ≡ take at (insert xs place n) ++ drop at xs → carried ≡ get_or (insert xs place n) at 0
-    → set numbers at carried ≡ take (at + 1) (insert xs place n) ++ drop (at + 1) xs
-carried_on xs numbers place at n carried from inside e is =
-    let made = insert xs place n in
-    let count : at < length made = omega (arith, insert_length xs place n, inside) in
-    let front : length (take at made) ≡ at = omega (arith, length-take at made, count) in
-    ap (λ (l : List ℕ). set l at carried) (e ∙ ap (λ (l : List ℕ). take at made ++ l) (drop_more xs at 0 inside))
-    ∙ set_at (take at made) (get_or xs at 0) (drop (at + 1) xs) carried at front
-    ∙ ap (λ (k : ℕ). take at made ++ k ∷ drop (at + 1) xs) is
-    ∙ sym (append_assoc (take at made) (get_or made at 0 ∷ []) (drop (at + 1) xs))
-    ∙ ap (λ (l : List ℕ). l ++ drop (at + 1) xs) (sym (take_more made at 0 count))
-
-cut : (xs : List ℕ) (place n : ℕ) → place < length xs → take (length xs) (insert xs place n) ≡ insert (take (length xs - 1) xs) place n
-cut [] place n inside = absurd (omega arith)
-cut (x ∷ xs) zero n inside =
-    let less : suc (length xs) - 1 ≡ length xs = omega arith in
-    ap (λ (k : ℕ). n ∷ take k (x ∷ xs)) (sym less)
-cut (x ∷ xs) (suc place) n inside =
-    let less : suc (length xs) - 1 ≡ suc (length xs - 1) = omega (arith, inside) in
-    ap (λ (l : List ℕ). x ∷ l) (cut xs place n (omega (arith, inside)))
-    ∙ ap (λ (k : ℕ). insert (take k (x ∷ xs)) (suc place) n) (sym less)
-
-pub carried_out : (xs numbers : List ℕ) (place at n : ℕ) → place < length xs → length xs ≤ at → at ≤ length xs
-    → numbers ≡ take at (insert xs place n) ++ drop at xs → numbers ≡ insert (take (length xs - 1) xs) place n
-carried_out xs numbers place at n inside end within_xs e =
-    let all : at ≡ length xs = omega (arith, end, within_xs) in
-    e ∙ ap (λ (l : List ℕ). take at (insert xs place n) ++ l) (drop_all at xs end) ∙ append-nil (take at (insert xs place n))
-    ∙ ap (λ (k : ℕ). take k (insert xs place n)) all ∙ cut xs place n inside
+-- numbers of which the last goes to a place, where another takes its place
+pub rotated : (xs old new after : List ℕ) (place n : ℕ) → place < length xs → old ≡ drop place xs → after ≡ []
+    → new ≡ drop (length old - 1) old ++ take (length old - 1) old → set (take place xs ++ (new ++ after)) place n ≡ insert (take (length xs - 1) xs) place n
+rotated xs old new after place n inside rest none is =
+    let k : ℕ = length old - 1 in
+    let count : length old ≡ length xs - place = ap length rest ∙ length-drop place xs in
+    let last : drop k old ≡ get_or old k 0 ∷ [] = drop_more old k 0 (omega (arith, count)) ∙ ap (λ (l : List ℕ). get_or old k 0 ∷ l) (drop_all (k + 1) old (omega arith)) in
+    let front : take place (take (length xs - 1) xs) ≡ take place xs = take-take place (length xs - 1) xs (omega arith) in
+    let back : drop place (take (length xs - 1) xs) ≡ take k (drop place xs) =
+    ap (λ (m : ℕ). drop place (take m xs)) {x = length xs - 1} {y = place + k} (omega (arith, count)) ∙ drop-take place k xs in
+    ap (λ (l : List ℕ). set (take place xs ++ l) place n)
+    ((λ i. is i ++ none i) ∙ append-nil (drop k old ++ take k old) ∙ ap (λ (l : List ℕ). l ++ take k old) last)
+    ∙ set_at (take place xs) (get_or old k 0) (take k old) n place (length-take-le place xs (omega arith))
+    ∙ (λ i. take place xs ++ n ∷ take k (rest i))
+    ∙ sym (λ i. front i ++ n ∷ back i)
 
 -- a number stands in the places that an order was copied to so far exactly where it stood before in the order
 pub stood_before : (all old places : List ℕ) (i len n : ℕ) → len ≡ length (once_each (take i all))

@@ -79,13 +79,8 @@ fn put_in(numbers: &mut [u16], place: usize, number: u16)
     requires { place < length numbers.old }
     ensures { numbers.new ≡ insert (take (length numbers.old - 1) numbers.old) place number }
 {
-    // `rotate_right` would be a call of `memmove`, which firmware does not have.
-    let mut carried = number;
-    for at in place..numbers.len() {
-        let next = numbers[at];
-        numbers[at] = carried;
-        carried = next;
-    }
+    numbers[place..].rotate_right(1);
+    numbers[place] = number;
 }
 
 /// Inserts a number at a place of an order, and moves the numbers from there on back by one.
