@@ -9,7 +9,9 @@ use Rattle.uefi_device_nodes.proofs.FieldLengths.{comma_within, decimal_byte, ei
 use Rattle.uefi_device_nodes.specs.FieldTexts.{comma_bytes, eisa_text, has_uid_alone, shown_bytes, uid_string, utf16_text, vendor_name}
 use Rattle.uefi_device_nodes.proofs.RowLengths.{table_within}
 use Rattle.uefi_device_nodes.specs.Table.{has_form, table_text}
-use Rattle.uefi_device_nodes.specs.declared.node_table.layouts.TheConstants.{ACPI_TYPE, EXPANDED, EXPANDED_ID_STRINGS, EXPANDED_LEAST, MESSAGING_TYPE, MESSAGING_VENDOR, MESSAGING_VENDOR_LEAST}
+use Rattle.uefi_device_nodes.specs.declared.node_table.layouts.TheConstants.{ACPI_TYPE, MESSAGING_TYPE}
+use Rattle.uefi_device_nodes.specs.declared.node_table.layouts.acpi.expanded.TheConstants as expanded
+use Rattle.uefi_device_nodes.specs.declared.node_table.layouts.messaging.messaging_vendor.TheConstants as messaging_vendor
 use Rattle.uefi_device_nodes.specs.Nodes.{Node}
 use Rattle.uefi_device_nodes.specs.NodeTexts.{expanded_text, has_uid_text, irregular_text, is_file_node, is_irregular, node_text, short_name, unknown_text}
 use Rattle.uefi_device_nodes.specs.TypedNodes.{bytes_from, is_kind, number_at}
@@ -24,7 +26,7 @@ id_within place content all =
     let each : All IsByte bytes = All-take IsByte size after (All-drop IsByte place content all) in
     eisa_within (little_endian bytes) (omega (arith, number_within 4 bytes short each))
 
-expanded_within : (content : List ℕ) → EXPANDED_LEAST ≤ length content → All IsByte content → length (expanded_text content) < 4 * (length content + 4)
+expanded_within : (content : List ℕ) → expanded.LEAST ≤ length content → All IsByte content → length (expanded_text content) < 4 * (length content + 4)
 expanded_within content long all =
     let hid : List ℕ = eisa_text (number_at 0 4 content) in
     let cid : List ℕ = eisa_text (number_at 8 4 content) in
@@ -61,7 +63,7 @@ unknown_within node kind sub_kind all =
 
 short_within : (node : Node) → length (short_name node) ≤ 14
 short_within node =
-    by ((node.device_type == MESSAGING_TYPE) && ((node.sub_type == MESSAGING_VENDOR) && (length node.content == MESSAGING_VENDOR_LEAST)))
+    by ((node.device_type == MESSAGING_TYPE) && ((node.sub_type == messaging_vendor.SUB_TYPE) && (length node.content == messaging_vendor.LEAST)))
   where
     by : (t : Bool) → length (if t then vendor_name (number_at 0 8 node.content) (number_at 8 8 node.content) else []) ≤ 14
     by true = vendor_within (number_at 0 8 node.content) (number_at 8 8 node.content)
@@ -73,11 +75,11 @@ pick limit true one other e f = e refl
 pick limit false one other e f = f
 
 -- data of which the test for the text by _UID says that they are long enough
-uid_long : (shortcuts : Bool) (node : Node) → has_uid_text shortcuts node ≡ true → EXPANDED_LEAST ≤ length node.content
+uid_long : (shortcuts : Bool) (node : Node) → has_uid_text shortcuts node ≡ true → expanded.LEAST ≤ length node.content
 uid_long shortcuts node e =
-    let kind = (and_parts (is_kind ACPI_TYPE EXPANDED EXPANDED_LEAST node) (has_uid_alone (bytes_from EXPANDED_ID_STRINGS node.content)) (and_parts shortcuts _ e).1).0 in
-    let long = (and_parts (node.sub_type == EXPANDED) (nat_le EXPANDED_LEAST (length node.content)) (and_parts (node.device_type == ACPI_TYPE) _ kind).1).1 in
-    leb-true EXPANDED_LEAST (length node.content) long
+    let kind = (and_parts (is_kind ACPI_TYPE expanded.SUB_TYPE expanded.LEAST node) (has_uid_alone (bytes_from expanded.ID_STRINGS node.content)) (and_parts shortcuts _ e).1).0 in
+    let long = (and_parts (node.sub_type == expanded.SUB_TYPE) (nat_le expanded.LEAST (length node.content)) (and_parts (node.device_type == ACPI_TYPE) _ kind).1).1 in
+    leb-true expanded.LEAST (length node.content) long
 
 irregular_within : (display_only shortcuts : Bool) (node : Node) → All IsByte node.content
     → length (irregular_text display_only shortcuts node) < 4 * (length node.content + 4)

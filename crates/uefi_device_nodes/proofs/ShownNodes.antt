@@ -6,7 +6,9 @@ use Rattle.std.specs.List.{concat}
 use Rattle.uefi_text.specs.Packed.{IsByte}
 use Rattle.uefi_device_nodes.specs.FieldTexts.{comma_bytes, eisa_text, shown_bytes, uid_string, utf16_text}
 use Rattle.uefi_device_nodes.specs.ShownFields.{AsciiShown, BytesShown, IsShown, JoinedShown, NamesShown, NumbersShown, UnitsShown}
-use Rattle.uefi_device_nodes.specs.declared.node_table.layouts.TheConstants.{EXPANDED_CID, EXPANDED_HID, EXPANDED_ID_STRINGS, MESSAGING_TYPE, MESSAGING_VENDOR, MESSAGING_VENDOR_LEAST}
+use Rattle.uefi_device_nodes.specs.declared.node_table.layouts.TheConstants.{MESSAGING_TYPE}
+use Rattle.uefi_device_nodes.specs.declared.node_table.layouts.acpi.expanded.TheConstants as expanded
+use Rattle.uefi_device_nodes.specs.declared.node_table.layouts.messaging.messaging_vendor.TheConstants as messaging_vendor
 use Rattle.uefi_device_nodes.specs.ShownTable.{TableShown}
 use Rattle.uefi_device_nodes.specs.Table.{has_form, table_text}
 use Rattle.uefi_device_nodes.specs.Nodes.{Node}
@@ -37,11 +39,11 @@ module _ (joined : JoinedShown) (ascii : AsciiShown) (numbers : NumbersShown) (b
   end : Each (codes ")" ∷ [])
   end = (ascii (codes ")") refl, tt)
 
-  expanded : (content : List ℕ) → IsShown (expanded_text content)
-  expanded content =
-      let uid : List ℕ = uid_string (bytes_from EXPANDED_ID_STRINGS content) in
-      let hid_id : List ℕ = eisa_text (number_in EXPANDED_HID content) in
-      let cid_id : List ℕ = eisa_text (number_in EXPANDED_CID content) in
+  expanded_shown : (content : List ℕ) → IsShown (expanded_text content)
+  expanded_shown content =
+      let uid : List ℕ = uid_string (bytes_from expanded.ID_STRINGS content) in
+      let hid_id : List ℕ = eisa_text (number_in expanded.HID content) in
+      let cid_id : List ℕ = eisa_text (number_in expanded.CID content) in
       let id : (n : ℕ) → IsShown (eisa_text n) = λ n. (names n 0).0 in
       row (codes "AcpiExp(" ∷ hid_id ∷ codes "," ∷ cid_id ∷ codes "," ∷ shown_bytes uid ∷ codes ")" ∷ [])
       (ascii (codes "AcpiExp(") refl, (id _, (comma, (id _, (comma, ((bytes_are uid).4, end))))))
@@ -54,14 +56,14 @@ module _ (joined : JoinedShown) (ascii : AsciiShown) (numbers : NumbersShown) (b
 
   short : (node : Node) → IsShown (short_name node)
   short node =
-      pick ((node.device_type == MESSAGING_TYPE) && ((node.sub_type == MESSAGING_VENDOR) && (length node.content == MESSAGING_VENDOR_LEAST))) _ []
+      pick ((node.device_type == MESSAGING_TYPE) && ((node.sub_type == messaging_vendor.SUB_TYPE) && (length node.content == messaging_vendor.LEAST))) _ []
       (names (number_at 0 8 node.content) (number_at 8 8 node.content)).1 none
 
   irregular : (display_only shortcuts : Bool) (node : Node) → All IsByte node.content → IsShown (irregular_text display_only shortcuts node)
   unfolding irregular_text
   irregular display_only shortcuts node h =
       pick (is_file_node node) (utf16_text node.content) _ (units node.content h)
-      (pick (has_uid_text shortcuts node) (expanded_text node.content) (short_name node) (expanded node.content) (short node))
+      (pick (has_uid_text shortcuts node) (expanded_text node.content) (short_name node) (expanded_shown node.content) (short node))
 
   pub shown : NodesShown
   unfolding node_text

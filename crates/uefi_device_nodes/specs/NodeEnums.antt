@@ -4,7 +4,58 @@ use Rattle.uefi_device_nodes.specs.Nodes.{Node}
 use Rattle.uefi_device_nodes.specs.NodeViews.{data_of, file_node}
 use Rattle.uefi_device_nodes.specs.FileNodes.{IsFilePath, file_path_refusal, is_file}
 use Rattle.uefi_device_nodes.specs.TypedNodes.{IsOfKind}
-use Rattle.uefi_device_nodes.specs.declared.node_table.layouts.TheConstants.{ACPI, ACPI_LEAST, ACPI_TYPE, ADR, ADR_LEAST, ATAPI, ATAPI_LEAST, BIOS_BOOT_SPEC_TYPE, BLUETOOTH, BLUETOOTH_LE, BLUETOOTH_LEAST, BLUETOOTH_LE_LEAST, BMC, BMC_LEAST, BOOT_SPECIFICATION, BOOT_SPECIFICATION_LEAST, CD_ROM, CD_ROM_LEAST, CONTROLLER, CONTROLLER_LEAST, DEVICE_LOGICAL_UNIT, DEVICE_LOGICAL_UNIT_LEAST, DNS, DNS_LEAST, EMMC, EMMC_LEAST, EXPANDED, EXPANDED_LEAST, FIBRE_CHANNEL, FIBRE_CHANNEL_EX, FIBRE_CHANNEL_EX_LEAST, FIBRE_CHANNEL_LEAST, FIRMWARE_FILE, FIRMWARE_FILE_LEAST, FIRMWARE_VOLUME, FIRMWARE_VOLUME_LEAST, HARDWARE_TYPE, HARDWARE_VENDOR, HARDWARE_VENDOR_LEAST, HARD_DRIVE, HARD_DRIVE_LEAST, I2O, I2O_LEAST, IEEE1394, IEEE1394_LEAST, INFINIBAND, INFINIBAND_LEAST, IPV4, IPV4_LEAST, IPV6, IPV6_LEAST, ISCSI, ISCSI_LEAST, MAC_ADDRESS, MAC_ADDRESS_LEAST, MEDIA_TYPE, MEDIA_VENDOR, MEDIA_VENDOR_LEAST, MEMORY_MAPPED, MEMORY_MAPPED_LEAST, MESSAGING_TYPE, MESSAGING_VENDOR, MESSAGING_VENDOR_LEAST, NVDIMM, NVDIMM_LEAST, NVDIMM_NAMESPACE, NVDIMM_NAMESPACE_LEAST, NVME_NAMESPACE, NVME_NAMESPACE_LEAST, NVME_OF_NAMESPACE, NVME_OF_NAMESPACE_LEAST, PCCARD, PCCARD_LEAST, PCI, PCI_LEAST, PROTOCOL, PROTOCOL_LEAST, RAM_DISK, RAM_DISK_LEAST, RELATIVE_OFFSET_RANGE, RELATIVE_OFFSET_RANGE_LEAST, REST_SERVICE, REST_SERVICE_LEAST, SAS_EX, SAS_EX_LEAST, SATA, SATA_LEAST, SCSI, SCSI_LEAST, SD, SD_LEAST, UART, UART_LEAST, UFS, UFS_LEAST, URI, URI_LEAST, USB, USB_CLASS, USB_CLASS_LEAST, USB_LEAST, USB_WWID, USB_WWID_LEAST, VLAN, VLAN_LEAST, WIFI, WIFI_LEAST}
+use Rattle.uefi_device_nodes.specs.declared.node_table.layouts.TheConstants.{ACPI_TYPE, BIOS_BOOT_SPEC_TYPE, HARDWARE_TYPE, MEDIA_TYPE, MESSAGING_TYPE}
+use Rattle.uefi_device_nodes.specs.declared.node_table.layouts.acpi.acpi.TheConstants as acpi
+use Rattle.uefi_device_nodes.specs.declared.node_table.layouts.acpi.adr.TheConstants as adr
+use Rattle.uefi_device_nodes.specs.declared.node_table.layouts.messaging.atapi.TheConstants as atapi
+use Rattle.uefi_device_nodes.specs.declared.node_table.layouts.messaging.bluetooth.TheConstants as bluetooth
+use Rattle.uefi_device_nodes.specs.declared.node_table.layouts.messaging.bluetooth_le.TheConstants as bluetooth_le
+use Rattle.uefi_device_nodes.specs.declared.node_table.layouts.hardware.bmc.TheConstants as bmc
+use Rattle.uefi_device_nodes.specs.declared.node_table.layouts.bios_boot_spec.boot_specification.TheConstants as boot_specification
+use Rattle.uefi_device_nodes.specs.declared.node_table.layouts.media.cd_rom.TheConstants as cd_rom
+use Rattle.uefi_device_nodes.specs.declared.node_table.layouts.hardware.controller.TheConstants as controller
+use Rattle.uefi_device_nodes.specs.declared.node_table.layouts.messaging.device_logical_unit.TheConstants as device_logical_unit
+use Rattle.uefi_device_nodes.specs.declared.node_table.layouts.messaging.dns.TheConstants as dns
+use Rattle.uefi_device_nodes.specs.declared.node_table.layouts.messaging.emmc.TheConstants as emmc
+use Rattle.uefi_device_nodes.specs.declared.node_table.layouts.acpi.expanded.TheConstants as expanded
+use Rattle.uefi_device_nodes.specs.declared.node_table.layouts.messaging.fibre_channel.TheConstants as fibre_channel
+use Rattle.uefi_device_nodes.specs.declared.node_table.layouts.messaging.fibre_channel_ex.TheConstants as fibre_channel_ex
+use Rattle.uefi_device_nodes.specs.declared.node_table.layouts.media.firmware_file.TheConstants as firmware_file
+use Rattle.uefi_device_nodes.specs.declared.node_table.layouts.media.firmware_volume.TheConstants as firmware_volume
+use Rattle.uefi_device_nodes.specs.declared.node_table.layouts.media.hard_drive.TheConstants as hard_drive
+use Rattle.uefi_device_nodes.specs.declared.node_table.layouts.hardware.hardware_vendor.TheConstants as hardware_vendor
+use Rattle.uefi_device_nodes.specs.declared.node_table.layouts.messaging.i2o.TheConstants as i2o
+use Rattle.uefi_device_nodes.specs.declared.node_table.layouts.messaging.ieee1394.TheConstants as ieee1394
+use Rattle.uefi_device_nodes.specs.declared.node_table.layouts.messaging.infiniband.TheConstants as infiniband
+use Rattle.uefi_device_nodes.specs.declared.node_table.layouts.messaging.ipv4.TheConstants as ipv4
+use Rattle.uefi_device_nodes.specs.declared.node_table.layouts.messaging.ipv6.TheConstants as ipv6
+use Rattle.uefi_device_nodes.specs.declared.node_table.layouts.messaging.iscsi.TheConstants as iscsi
+use Rattle.uefi_device_nodes.specs.declared.node_table.layouts.messaging.mac_address.TheConstants as mac_address
+use Rattle.uefi_device_nodes.specs.declared.node_table.layouts.media.media_vendor.TheConstants as media_vendor
+use Rattle.uefi_device_nodes.specs.declared.node_table.layouts.hardware.memory_mapped.TheConstants as memory_mapped
+use Rattle.uefi_device_nodes.specs.declared.node_table.layouts.messaging.messaging_vendor.TheConstants as messaging_vendor
+use Rattle.uefi_device_nodes.specs.declared.node_table.layouts.acpi.nvdimm.TheConstants as nvdimm
+use Rattle.uefi_device_nodes.specs.declared.node_table.layouts.messaging.nvdimm_namespace.TheConstants as nvdimm_namespace
+use Rattle.uefi_device_nodes.specs.declared.node_table.layouts.messaging.nvme_namespace.TheConstants as nvme_namespace
+use Rattle.uefi_device_nodes.specs.declared.node_table.layouts.messaging.nvme_of_namespace.TheConstants as nvme_of_namespace
+use Rattle.uefi_device_nodes.specs.declared.node_table.layouts.hardware.pccard.TheConstants as pccard
+use Rattle.uefi_device_nodes.specs.declared.node_table.layouts.hardware.pci.TheConstants as pci
+use Rattle.uefi_device_nodes.specs.declared.node_table.layouts.media.protocol.TheConstants as protocol
+use Rattle.uefi_device_nodes.specs.declared.node_table.layouts.media.ram_disk.TheConstants as ram_disk
+use Rattle.uefi_device_nodes.specs.declared.node_table.layouts.media.relative_offset_range.TheConstants as relative_offset_range
+use Rattle.uefi_device_nodes.specs.declared.node_table.layouts.messaging.rest_service.TheConstants as rest_service
+use Rattle.uefi_device_nodes.specs.declared.node_table.layouts.messaging.sas_ex.TheConstants as sas_ex
+use Rattle.uefi_device_nodes.specs.declared.node_table.layouts.messaging.sata.TheConstants as sata
+use Rattle.uefi_device_nodes.specs.declared.node_table.layouts.messaging.scsi.TheConstants as scsi
+use Rattle.uefi_device_nodes.specs.declared.node_table.layouts.messaging.sd.TheConstants as sd
+use Rattle.uefi_device_nodes.specs.declared.node_table.layouts.messaging.uart.TheConstants as uart
+use Rattle.uefi_device_nodes.specs.declared.node_table.layouts.messaging.ufs.TheConstants as ufs
+use Rattle.uefi_device_nodes.specs.declared.node_table.layouts.messaging.uri.TheConstants as uri
+use Rattle.uefi_device_nodes.specs.declared.node_table.layouts.messaging.usb.TheConstants as usb
+use Rattle.uefi_device_nodes.specs.declared.node_table.layouts.messaging.usb_class.TheConstants as usb_class
+use Rattle.uefi_device_nodes.specs.declared.node_table.layouts.messaging.usb_wwid.TheConstants as usb_wwid
+use Rattle.uefi_device_nodes.specs.declared.node_table.layouts.messaging.vlan.TheConstants as vlan
+use Rattle.uefi_device_nodes.specs.declared.node_table.layouts.messaging.wifi.TheConstants as wifi
 use Rattle.uefi_device_nodes.specs.declared.errors.NodeConversionError.{NodeConversionError}
 use Rattle.uefi_device_nodes.specs.declared.errors.NodeConversionError.TheVariants.{InvalidLength, UnsupportedType}
 use Rattle.uefi_device_nodes.specs.declared.typed_node.TypedNode.{TypedNode}
@@ -75,36 +126,36 @@ IsNodeOf (view.BiosBootSpecBootSpecification shown) node = Shows shown node
 -- the kinds of type Hardware whose nodes have fields: the sub-type of each, and the least number of bytes of
 -- data
 abbrev pub hardware_kinds : List (ℕ × ℕ)
-hardware_kinds = (PCI, PCI_LEAST) ∷ (PCCARD, PCCARD_LEAST) ∷ (MEMORY_MAPPED, MEMORY_MAPPED_LEAST) ∷
-    (HARDWARE_VENDOR, HARDWARE_VENDOR_LEAST) ∷ (CONTROLLER, CONTROLLER_LEAST) ∷ (BMC, BMC_LEAST) ∷
+hardware_kinds = (pci.SUB_TYPE, pci.LEAST) ∷ (pccard.SUB_TYPE, pccard.LEAST) ∷ (memory_mapped.SUB_TYPE, memory_mapped.LEAST) ∷
+    (hardware_vendor.SUB_TYPE, hardware_vendor.LEAST) ∷ (controller.SUB_TYPE, controller.LEAST) ∷ (bmc.SUB_TYPE, bmc.LEAST) ∷
     []
 
 -- the kinds of type ACPI
 abbrev pub acpi_kinds : List (ℕ × ℕ)
-acpi_kinds = (ACPI, ACPI_LEAST) ∷ (EXPANDED, EXPANDED_LEAST) ∷ (ADR, ADR_LEAST) ∷
-    (NVDIMM, NVDIMM_LEAST) ∷ []
+acpi_kinds = (acpi.SUB_TYPE, acpi.LEAST) ∷ (expanded.SUB_TYPE, expanded.LEAST) ∷ (adr.SUB_TYPE, adr.LEAST) ∷
+    (nvdimm.SUB_TYPE, nvdimm.LEAST) ∷ []
 
 -- the kinds of type Messaging for devices on buses, serial ports and vendor-defined nodes
 abbrev pub bus_kinds : List (ℕ × ℕ)
-bus_kinds = (IEEE1394, IEEE1394_LEAST) ∷ (USB, USB_LEAST) ∷ (I2O, I2O_LEAST) ∷
-    (MESSAGING_VENDOR, MESSAGING_VENDOR_LEAST) ∷ (UART, UART_LEAST) ∷ (USB_CLASS, USB_CLASS_LEAST) ∷
-    (USB_WWID, USB_WWID_LEAST) ∷ []
+bus_kinds = (ieee1394.SUB_TYPE, ieee1394.LEAST) ∷ (usb.SUB_TYPE, usb.LEAST) ∷ (i2o.SUB_TYPE, i2o.LEAST) ∷
+    (messaging_vendor.SUB_TYPE, messaging_vendor.LEAST) ∷ (uart.SUB_TYPE, uart.LEAST) ∷ (usb_class.SUB_TYPE, usb_class.LEAST) ∷
+    (usb_wwid.SUB_TYPE, usb_wwid.LEAST) ∷ []
 
 -- the kinds of type Messaging for storage
 abbrev pub storage_kinds : List (ℕ × ℕ)
-storage_kinds = (ATAPI, ATAPI_LEAST) ∷ (SCSI, SCSI_LEAST) ∷ (FIBRE_CHANNEL, FIBRE_CHANNEL_LEAST) ∷
-    (DEVICE_LOGICAL_UNIT, DEVICE_LOGICAL_UNIT_LEAST) ∷ (SATA, SATA_LEAST) ∷
-    (FIBRE_CHANNEL_EX, FIBRE_CHANNEL_EX_LEAST) ∷ (SAS_EX, SAS_EX_LEAST) ∷
-    (NVME_NAMESPACE, NVME_NAMESPACE_LEAST) ∷ (UFS, UFS_LEAST) ∷ (SD, SD_LEAST) ∷
-    (EMMC, EMMC_LEAST) ∷ (NVDIMM_NAMESPACE, NVDIMM_NAMESPACE_LEAST) ∷ []
+storage_kinds = (atapi.SUB_TYPE, atapi.LEAST) ∷ (scsi.SUB_TYPE, scsi.LEAST) ∷ (fibre_channel.SUB_TYPE, fibre_channel.LEAST) ∷
+    (device_logical_unit.SUB_TYPE, device_logical_unit.LEAST) ∷ (sata.SUB_TYPE, sata.LEAST) ∷
+    (fibre_channel_ex.SUB_TYPE, fibre_channel_ex.LEAST) ∷ (sas_ex.SUB_TYPE, sas_ex.LEAST) ∷
+    (nvme_namespace.SUB_TYPE, nvme_namespace.LEAST) ∷ (ufs.SUB_TYPE, ufs.LEAST) ∷ (sd.SUB_TYPE, sd.LEAST) ∷
+    (emmc.SUB_TYPE, emmc.LEAST) ∷ (nvdimm_namespace.SUB_TYPE, nvdimm_namespace.LEAST) ∷ []
 
 -- the kinds of type Messaging for networks, and for what is reached over them
 abbrev pub network_kinds : List (ℕ × ℕ)
-network_kinds = (INFINIBAND, INFINIBAND_LEAST) ∷ (MAC_ADDRESS, MAC_ADDRESS_LEAST) ∷
-    (IPV4, IPV4_LEAST) ∷ (IPV6, IPV6_LEAST) ∷ (ISCSI, ISCSI_LEAST) ∷ (VLAN, VLAN_LEAST) ∷
-    (URI, URI_LEAST) ∷ (BLUETOOTH, BLUETOOTH_LEAST) ∷ (WIFI, WIFI_LEAST) ∷
-    (BLUETOOTH_LE, BLUETOOTH_LE_LEAST) ∷ (DNS, DNS_LEAST) ∷ (REST_SERVICE, REST_SERVICE_LEAST) ∷
-    (NVME_OF_NAMESPACE, NVME_OF_NAMESPACE_LEAST) ∷ []
+network_kinds = (infiniband.SUB_TYPE, infiniband.LEAST) ∷ (mac_address.SUB_TYPE, mac_address.LEAST) ∷
+    (ipv4.SUB_TYPE, ipv4.LEAST) ∷ (ipv6.SUB_TYPE, ipv6.LEAST) ∷ (iscsi.SUB_TYPE, iscsi.LEAST) ∷ (vlan.SUB_TYPE, vlan.LEAST) ∷
+    (uri.SUB_TYPE, uri.LEAST) ∷ (bluetooth.SUB_TYPE, bluetooth.LEAST) ∷ (wifi.SUB_TYPE, wifi.LEAST) ∷
+    (bluetooth_le.SUB_TYPE, bluetooth_le.LEAST) ∷ (dns.SUB_TYPE, dns.LEAST) ∷ (rest_service.SUB_TYPE, rest_service.LEAST) ∷
+    (nvme_of_namespace.SUB_TYPE, nvme_of_namespace.LEAST) ∷ []
 
 -- all kinds of type Messaging
 abbrev pub messaging_kinds : List (ℕ × ℕ)
@@ -112,14 +163,14 @@ messaging_kinds = bus_kinds ++ (storage_kinds ++ network_kinds)
 
 -- the kinds of type Media, except files
 abbrev pub media_kinds : List (ℕ × ℕ)
-media_kinds = (HARD_DRIVE, HARD_DRIVE_LEAST) ∷ (CD_ROM, CD_ROM_LEAST) ∷
-    (MEDIA_VENDOR, MEDIA_VENDOR_LEAST) ∷ (PROTOCOL, PROTOCOL_LEAST) ∷
-    (FIRMWARE_FILE, FIRMWARE_FILE_LEAST) ∷ (FIRMWARE_VOLUME, FIRMWARE_VOLUME_LEAST) ∷
-    (RELATIVE_OFFSET_RANGE, RELATIVE_OFFSET_RANGE_LEAST) ∷ (RAM_DISK, RAM_DISK_LEAST) ∷ []
+media_kinds = (hard_drive.SUB_TYPE, hard_drive.LEAST) ∷ (cd_rom.SUB_TYPE, cd_rom.LEAST) ∷
+    (media_vendor.SUB_TYPE, media_vendor.LEAST) ∷ (protocol.SUB_TYPE, protocol.LEAST) ∷
+    (firmware_file.SUB_TYPE, firmware_file.LEAST) ∷ (firmware_volume.SUB_TYPE, firmware_volume.LEAST) ∷
+    (relative_offset_range.SUB_TYPE, relative_offset_range.LEAST) ∷ (ram_disk.SUB_TYPE, ram_disk.LEAST) ∷ []
 
 -- the kinds of type BIOS Boot Specification
 abbrev pub bios_boot_spec_kinds : List (ℕ × ℕ)
-bios_boot_spec_kinds = (BOOT_SPECIFICATION, BOOT_SPECIFICATION_LEAST) ∷ []
+bios_boot_spec_kinds = (boot_specification.SUB_TYPE, boot_specification.LEAST) ∷ []
 
 -- why a node is of no kind in a list of kinds of its type, or none
 abbrev pub refusal_among : List (ℕ × ℕ) → Node → Option NodeConversionError

@@ -5,26 +5,28 @@ use Rattle.std.specs.Fmt.{decimal}
 use Rattle.std.specs.List.{concat}
 use Rattle.uefi_device_nodes.specs.FieldTexts.{comma_bytes, eisa_text, has_uid_alone, shown_bytes, uid_string, utf16_text, vendor_name}
 use Rattle.uefi_device_nodes.specs.Table.{has_form, table_text}
-use Rattle.uefi_device_nodes.specs.declared.node_table.layouts.TheConstants.{ACPI_TYPE, EXPANDED, EXPANDED_CID, EXPANDED_HID, EXPANDED_ID_STRINGS, EXPANDED_LEAST, MESSAGING_TYPE, MESSAGING_VENDOR, MESSAGING_VENDOR_LEAST}
+use Rattle.uefi_device_nodes.specs.declared.node_table.layouts.TheConstants.{ACPI_TYPE, MESSAGING_TYPE}
+use Rattle.uefi_device_nodes.specs.declared.node_table.layouts.acpi.expanded.TheConstants as expanded
+use Rattle.uefi_device_nodes.specs.declared.node_table.layouts.messaging.messaging_vendor.TheConstants as messaging_vendor
 use Rattle.uefi_device_nodes.specs.Nodes.{Node}
 use Rattle.uefi_device_nodes.specs.FileNodes.{is_file}
 use Rattle.uefi_device_nodes.specs.TypedNodes.{bytes_from, is_kind, number_at, number_in}
 
 -- the shorter text of a device that ACPI names only by the string of its _UID
 abbrev pub expanded_text : List ℕ → List ℕ
-expanded_text content = concat (codes "AcpiExp(" ∷ eisa_text (number_in EXPANDED_HID content)
-    ∷ codes "," ∷ eisa_text (number_in EXPANDED_CID content)
-    ∷ codes "," ∷ shown_bytes (uid_string (bytes_from EXPANDED_ID_STRINGS content)) ∷ codes ")" ∷ [])
+expanded_text content = concat (codes "AcpiExp(" ∷ eisa_text (number_in expanded.HID content)
+    ∷ codes "," ∷ eisa_text (number_in expanded.CID content)
+    ∷ codes "," ∷ shown_bytes (uid_string (bytes_from expanded.ID_STRINGS content)) ∷ codes ")" ∷ [])
 
 -- whether a node has that text, if short texts are allowed
 abbrev pub has_uid_text : Bool → Node → Bool
-has_uid_text shortcuts node = shortcuts && (is_kind ACPI_TYPE EXPANDED EXPANDED_LEAST node
-    && has_uid_alone (bytes_from EXPANDED_ID_STRINGS node.content))
+has_uid_text shortcuts node = shortcuts && (is_kind ACPI_TYPE expanded.SUB_TYPE expanded.LEAST node
+    && has_uid_alone (bytes_from expanded.ID_STRINGS node.content))
 
 -- the short name of a vendor-defined messaging node without data, or an empty text
 abbrev pub short_name : Node → List ℕ
 short_name node = if (node.device_type == MESSAGING_TYPE)
-    && ((node.sub_type == MESSAGING_VENDOR) && (length node.content == MESSAGING_VENDOR_LEAST))
+    && ((node.sub_type == messaging_vendor.SUB_TYPE) && (length node.content == messaging_vendor.LEAST))
     then vendor_name (number_at 0 8 node.content) (number_at 8 8 node.content) else []
 
 -- the text of a node of no known kind: its type, its sub-type and its data

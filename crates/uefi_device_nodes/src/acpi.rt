@@ -9,32 +9,32 @@ ghost use Rattle.uefi_text.specs.Views.{items_of};
 ghost use Rattle.uefi_device_nodes.specs.NodeViews.{data_of};
 ghost use Rattle.std.specs.Int.{to_le_bytes, w32};
 ghost use Rattle.std.specs.List.{flat_map};
-ghost use Rattle.uefi_device_nodes.specs.declared.node_table.layouts.TheConstants.{ACPI_HID, ACPI_UID, EXPANDED_CID, EXPANDED_HID, EXPANDED_UID, NVDIMM_NFIT_DEVICE_HANDLE};
+ghost use Rattle.uefi_device_nodes.specs.declared.node_table.layouts.acpi.acpi.TheConstants as acpi;
+ghost use Rattle.uefi_device_nodes.specs.declared.node_table.layouts.acpi.adr.TheConstants as adr;
+ghost use Rattle.uefi_device_nodes.specs.declared.node_table.layouts.acpi.expanded.TheConstants as expanded;
+ghost use Rattle.uefi_device_nodes.specs.declared.node_table.layouts.acpi.nvdimm.TheConstants as nvdimm;
 ghost use Rattle.uefi_device_nodes.specs.NodeFields.{number};
 
 use crate::field_texts::ids::id_strings;
 use crate::node::DeviceSubType;
-use crate::node_table::layouts::{
-    ACPI, ACPI_HID, ACPI_LEAST, ACPI_TYPE, ACPI_UID, ADR, ADR_ADR, ADR_LEAST, EXPANDED,
-    EXPANDED_CID, EXPANDED_HID, EXPANDED_ID_STRINGS, EXPANDED_LEAST, EXPANDED_UID, NVDIMM,
-    NVDIMM_LEAST, NVDIMM_NFIT_DEVICE_HANDLE,
-};
+use crate::node_table::layouts::ACPI_TYPE;
+use crate::node_table::layouts::acpi::{acpi, adr, expanded, nvdimm};
 use crate::typed_node::TypedNode;
 use uefi_text::UnalignedSlice;
 
 /// Sub-types of the type [`DeviceType::ACPI`](crate::DeviceType).
 impl DeviceSubType {
     /// A device with two numbers.
-    pub const ACPI: DeviceSubType = DeviceSubType(ACPI);
+    pub const ACPI: DeviceSubType = DeviceSubType(acpi::SUB_TYPE);
 
     /// A device with numbers and strings.
-    pub const ACPI_EXPANDED: DeviceSubType = DeviceSubType(EXPANDED);
+    pub const ACPI_EXPANDED: DeviceSubType = DeviceSubType(expanded::SUB_TYPE);
 
     /// The outputs of a display adapter.
-    pub const ACPI_ADR: DeviceSubType = DeviceSubType(ADR);
+    pub const ACPI_ADR: DeviceSubType = DeviceSubType(adr::SUB_TYPE);
 
     /// A persistent memory module.
-    pub const ACPI_NVDIMM: DeviceSubType = DeviceSubType(NVDIMM);
+    pub const ACPI_NVDIMM: DeviceSubType = DeviceSubType(nvdimm::SUB_TYPE);
 }
 
 /// A device that ACPI names by two numbers.
@@ -44,21 +44,21 @@ impl DeviceSubType {
 /// let root = acpi::Acpi::from_node(node)?;
 /// assert_eq!(rt; (root.hid(), root.uid()), (0x0a03_41d0, 1));
 /// ```
-pub type Acpi<'a> = TypedNode<'a, ACPI_TYPE, ACPI, ACPI_LEAST>;
+pub type Acpi<'a> = TypedNode<'a, ACPI_TYPE, { acpi::SUB_TYPE }, { acpi::LEAST }>;
 
 impl<'a> Acpi<'a> {
     /// Returns the number of its hardware ID, `_HID`.
     pub fn hid(&self) -> u32
-        ensures { result ≡ number_in ACPI_HID (data_of self.now) }
+        ensures { result ≡ number_in acpi.HID (data_of self.now) }
     {
-        self.number(ACPI_HID)
+        self.number(acpi::HID)
     }
 
     /// Returns the number of its unique ID, `_UID`.
     pub fn uid(&self) -> u32
-        ensures { result ≡ number_in ACPI_UID (data_of self.now) }
+        ensures { result ≡ number_in acpi.UID (data_of self.now) }
     {
-        self.number(ACPI_UID)
+        self.number(acpi::UID)
     }
 }
 
@@ -72,55 +72,55 @@ impl<'a> Acpi<'a> {
 /// assert_eq!(rt; (device.uid_str(), device.cid_str()), (b"u".as_slice(), b"dev".as_slice()));
 /// assert!(rt; device.hid_str().is_empty() && device.id_strings().len() == 7);
 /// ```
-pub type Expanded<'a> = TypedNode<'a, ACPI_TYPE, EXPANDED, EXPANDED_LEAST>;
+pub type Expanded<'a> = TypedNode<'a, ACPI_TYPE, { expanded::SUB_TYPE }, { expanded::LEAST }>;
 
 impl<'a> Expanded<'a> {
     /// Returns the number of its hardware ID, `_HID`.
     pub fn hid(&self) -> u32
-        ensures { result ≡ number_in EXPANDED_HID (data_of self.now) }
+        ensures { result ≡ number_in expanded.HID (data_of self.now) }
     {
-        self.number(EXPANDED_HID)
+        self.number(expanded::HID)
     }
 
     /// Returns the number of its unique ID, `_UID`.
     pub fn uid(&self) -> u32
-        ensures { result ≡ number_in EXPANDED_UID (data_of self.now) }
+        ensures { result ≡ number_in expanded.UID (data_of self.now) }
     {
-        self.number(EXPANDED_UID)
+        self.number(expanded::UID)
     }
 
     /// Returns the number of its compatible ID, `_CID`.
     pub fn cid(&self) -> u32
-        ensures { result ≡ number_in EXPANDED_CID (data_of self.now) }
+        ensures { result ≡ number_in expanded.CID (data_of self.now) }
     {
-        self.number(EXPANDED_CID)
+        self.number(expanded::CID)
     }
 
     /// Returns the bytes of the strings of `_HID`, `_UID` and `_CID`, in this order. A NUL ends
     /// each string.
     pub fn id_strings(&self) -> &'a [u8]
-        ensures { result.now ≡ bytes_from EXPANDED_ID_STRINGS (data_of self.now) }
+        ensures { result.now ≡ bytes_from expanded.ID_STRINGS (data_of self.now) }
     {
-        self.tail(EXPANDED_ID_STRINGS)
+        self.tail(expanded::ID_STRINGS)
     }
 
     /// Returns the string of `_HID`, without its NUL.
     pub fn hid_str(&self) -> &'a [u8]
-        ensures { result.now ≡ hid_string (bytes_from EXPANDED_ID_STRINGS (data_of self.now)) }
+        ensures { result.now ≡ hid_string (bytes_from expanded.ID_STRINGS (data_of self.now)) }
     {
         id_strings(self.id_strings()).hid
     }
 
     /// Returns the string of `_UID`, without its NUL. It is empty if the data ends before it.
     pub fn uid_str(&self) -> &'a [u8]
-        ensures { result.now ≡ uid_string (bytes_from EXPANDED_ID_STRINGS (data_of self.now)) }
+        ensures { result.now ≡ uid_string (bytes_from expanded.ID_STRINGS (data_of self.now)) }
     {
         id_strings(self.id_strings()).uid
     }
 
     /// Returns the string of `_CID`, without its NUL. It is empty if the data ends before it.
     pub fn cid_str(&self) -> &'a [u8]
-        ensures { result.now ≡ cid_string (bytes_from EXPANDED_ID_STRINGS (data_of self.now)) }
+        ensures { result.now ≡ cid_string (bytes_from expanded.ID_STRINGS (data_of self.now)) }
     {
         id_strings(self.id_strings()).cid
     }
@@ -134,17 +134,17 @@ impl<'a> Expanded<'a> {
 /// assert_eq!(rt; outputs.adr().len(), 2);
 /// assert_eq!(rt; outputs.adr().get(1), Some(0x8001_0300));
 /// ```
-pub type Adr<'a> = TypedNode<'a, ACPI_TYPE, ADR, ADR_LEAST>;
+pub type Adr<'a> = TypedNode<'a, ACPI_TYPE, { adr::SUB_TYPE }, { adr::LEAST }>;
 
 impl<'a> Adr<'a> {
     /// Returns the `_ADR` values of the outputs, at least one. Bytes after the last whole value are
     /// ignored.
     pub fn adr(&self) -> UnalignedSlice<'a, u32>
         ensures { items_of result
-            ≡ packed_items ADR_ADR.width (length (data_of self.now) / ADR_ADR.width) (data_of self.now) }
+            ≡ packed_items adr.ADR.width (length (data_of self.now) / adr.ADR.width) (data_of self.now) }
     {
         let values = self.data();
-        UnalignedSlice::new(values, values.len() / ADR_ADR.width)
+        UnalignedSlice::new(values, values.len() / adr::ADR.width)
     }
 }
 
@@ -155,24 +155,22 @@ impl<'a> Adr<'a> {
 /// let module = acpi::Nvdimm::from_node(node)?;
 /// assert_eq!(rt; module.nfit_device_handle(), 0x21);
 /// ```
-pub type Nvdimm<'a> = TypedNode<'a, ACPI_TYPE, NVDIMM, NVDIMM_LEAST>;
+pub type Nvdimm<'a> = TypedNode<'a, ACPI_TYPE, { nvdimm::SUB_TYPE }, { nvdimm::LEAST }>;
 
 impl<'a> Nvdimm<'a> {
     /// Returns the module's handle in the NFIT table.
     pub fn nfit_device_handle(&self) -> u32
-        ensures { result ≡ number_in NVDIMM_NFIT_DEVICE_HANDLE (data_of self.now) }
+        ensures { result ≡ number_in nvdimm.NFIT_DEVICE_HANDLE (data_of self.now) }
     {
-        self.number(NVDIMM_NFIT_DEVICE_HANDLE)
+        self.number(nvdimm::NFIT_DEVICE_HANDLE)
     }
 }
 
 /// The structs from which these nodes are built.
 pub mod build {
     use crate::fields::{Fields, put};
-    use crate::node_table::layouts::{
-        ACPI_HID, ACPI_TYPE, ACPI_UID, ADR, EXPANDED, EXPANDED_CID, EXPANDED_FIXED, EXPANDED_HID,
-        EXPANDED_UID, NVDIMM_NFIT_DEVICE_HANDLE,
-    };
+    use crate::node_table::layouts::ACPI_TYPE;
+    use crate::node_table::layouts::acpi::{acpi, adr, expanded, nvdimm};
     use crate::typed_node::TypedNode;
 
     /// A device that ACPI names by two numbers.
@@ -197,13 +195,13 @@ pub mod build {
 
         type Tail = ();
 
-        ghost fields = { λ n. number ACPI_HID n.hid ∷ number ACPI_UID n.uid ∷ [] };
+        ghost fields = { λ n. number acpi.HID n.hid ∷ number acpi.UID n.uid ∷ [] };
 
         fn tail(self) {}
 
         fn put(&self, content: &mut [u8]) {
-            put(content, ACPI_HID, self.hid);
-            put(content, ACPI_UID, self.uid);
+            put(content, acpi::HID, self.hid);
+            put(content, acpi::UID, self.uid);
         }
     }
 
@@ -231,12 +229,12 @@ pub mod build {
 
     /// Builds the node from its fields.
     impl<'a> Fields for Expanded<'a> {
-        type Layout = TypedNode<'static, ACPI_TYPE, EXPANDED, EXPANDED_FIXED>;
+        type Layout = TypedNode<'static, ACPI_TYPE, { expanded::SUB_TYPE }, { expanded::FIXED }>;
 
         type Tail = &'a [u8];
 
-        ghost fields = { λ n. number EXPANDED_HID n.hid ∷ number EXPANDED_UID n.uid ∷
-            number EXPANDED_CID n.cid ∷ [] };
+        ghost fields = { λ n. number expanded.HID n.hid ∷ number expanded.UID n.uid ∷
+            number expanded.CID n.cid ∷ [] };
 
         ghost after = { λ n. n.id_strings.now };
 
@@ -245,9 +243,9 @@ pub mod build {
         }
 
         fn put(&self, content: &mut [u8]) {
-            put(content, EXPANDED_HID, self.hid);
-            put(content, EXPANDED_UID, self.uid);
-            put(content, EXPANDED_CID, self.cid);
+            put(content, expanded::HID, self.hid);
+            put(content, expanded::UID, self.uid);
+            put(content, expanded::CID, self.cid);
         }
     }
 
@@ -267,7 +265,7 @@ pub mod build {
 
     /// Builds the node from its fields.
     impl<'a> Fields for Adr<'a> {
-        type Layout = TypedNode<'static, ACPI_TYPE, ADR, 0>;
+        type Layout = TypedNode<'static, ACPI_TYPE, { adr::SUB_TYPE }, 0>;
 
         type Tail = &'a [u32];
 
@@ -302,12 +300,12 @@ pub mod build {
 
         type Tail = ();
 
-        ghost fields = { λ n. number NVDIMM_NFIT_DEVICE_HANDLE n.nfit_device_handle ∷ [] };
+        ghost fields = { λ n. number nvdimm.NFIT_DEVICE_HANDLE n.nfit_device_handle ∷ [] };
 
         fn tail(self) {}
 
         fn put(&self, content: &mut [u8]) {
-            put(content, NVDIMM_NFIT_DEVICE_HANDLE, self.nfit_device_handle);
+            put(content, nvdimm::NFIT_DEVICE_HANDLE, self.nfit_device_handle);
         }
     }
 }

@@ -4,20 +4,18 @@
 ghost use Rattle.std.specs.Prelude.{◌≡◌, drop, ◌∷◌, []};
 ghost use Rattle.uefi_device_nodes.specs.TypedNodes.{bytes_from, bytes_in, end_of, number_in};
 ghost use Rattle.uefi_device_nodes.specs.NodeViews.{data_of};
-ghost use Rattle.uefi_device_nodes.specs.declared.node_table.layouts.TheConstants.{BOOT_SPECIFICATION_DEVICE_TYPE, BOOT_SPECIFICATION_STATUS_FLAG};
+ghost use Rattle.uefi_device_nodes.specs.declared.node_table.layouts.bios_boot_spec.boot_specification.TheConstants as boot_specification;
 ghost use Rattle.uefi_device_nodes.specs.NodeFields.{number};
 
 use crate::node::DeviceSubType;
-use crate::node_table::layouts::{
-    BIOS_BOOT_SPEC_TYPE, BOOT_SPECIFICATION, BOOT_SPECIFICATION_DESCRIPTION_STRING,
-    BOOT_SPECIFICATION_DEVICE_TYPE, BOOT_SPECIFICATION_LEAST, BOOT_SPECIFICATION_STATUS_FLAG,
-};
+use crate::node_table::layouts::BIOS_BOOT_SPEC_TYPE;
+use crate::node_table::layouts::bios_boot_spec::boot_specification;
 use crate::typed_node::TypedNode;
 
 /// Sub-types of the type [`DeviceType::BIOS_BOOT_SPEC`](crate::DeviceType).
 impl DeviceSubType {
     /// A device that a legacy BIOS can boot.
-    pub const BIOS_BOOT_SPECIFICATION: DeviceSubType = DeviceSubType(BOOT_SPECIFICATION);
+    pub const BIOS_BOOT_SPECIFICATION: DeviceSubType = DeviceSubType(boot_specification::SUB_TYPE);
 }
 
 /// A device that a legacy BIOS can boot.
@@ -31,40 +29,38 @@ impl DeviceSubType {
 pub type BootSpecification<'a> = TypedNode<
     'a,
     BIOS_BOOT_SPEC_TYPE,
-    BOOT_SPECIFICATION,
-    BOOT_SPECIFICATION_LEAST,
+    { boot_specification::SUB_TYPE },
+    { boot_specification::LEAST },
 >;
 
 impl<'a> BootSpecification<'a> {
     /// Returns the type of the device, as the BIOS Boot Specification numbers it.
     pub fn device_type(&self) -> u16
-        ensures { result ≡ number_in BOOT_SPECIFICATION_DEVICE_TYPE (data_of self.now) }
+        ensures { result ≡ number_in boot_specification.DEVICE_TYPE (data_of self.now) }
     {
-        self.number(BOOT_SPECIFICATION_DEVICE_TYPE)
+        self.number(boot_specification::DEVICE_TYPE)
     }
 
     /// Returns the flags that the BIOS Boot Specification defines.
     pub fn status_flag(&self) -> u16
-        ensures { result ≡ number_in BOOT_SPECIFICATION_STATUS_FLAG (data_of self.now) }
+        ensures { result ≡ number_in boot_specification.STATUS_FLAG (data_of self.now) }
     {
-        self.number(BOOT_SPECIFICATION_STATUS_FLAG)
+        self.number(boot_specification::STATUS_FLAG)
     }
 
     /// Returns the bytes of its description, including the NUL.
     pub fn description_string(&self) -> &'a [u8]
-        ensures { result.now ≡ bytes_from BOOT_SPECIFICATION_DESCRIPTION_STRING (data_of self.now) }
+        ensures { result.now ≡ bytes_from boot_specification.DESCRIPTION_STRING (data_of self.now) }
     {
-        self.tail(BOOT_SPECIFICATION_DESCRIPTION_STRING)
+        self.tail(boot_specification::DESCRIPTION_STRING)
     }
 }
 
 /// The structs from which these nodes are built.
 pub mod build {
     use crate::fields::{Fields, put};
-    use crate::node_table::layouts::{
-        BIOS_BOOT_SPEC_TYPE, BOOT_SPECIFICATION, BOOT_SPECIFICATION_DEVICE_TYPE,
-        BOOT_SPECIFICATION_FIXED, BOOT_SPECIFICATION_STATUS_FLAG,
-    };
+    use crate::node_table::layouts::BIOS_BOOT_SPEC_TYPE;
+    use crate::node_table::layouts::bios_boot_spec::boot_specification;
     use crate::typed_node::TypedNode;
 
     /// A device that a legacy BIOS can boot.
@@ -92,14 +88,14 @@ pub mod build {
         type Layout = TypedNode<
             'static,
             BIOS_BOOT_SPEC_TYPE,
-            BOOT_SPECIFICATION,
-            BOOT_SPECIFICATION_FIXED,
+            { boot_specification::SUB_TYPE },
+            { boot_specification::FIXED },
         >;
 
         type Tail = &'a [u8];
 
-        ghost fields = { λ n. number BOOT_SPECIFICATION_DEVICE_TYPE n.device_type ∷
-            number BOOT_SPECIFICATION_STATUS_FLAG n.status_flag ∷ [] };
+        ghost fields = { λ n. number boot_specification.DEVICE_TYPE n.device_type ∷
+            number boot_specification.STATUS_FLAG n.status_flag ∷ [] };
 
         ghost after = { λ n. n.description_string.now };
 
@@ -108,8 +104,8 @@ pub mod build {
         }
 
         fn put(&self, content: &mut [u8]) {
-            put(content, BOOT_SPECIFICATION_DEVICE_TYPE, self.device_type);
-            put(content, BOOT_SPECIFICATION_STATUS_FLAG, self.status_flag);
+            put(content, boot_specification::DEVICE_TYPE, self.device_type);
+            put(content, boot_specification::STATUS_FLAG, self.status_flag);
         }
     }
 }

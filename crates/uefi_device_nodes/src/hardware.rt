@@ -4,40 +4,41 @@
 ghost use Rattle.std.specs.Prelude.{◌≡◌, drop, slice_range, ◌∷◌, []};
 ghost use Rattle.uefi_device_nodes.specs.TypedNodes.{bytes_from, bytes_in, end_of, number_in};
 ghost use Rattle.uefi_device_nodes.specs.NodeViews.{data_of};
-ghost use Rattle.uefi_device_nodes.specs.declared.node_table.layouts.TheConstants.{BMC_BASE_ADDRESS, BMC_INTERFACE_TYPE, CONTROLLER_CONTROLLER_NUMBER, HARDWARE_VENDOR_VENDOR_GUID, MEMORY_MAPPED_ENDING_ADDRESS, MEMORY_MAPPED_MEMORY_TYPE, MEMORY_MAPPED_STARTING_ADDRESS, PCCARD_FUNCTION, PCI_DEVICE, PCI_FUNCTION};
+ghost use Rattle.uefi_device_nodes.specs.declared.node_table.layouts.hardware.bmc.TheConstants as bmc;
+ghost use Rattle.uefi_device_nodes.specs.declared.node_table.layouts.hardware.controller.TheConstants as controller;
+ghost use Rattle.uefi_device_nodes.specs.declared.node_table.layouts.hardware.hardware_vendor.TheConstants as hardware_vendor;
+ghost use Rattle.uefi_device_nodes.specs.declared.node_table.layouts.hardware.memory_mapped.TheConstants as memory_mapped;
+ghost use Rattle.uefi_device_nodes.specs.declared.node_table.layouts.hardware.pccard.TheConstants as pccard;
+ghost use Rattle.uefi_device_nodes.specs.declared.node_table.layouts.hardware.pci.TheConstants as pci;
 ghost use Rattle.uefi_device_nodes.specs.NodeFields.{bytes, number};
 
 use crate::field_texts::guid::Guid;
 use crate::node::DeviceSubType;
-use crate::node_table::layouts::{
-    BMC, BMC_BASE_ADDRESS, BMC_INTERFACE_TYPE, BMC_LEAST, CONTROLLER, CONTROLLER_CONTROLLER_NUMBER,
-    CONTROLLER_LEAST, HARDWARE_TYPE, HARDWARE_VENDOR, HARDWARE_VENDOR_LEAST,
-    HARDWARE_VENDOR_VENDOR_DEFINED_DATA, HARDWARE_VENDOR_VENDOR_GUID, MEMORY_MAPPED,
-    MEMORY_MAPPED_ENDING_ADDRESS, MEMORY_MAPPED_LEAST, MEMORY_MAPPED_MEMORY_TYPE,
-    MEMORY_MAPPED_STARTING_ADDRESS, PCCARD, PCCARD_FUNCTION, PCCARD_LEAST, PCI, PCI_DEVICE,
-    PCI_FUNCTION, PCI_LEAST,
+use crate::node_table::layouts::HARDWARE_TYPE;
+use crate::node_table::layouts::hardware::{
+    bmc, controller, hardware_vendor, memory_mapped, pccard, pci,
 };
 use crate::typed_node::TypedNode;
 
 /// Sub-types of the type [`DeviceType::HARDWARE`](crate::DeviceType).
 impl DeviceSubType {
     /// A device on a PCI bus.
-    pub const HARDWARE_PCI: DeviceSubType = DeviceSubType(PCI);
+    pub const HARDWARE_PCI: DeviceSubType = DeviceSubType(pci::SUB_TYPE);
 
     /// A PC card.
-    pub const HARDWARE_PCCARD: DeviceSubType = DeviceSubType(PCCARD);
+    pub const HARDWARE_PCCARD: DeviceSubType = DeviceSubType(pccard::SUB_TYPE);
 
     /// Memory.
-    pub const HARDWARE_MEMORY_MAPPED: DeviceSubType = DeviceSubType(MEMORY_MAPPED);
+    pub const HARDWARE_MEMORY_MAPPED: DeviceSubType = DeviceSubType(memory_mapped::SUB_TYPE);
 
     /// A vendor-defined node.
-    pub const HARDWARE_VENDOR: DeviceSubType = DeviceSubType(HARDWARE_VENDOR);
+    pub const HARDWARE_VENDOR: DeviceSubType = DeviceSubType(hardware_vendor::SUB_TYPE);
 
     /// A controller.
-    pub const HARDWARE_CONTROLLER: DeviceSubType = DeviceSubType(CONTROLLER);
+    pub const HARDWARE_CONTROLLER: DeviceSubType = DeviceSubType(controller::SUB_TYPE);
 
     /// The interface of a management controller.
-    pub const HARDWARE_BMC: DeviceSubType = DeviceSubType(BMC);
+    pub const HARDWARE_BMC: DeviceSubType = DeviceSubType(bmc::SUB_TYPE);
 }
 
 /// A device on a PCI bus.
@@ -47,21 +48,21 @@ impl DeviceSubType {
 /// let pci = hardware::Pci::from_node(node)?;
 /// assert_eq!(rt; (pci.device(), pci.function()), (0x1f, 2));
 /// ```
-pub type Pci<'a> = TypedNode<'a, HARDWARE_TYPE, PCI, PCI_LEAST>;
+pub type Pci<'a> = TypedNode<'a, HARDWARE_TYPE, { pci::SUB_TYPE }, { pci::LEAST }>;
 
 impl<'a> Pci<'a> {
     /// Returns the number of the function.
     pub fn function(&self) -> u8
-        ensures { result ≡ number_in PCI_FUNCTION (data_of self.now) }
+        ensures { result ≡ number_in pci.FUNCTION (data_of self.now) }
     {
-        self.number(PCI_FUNCTION)
+        self.number(pci::FUNCTION)
     }
 
     /// Returns the number of the device on its bus.
     pub fn device(&self) -> u8
-        ensures { result ≡ number_in PCI_DEVICE (data_of self.now) }
+        ensures { result ≡ number_in pci.DEVICE (data_of self.now) }
     {
-        self.number(PCI_DEVICE)
+        self.number(pci::DEVICE)
     }
 }
 
@@ -72,14 +73,14 @@ impl<'a> Pci<'a> {
 /// let card = hardware::Pccard::from_node(node)?;
 /// assert_eq!(rt; card.function(), 1);
 /// ```
-pub type Pccard<'a> = TypedNode<'a, HARDWARE_TYPE, PCCARD, PCCARD_LEAST>;
+pub type Pccard<'a> = TypedNode<'a, HARDWARE_TYPE, { pccard::SUB_TYPE }, { pccard::LEAST }>;
 
 impl<'a> Pccard<'a> {
     /// Returns the number of the function, counted from 0.
     pub fn function(&self) -> u8
-        ensures { result ≡ number_in PCCARD_FUNCTION (data_of self.now) }
+        ensures { result ≡ number_in pccard.FUNCTION (data_of self.now) }
     {
-        self.number(PCCARD_FUNCTION)
+        self.number(pccard::FUNCTION)
     }
 }
 
@@ -93,28 +94,33 @@ impl<'a> Pccard<'a> {
 /// assert_eq!(rt; memory.starting_address(), 0x8000_0000);
 /// assert_eq!(rt; memory.ending_address(), 0x8000_ffff);
 /// ```
-pub type MemoryMapped<'a> = TypedNode<'a, HARDWARE_TYPE, MEMORY_MAPPED, MEMORY_MAPPED_LEAST>;
+pub type MemoryMapped<'a> = TypedNode<
+    'a,
+    HARDWARE_TYPE,
+    { memory_mapped::SUB_TYPE },
+    { memory_mapped::LEAST },
+>;
 
 impl<'a> MemoryMapped<'a> {
     /// Returns the type of the memory, as in the firmware's memory map.
     pub fn memory_type(&self) -> u32
-        ensures { result ≡ number_in MEMORY_MAPPED_MEMORY_TYPE (data_of self.now) }
+        ensures { result ≡ number_in memory_mapped.MEMORY_TYPE (data_of self.now) }
     {
-        self.number(MEMORY_MAPPED_MEMORY_TYPE)
+        self.number(memory_mapped::MEMORY_TYPE)
     }
 
     /// Returns the address of its first byte.
     pub fn starting_address(&self) -> u64
-        ensures { result ≡ number_in MEMORY_MAPPED_STARTING_ADDRESS (data_of self.now) }
+        ensures { result ≡ number_in memory_mapped.STARTING_ADDRESS (data_of self.now) }
     {
-        self.number(MEMORY_MAPPED_STARTING_ADDRESS)
+        self.number(memory_mapped::STARTING_ADDRESS)
     }
 
     /// Returns the address of its last byte.
     pub fn ending_address(&self) -> u64
-        ensures { result ≡ number_in MEMORY_MAPPED_ENDING_ADDRESS (data_of self.now) }
+        ensures { result ≡ number_in memory_mapped.ENDING_ADDRESS (data_of self.now) }
     {
-        self.number(MEMORY_MAPPED_ENDING_ADDRESS)
+        self.number(memory_mapped::ENDING_ADDRESS)
     }
 }
 
@@ -126,7 +132,12 @@ impl<'a> MemoryMapped<'a> {
 /// assert_eq!(rt; vendor.vendor_guid(), Guid::from_bytes(*b"abcdefghijklmnop"));
 /// assert_eq!(rt; vendor.vendor_defined_data(), [1, 2].as_slice());
 /// ```
-pub type HardwareVendor<'a> = TypedNode<'a, HARDWARE_TYPE, HARDWARE_VENDOR, HARDWARE_VENDOR_LEAST>;
+pub type HardwareVendor<'a> = TypedNode<
+    'a,
+    HARDWARE_TYPE,
+    { hardware_vendor::SUB_TYPE },
+    { hardware_vendor::LEAST },
+>;
 
 /// [`HardwareVendor`], under its name in the Rust crate `uefi`.
 pub type Vendor<'a> = HardwareVendor<'a>;
@@ -134,16 +145,16 @@ pub type Vendor<'a> = HardwareVendor<'a>;
 impl<'a> HardwareVendor<'a> {
     /// Returns the GUID that names the vendor.
     pub fn vendor_guid(&self) -> Guid
-        ensures { result ≡ bytes_in HARDWARE_VENDOR_VENDOR_GUID (data_of self.now) }
+        ensures { result ≡ bytes_in hardware_vendor.VENDOR_GUID (data_of self.now) }
     {
-        self.guid_in(HARDWARE_VENDOR_VENDOR_GUID)
+        self.guid_in(hardware_vendor::VENDOR_GUID)
     }
 
     /// Returns the data that the vendor defines.
     pub fn vendor_defined_data(&self) -> &'a [u8]
-        ensures { result.now ≡ bytes_from HARDWARE_VENDOR_VENDOR_DEFINED_DATA (data_of self.now) }
+        ensures { result.now ≡ bytes_from hardware_vendor.VENDOR_DEFINED_DATA (data_of self.now) }
     {
-        self.tail(HARDWARE_VENDOR_VENDOR_DEFINED_DATA)
+        self.tail(hardware_vendor::VENDOR_DEFINED_DATA)
     }
 }
 
@@ -154,14 +165,19 @@ impl<'a> HardwareVendor<'a> {
 /// let controller = hardware::Controller::from_node(node)?;
 /// assert_eq!(rt; controller.controller_number(), 0x12a);
 /// ```
-pub type Controller<'a> = TypedNode<'a, HARDWARE_TYPE, CONTROLLER, CONTROLLER_LEAST>;
+pub type Controller<'a> = TypedNode<
+    'a,
+    HARDWARE_TYPE,
+    { controller::SUB_TYPE },
+    { controller::LEAST },
+>;
 
 impl<'a> Controller<'a> {
     /// Returns the number of the controller.
     pub fn controller_number(&self) -> u32
-        ensures { result ≡ number_in CONTROLLER_CONTROLLER_NUMBER (data_of self.now) }
+        ensures { result ≡ number_in controller.CONTROLLER_NUMBER (data_of self.now) }
     {
-        self.number(CONTROLLER_CONTROLLER_NUMBER)
+        self.number(controller::CONTROLLER_NUMBER)
     }
 }
 
@@ -172,32 +188,31 @@ impl<'a> Controller<'a> {
 /// let bmc = hardware::Bmc::from_node(node)?;
 /// assert_eq!(rt; (bmc.interface_type(), bmc.base_address()), (1, 0xca3));
 /// ```
-pub type Bmc<'a> = TypedNode<'a, HARDWARE_TYPE, BMC, BMC_LEAST>;
+pub type Bmc<'a> = TypedNode<'a, HARDWARE_TYPE, { bmc::SUB_TYPE }, { bmc::LEAST }>;
 
 impl<'a> Bmc<'a> {
     /// Returns the type of the interface: 0 is unknown, 1 KCS, 2 SMIC, 3 BT.
     pub fn interface_type(&self) -> u8
-        ensures { result ≡ number_in BMC_INTERFACE_TYPE (data_of self.now) }
+        ensures { result ≡ number_in bmc.INTERFACE_TYPE (data_of self.now) }
     {
-        self.number(BMC_INTERFACE_TYPE)
+        self.number(bmc::INTERFACE_TYPE)
     }
 
     /// Returns the base address of the interface. Its lowest bit is set for I/O ports, and clear for
     /// memory.
     pub fn base_address(&self) -> u64
-        ensures { result ≡ number_in BMC_BASE_ADDRESS (data_of self.now) }
+        ensures { result ≡ number_in bmc.BASE_ADDRESS (data_of self.now) }
     {
-        self.number(BMC_BASE_ADDRESS)
+        self.number(bmc::BASE_ADDRESS)
     }
 }
 
 /// The structs from which these nodes are built.
 pub mod build {
     use crate::fields::{Fields, put};
-    use crate::node_table::layouts::{
-        BMC_BASE_ADDRESS, BMC_INTERFACE_TYPE, CONTROLLER_CONTROLLER_NUMBER, HARDWARE_TYPE,
-        HARDWARE_VENDOR, MEMORY_MAPPED_ENDING_ADDRESS, MEMORY_MAPPED_MEMORY_TYPE,
-        MEMORY_MAPPED_STARTING_ADDRESS, PCCARD_FUNCTION, PCI_DEVICE, PCI_FUNCTION,
+    use crate::node_table::layouts::HARDWARE_TYPE;
+    use crate::node_table::layouts::hardware::{
+        bmc, controller, hardware_vendor, memory_mapped, pccard, pci,
     };
     use crate::vendor::VendorNode;
 
@@ -223,13 +238,13 @@ pub mod build {
 
         type Tail = ();
 
-        ghost fields = { λ n. number PCI_FUNCTION n.function ∷ number PCI_DEVICE n.device ∷ [] };
+        ghost fields = { λ n. number pci.FUNCTION n.function ∷ number pci.DEVICE n.device ∷ [] };
 
         fn tail(self) {}
 
         fn put(&self, content: &mut [u8]) {
-            put(content, PCI_FUNCTION, self.function);
-            put(content, PCI_DEVICE, self.device);
+            put(content, pci::FUNCTION, self.function);
+            put(content, pci::DEVICE, self.device);
         }
     }
 
@@ -253,12 +268,12 @@ pub mod build {
 
         type Tail = ();
 
-        ghost fields = { λ n. number PCCARD_FUNCTION n.function ∷ [] };
+        ghost fields = { λ n. number pccard.FUNCTION n.function ∷ [] };
 
         fn tail(self) {}
 
         fn put(&self, content: &mut [u8]) {
-            put(content, PCCARD_FUNCTION, self.function);
+            put(content, pccard::FUNCTION, self.function);
         }
     }
 
@@ -288,20 +303,20 @@ pub mod build {
 
         type Tail = ();
 
-        ghost fields = { λ n. number MEMORY_MAPPED_MEMORY_TYPE n.memory_type ∷
-            number MEMORY_MAPPED_STARTING_ADDRESS n.starting_address ∷
-            number MEMORY_MAPPED_ENDING_ADDRESS n.ending_address ∷ [] };
+        ghost fields = { λ n. number memory_mapped.MEMORY_TYPE n.memory_type ∷
+            number memory_mapped.STARTING_ADDRESS n.starting_address ∷
+            number memory_mapped.ENDING_ADDRESS n.ending_address ∷ [] };
 
         fn tail(self) {}
 
         fn put(&self, content: &mut [u8]) {
-            put(content, MEMORY_MAPPED_MEMORY_TYPE, self.memory_type);
+            put(content, memory_mapped::MEMORY_TYPE, self.memory_type);
             put(
                 content,
-                MEMORY_MAPPED_STARTING_ADDRESS,
+                memory_mapped::STARTING_ADDRESS,
                 self.starting_address,
             );
-            put(content, MEMORY_MAPPED_ENDING_ADDRESS, self.ending_address);
+            put(content, memory_mapped::ENDING_ADDRESS, self.ending_address);
         }
     }
 
@@ -315,7 +330,7 @@ pub mod build {
     /// let text = format!(in rt.alloc(); "{}", path.as_device_path())?;
     /// assert_eq!(rt; text.as_str(), "VenHw(64636261-6665-6867-696A-6B6C6D6E6F70,0102)");
     /// ```
-    pub type Vendor<'a> = VendorNode<'a, HARDWARE_TYPE, HARDWARE_VENDOR>;
+    pub type Vendor<'a> = VendorNode<'a, HARDWARE_TYPE, { hardware_vendor::SUB_TYPE }>;
 
     /// A controller.
     ///
@@ -337,14 +352,14 @@ pub mod build {
 
         type Tail = ();
 
-        ghost fields = { λ n. number CONTROLLER_CONTROLLER_NUMBER n.controller_number ∷ [] };
+        ghost fields = { λ n. number controller.CONTROLLER_NUMBER n.controller_number ∷ [] };
 
         fn tail(self) {}
 
         fn put(&self, content: &mut [u8]) {
             put(
                 content,
-                CONTROLLER_CONTROLLER_NUMBER,
+                controller::CONTROLLER_NUMBER,
                 self.controller_number,
             );
         }
@@ -372,14 +387,14 @@ pub mod build {
 
         type Tail = ();
 
-        ghost fields = { λ n. number BMC_INTERFACE_TYPE n.interface_type ∷
-            number BMC_BASE_ADDRESS n.base_address ∷ [] };
+        ghost fields = { λ n. number bmc.INTERFACE_TYPE n.interface_type ∷
+            number bmc.BASE_ADDRESS n.base_address ∷ [] };
 
         fn tail(self) {}
 
         fn put(&self, content: &mut [u8]) {
-            put(content, BMC_INTERFACE_TYPE, self.interface_type);
-            put(content, BMC_BASE_ADDRESS, self.base_address);
+            put(content, bmc::INTERFACE_TYPE, self.interface_type);
+            put(content, bmc::BASE_ADDRESS, self.base_address);
         }
     }
 }

@@ -8,10 +8,11 @@ ghost use Rattle.uefi_device_nodes.specs.Nodes.{node_with};
 ghost use Rattle.uefi_device_nodes.specs.ShownNodes.{NodesShown};
 ghost use Rattle.uefi_device_nodes.specs.TypedNodes.{IsOfKind};
 ghost use Rattle.uefi_text.specs.UnitBytes.{unit_bytes, units_of_bytes};
+ghost use Rattle.uefi_device_nodes.specs.declared.node_table.layouts.media.file_path.TheConstants as file_path;
 
 use crate::field_texts::field_laws::fields_are_shown;
 use crate::fields::Fields;
-use crate::node_table::layouts::{FILE_PATH, MEDIA_TYPE};
+use crate::node_table::layouts::MEDIA_TYPE;
 use crate::node_table::table_laws::table_is_shown;
 use crate::typed_node::Kind;
 
@@ -43,5 +44,5 @@ pub fn view_of_built<T: Fields>(node: &T)
 /// name of a file and a serial number need this law.
 pub fn units_in_bytes(units: &[u16])
     ensures read { units_of_bytes (unit_bytes units.now) ≡ units.now }
-    ensures file { IsFilePath (node_with MEDIA_TYPE FILE_PATH (unit_bytes units.now)) }
+    ensures file { IsFilePath (node_with MEDIA_TYPE file_path.SUB_TYPE (unit_bytes units.now)) }
 {}

@@ -9,23 +9,23 @@ ghost use Rattle.uefi_device_nodes.specs.TypedNodes.{bytes_from, bytes_in, end_o
 ghost use Rattle.uefi_text.specs.UnitBytes.{unit_bytes, units_of_bytes};
 ghost use Rattle.uefi_text.specs.Views.{items_of, text_of};
 ghost use Rattle.uefi_text.specs.Units.{nul_terminated};
-ghost use Rattle.uefi_device_nodes.specs.declared.node_table.layouts.TheConstants.{CD_ROM_BOOT_ENTRY, CD_ROM_PARTITION_SIZE, CD_ROM_PARTITION_START, FIRMWARE_FILE_FILE_NAME, FIRMWARE_VOLUME_VOLUME_NAME, HARD_DRIVE_PARTITION_FORMAT, HARD_DRIVE_PARTITION_NUMBER, HARD_DRIVE_PARTITION_SIGNATURE, HARD_DRIVE_PARTITION_SIZE, HARD_DRIVE_PARTITION_START, HARD_DRIVE_SIGNATURE_TYPE, MEDIA_VENDOR_VENDOR_GUID, PROTOCOL_PROTOCOL_GUID, RAM_DISK_DISK_INSTANCE, RAM_DISK_DISK_TYPE, RAM_DISK_ENDING_ADDRESS, RAM_DISK_STARTING_ADDRESS, RELATIVE_OFFSET_RANGE_ENDING_OFFSET, RELATIVE_OFFSET_RANGE_STARTING_OFFSET};
+ghost use Rattle.uefi_device_nodes.specs.declared.node_table.layouts.media.cd_rom.TheConstants as cd_rom;
+ghost use Rattle.uefi_device_nodes.specs.declared.node_table.layouts.media.firmware_file.TheConstants as firmware_file;
+ghost use Rattle.uefi_device_nodes.specs.declared.node_table.layouts.media.firmware_volume.TheConstants as firmware_volume;
+ghost use Rattle.uefi_device_nodes.specs.declared.node_table.layouts.media.hard_drive.TheConstants as hard_drive;
+ghost use Rattle.uefi_device_nodes.specs.declared.node_table.layouts.media.media_vendor.TheConstants as media_vendor;
+ghost use Rattle.uefi_device_nodes.specs.declared.node_table.layouts.media.protocol.TheConstants as protocol;
+ghost use Rattle.uefi_device_nodes.specs.declared.node_table.layouts.media.ram_disk.TheConstants as ram_disk;
+ghost use Rattle.uefi_device_nodes.specs.declared.node_table.layouts.media.relative_offset_range.TheConstants as relative_offset_range;
 ghost use Rattle.uefi_device_nodes.specs.NodeFields.{bytes, number};
 
 use crate::errors::NodeConversionError;
 use crate::field_texts::guid::Guid;
 use crate::node::{DevicePathNode, DeviceSubType, DeviceType};
-use crate::node_table::layouts::{
-    CD_ROM, CD_ROM_BOOT_ENTRY, CD_ROM_LEAST, CD_ROM_PARTITION_SIZE, CD_ROM_PARTITION_START,
-    FILE_PATH, FIRMWARE_FILE, FIRMWARE_FILE_FILE_NAME, FIRMWARE_FILE_LEAST, FIRMWARE_VOLUME,
-    FIRMWARE_VOLUME_LEAST, FIRMWARE_VOLUME_VOLUME_NAME, HARD_DRIVE, HARD_DRIVE_LEAST,
-    HARD_DRIVE_PARTITION_FORMAT, HARD_DRIVE_PARTITION_NUMBER, HARD_DRIVE_PARTITION_SIGNATURE,
-    HARD_DRIVE_PARTITION_SIZE, HARD_DRIVE_PARTITION_START, HARD_DRIVE_SIGNATURE_TYPE, MEDIA_TYPE,
-    MEDIA_VENDOR, MEDIA_VENDOR_LEAST, MEDIA_VENDOR_VENDOR_DEFINED_DATA, MEDIA_VENDOR_VENDOR_GUID,
-    PROTOCOL, PROTOCOL_LEAST, PROTOCOL_PROTOCOL_GUID, RAM_DISK, RAM_DISK_DISK_INSTANCE,
-    RAM_DISK_DISK_TYPE, RAM_DISK_ENDING_ADDRESS, RAM_DISK_LEAST, RAM_DISK_STARTING_ADDRESS,
-    RELATIVE_OFFSET_RANGE, RELATIVE_OFFSET_RANGE_ENDING_OFFSET, RELATIVE_OFFSET_RANGE_LEAST,
-    RELATIVE_OFFSET_RANGE_STARTING_OFFSET,
+use crate::node_table::layouts::MEDIA_TYPE;
+use crate::node_table::layouts::media::{
+    cd_rom, file_path, firmware_file, firmware_volume, hard_drive, media_vendor, protocol,
+    ram_disk, relative_offset_range,
 };
 use crate::typed_node::TypedNode;
 use uefi_text::UnalignedSlice;
@@ -33,31 +33,33 @@ use uefi_text::UnalignedSlice;
 /// Sub-types of the type [`DeviceType::MEDIA`](crate::DeviceType).
 impl DeviceSubType {
     /// A partition.
-    pub const MEDIA_HARD_DRIVE: DeviceSubType = DeviceSubType(HARD_DRIVE);
+    pub const MEDIA_HARD_DRIVE: DeviceSubType = DeviceSubType(hard_drive::SUB_TYPE);
 
     /// A boot entry of a CD-ROM.
-    pub const MEDIA_CD_ROM: DeviceSubType = DeviceSubType(CD_ROM);
+    pub const MEDIA_CD_ROM: DeviceSubType = DeviceSubType(cd_rom::SUB_TYPE);
 
     /// A vendor-defined node.
-    pub const MEDIA_VENDOR: DeviceSubType = DeviceSubType(MEDIA_VENDOR);
+    pub const MEDIA_VENDOR: DeviceSubType = DeviceSubType(media_vendor::SUB_TYPE);
 
     /// A file.
-    pub const MEDIA_FILE_PATH: DeviceSubType = DeviceSubType(FILE_PATH);
+    pub const MEDIA_FILE_PATH: DeviceSubType = DeviceSubType(file_path::SUB_TYPE);
 
     /// A protocol.
-    pub const MEDIA_PROTOCOL: DeviceSubType = DeviceSubType(PROTOCOL);
+    pub const MEDIA_PROTOCOL: DeviceSubType = DeviceSubType(protocol::SUB_TYPE);
 
     /// A file of a firmware volume.
-    pub const MEDIA_PIWG_FIRMWARE_FILE: DeviceSubType = DeviceSubType(FIRMWARE_FILE);
+    pub const MEDIA_PIWG_FIRMWARE_FILE: DeviceSubType = DeviceSubType(firmware_file::SUB_TYPE);
 
     /// A firmware volume.
-    pub const MEDIA_PIWG_FIRMWARE_VOLUME: DeviceSubType = DeviceSubType(FIRMWARE_VOLUME);
+    pub const MEDIA_PIWG_FIRMWARE_VOLUME: DeviceSubType = DeviceSubType(firmware_volume::SUB_TYPE);
 
     /// A range of bytes.
-    pub const MEDIA_RELATIVE_OFFSET_RANGE: DeviceSubType = DeviceSubType(RELATIVE_OFFSET_RANGE);
+    pub const MEDIA_RELATIVE_OFFSET_RANGE: DeviceSubType = DeviceSubType(
+        relative_offset_range::SUB_TYPE,
+    );
 
     /// A RAM disk.
-    pub const MEDIA_RAM_DISK: DeviceSubType = DeviceSubType(RAM_DISK);
+    pub const MEDIA_RAM_DISK: DeviceSubType = DeviceSubType(ram_disk::SUB_TYPE);
 }
 
 /// A node that names a file. A contract sees it as `file_node` of it: the node.
@@ -139,51 +141,51 @@ impl<'a> TryFrom<DevicePathNode<'a>> for FilePath<'a> {
 /// assert_eq!(rt; (disk.partition_size(), disk.partition_format(), disk.signature_type()), (4096, 2, 2));
 /// assert_eq!(rt; disk.partition_signature(), *b"abcdefghijklmnop");
 /// ```
-pub type HardDrive<'a> = TypedNode<'a, MEDIA_TYPE, HARD_DRIVE, HARD_DRIVE_LEAST>;
+pub type HardDrive<'a> = TypedNode<'a, MEDIA_TYPE, { hard_drive::SUB_TYPE }, { hard_drive::LEAST }>;
 
 impl<'a> HardDrive<'a> {
     ghost use Rattle.uefi_device_nodes.specs.NodeViews.{data_of};
 
     /// Returns the number of the partition, counted from 1, or 0 for the whole drive.
     pub fn partition_number(&self) -> u32
-        ensures { result ≡ number_in HARD_DRIVE_PARTITION_NUMBER (data_of self.now) }
+        ensures { result ≡ number_in hard_drive.PARTITION_NUMBER (data_of self.now) }
     {
-        self.number(HARD_DRIVE_PARTITION_NUMBER)
+        self.number(hard_drive::PARTITION_NUMBER)
     }
 
     /// Returns the first block of the partition.
     pub fn partition_start(&self) -> u64
-        ensures { result ≡ number_in HARD_DRIVE_PARTITION_START (data_of self.now) }
+        ensures { result ≡ number_in hard_drive.PARTITION_START (data_of self.now) }
     {
-        self.number(HARD_DRIVE_PARTITION_START)
+        self.number(hard_drive::PARTITION_START)
     }
 
     /// Returns the number of its blocks.
     pub fn partition_size(&self) -> u64
-        ensures { result ≡ number_in HARD_DRIVE_PARTITION_SIZE (data_of self.now) }
+        ensures { result ≡ number_in hard_drive.PARTITION_SIZE (data_of self.now) }
     {
-        self.number(HARD_DRIVE_PARTITION_SIZE)
+        self.number(hard_drive::PARTITION_SIZE)
     }
 
     /// Returns the signature, whose type is [`HardDrive::signature_type`].
     pub fn partition_signature(&self) -> [u8; 16]
-        ensures { result ≡ bytes_in HARD_DRIVE_PARTITION_SIGNATURE (data_of self.now) }
+        ensures { result ≡ bytes_in hard_drive.PARTITION_SIGNATURE (data_of self.now) }
     {
-        self.bytes(HARD_DRIVE_PARTITION_SIGNATURE)
+        self.bytes(hard_drive::PARTITION_SIGNATURE)
     }
 
     /// Returns the format of the partition table: 1 is MBR, 2 is GPT.
     pub fn partition_format(&self) -> u8
-        ensures { result ≡ number_in HARD_DRIVE_PARTITION_FORMAT (data_of self.now) }
+        ensures { result ≡ number_in hard_drive.PARTITION_FORMAT (data_of self.now) }
     {
-        self.number(HARD_DRIVE_PARTITION_FORMAT)
+        self.number(hard_drive::PARTITION_FORMAT)
     }
 
     /// Returns the type of the signature: 0 is none, 1 an MBR signature, 2 a GUID.
     pub fn signature_type(&self) -> u8
-        ensures { result ≡ number_in HARD_DRIVE_SIGNATURE_TYPE (data_of self.now) }
+        ensures { result ≡ number_in hard_drive.SIGNATURE_TYPE (data_of self.now) }
     {
-        self.number(HARD_DRIVE_SIGNATURE_TYPE)
+        self.number(hard_drive::SIGNATURE_TYPE)
     }
 
     /// Returns the GUID that names the partition, which is its signature if
@@ -198,8 +200,8 @@ impl<'a> HardDrive<'a> {
     /// assert_eq!(rt; guid, Some(Guid::from_bytes([7; 16])));
     /// ```
     pub fn partition_guid(&self) -> Option<Guid>
-        ensures { result ≡ (if number_in HARD_DRIVE_SIGNATURE_TYPE (data_of self.now) == 2
-            then Some (bytes_in HARD_DRIVE_PARTITION_SIGNATURE (data_of self.now)) else None) }
+        ensures { result ≡ (if number_in hard_drive.SIGNATURE_TYPE (data_of self.now) == 2
+            then Some (bytes_in hard_drive.PARTITION_SIGNATURE (data_of self.now)) else None) }
     {
         if self.signature_type() == 2 {
             Some(Guid::from_bytes(self.partition_signature()))
@@ -218,30 +220,30 @@ impl<'a> HardDrive<'a> {
 /// assert_eq!(rt; disc.boot_entry(), 1);
 /// assert_eq!(rt; (disc.partition_start(), disc.partition_size()), (0x2d, 0x800));
 /// ```
-pub type CdRom<'a> = TypedNode<'a, MEDIA_TYPE, CD_ROM, CD_ROM_LEAST>;
+pub type CdRom<'a> = TypedNode<'a, MEDIA_TYPE, { cd_rom::SUB_TYPE }, { cd_rom::LEAST }>;
 
 impl<'a> CdRom<'a> {
     ghost use Rattle.uefi_device_nodes.specs.NodeViews.{data_of};
 
     /// Returns the number of the entry in the boot catalog.
     pub fn boot_entry(&self) -> u32
-        ensures { result ≡ number_in CD_ROM_BOOT_ENTRY (data_of self.now) }
+        ensures { result ≡ number_in cd_rom.BOOT_ENTRY (data_of self.now) }
     {
-        self.number(CD_ROM_BOOT_ENTRY)
+        self.number(cd_rom::BOOT_ENTRY)
     }
 
     /// Returns the first block.
     pub fn partition_start(&self) -> u64
-        ensures { result ≡ number_in CD_ROM_PARTITION_START (data_of self.now) }
+        ensures { result ≡ number_in cd_rom.PARTITION_START (data_of self.now) }
     {
-        self.number(CD_ROM_PARTITION_START)
+        self.number(cd_rom::PARTITION_START)
     }
 
     /// Returns the number of its blocks.
     pub fn partition_size(&self) -> u64
-        ensures { result ≡ number_in CD_ROM_PARTITION_SIZE (data_of self.now) }
+        ensures { result ≡ number_in cd_rom.PARTITION_SIZE (data_of self.now) }
     {
-        self.number(CD_ROM_PARTITION_SIZE)
+        self.number(cd_rom::PARTITION_SIZE)
     }
 }
 
@@ -253,7 +255,12 @@ impl<'a> CdRom<'a> {
 /// assert_eq!(rt; vendor.vendor_guid(), Guid::from_bytes(*b"abcdefghijklmnop"));
 /// assert_eq!(rt; vendor.vendor_defined_data(), [1, 2].as_slice());
 /// ```
-pub type MediaVendor<'a> = TypedNode<'a, MEDIA_TYPE, MEDIA_VENDOR, MEDIA_VENDOR_LEAST>;
+pub type MediaVendor<'a> = TypedNode<
+    'a,
+    MEDIA_TYPE,
+    { media_vendor::SUB_TYPE },
+    { media_vendor::LEAST },
+>;
 
 /// [`MediaVendor`], under its name in the Rust crate `uefi`.
 pub type Vendor<'a> = MediaVendor<'a>;
@@ -263,16 +270,16 @@ impl<'a> MediaVendor<'a> {
 
     /// Returns the GUID that names the vendor.
     pub fn vendor_guid(&self) -> Guid
-        ensures { result ≡ bytes_in MEDIA_VENDOR_VENDOR_GUID (data_of self.now) }
+        ensures { result ≡ bytes_in media_vendor.VENDOR_GUID (data_of self.now) }
     {
-        self.guid_in(MEDIA_VENDOR_VENDOR_GUID)
+        self.guid_in(media_vendor::VENDOR_GUID)
     }
 
     /// Returns the data that the vendor defines.
     pub fn vendor_defined_data(&self) -> &'a [u8]
-        ensures { result.now ≡ bytes_from MEDIA_VENDOR_VENDOR_DEFINED_DATA (data_of self.now) }
+        ensures { result.now ≡ bytes_from media_vendor.VENDOR_DEFINED_DATA (data_of self.now) }
     {
-        self.tail(MEDIA_VENDOR_VENDOR_DEFINED_DATA)
+        self.tail(media_vendor::VENDOR_DEFINED_DATA)
     }
 }
 
@@ -283,16 +290,16 @@ impl<'a> MediaVendor<'a> {
 /// let protocol = media::Protocol::from_node(node)?;
 /// assert_eq!(rt; protocol.protocol_guid(), Guid::from_bytes(*b"abcdefghijklmnop"));
 /// ```
-pub type Protocol<'a> = TypedNode<'a, MEDIA_TYPE, PROTOCOL, PROTOCOL_LEAST>;
+pub type Protocol<'a> = TypedNode<'a, MEDIA_TYPE, { protocol::SUB_TYPE }, { protocol::LEAST }>;
 
 impl<'a> Protocol<'a> {
     ghost use Rattle.uefi_device_nodes.specs.NodeViews.{data_of};
 
     /// Returns the GUID that names the protocol.
     pub fn protocol_guid(&self) -> Guid
-        ensures { result ≡ bytes_in PROTOCOL_PROTOCOL_GUID (data_of self.now) }
+        ensures { result ≡ bytes_in protocol.PROTOCOL_GUID (data_of self.now) }
     {
-        self.guid_in(PROTOCOL_PROTOCOL_GUID)
+        self.guid_in(protocol::PROTOCOL_GUID)
     }
 }
 
@@ -303,7 +310,12 @@ impl<'a> Protocol<'a> {
 /// let file = media::FirmwareFile::from_node(node)?;
 /// assert_eq!(rt; file.file_name(), Guid::from_bytes(*b"abcdefghijklmnop"));
 /// ```
-pub type FirmwareFile<'a> = TypedNode<'a, MEDIA_TYPE, FIRMWARE_FILE, FIRMWARE_FILE_LEAST>;
+pub type FirmwareFile<'a> = TypedNode<
+    'a,
+    MEDIA_TYPE,
+    { firmware_file::SUB_TYPE },
+    { firmware_file::LEAST },
+>;
 
 /// [`FirmwareFile`], under its name in the Rust crate `uefi`.
 pub type PiwgFirmwareFile<'a> = FirmwareFile<'a>;
@@ -313,9 +325,9 @@ impl<'a> FirmwareFile<'a> {
 
     /// Returns the GUID that names the file.
     pub fn file_name(&self) -> Guid
-        ensures { result ≡ bytes_in FIRMWARE_FILE_FILE_NAME (data_of self.now) }
+        ensures { result ≡ bytes_in firmware_file.FILE_NAME (data_of self.now) }
     {
-        self.guid_in(FIRMWARE_FILE_FILE_NAME)
+        self.guid_in(firmware_file::FILE_NAME)
     }
 }
 
@@ -326,7 +338,12 @@ impl<'a> FirmwareFile<'a> {
 /// let volume = media::FirmwareVolume::from_node(node)?;
 /// assert_eq!(rt; volume.volume_name(), Guid::from_bytes(*b"abcdefghijklmnop"));
 /// ```
-pub type FirmwareVolume<'a> = TypedNode<'a, MEDIA_TYPE, FIRMWARE_VOLUME, FIRMWARE_VOLUME_LEAST>;
+pub type FirmwareVolume<'a> = TypedNode<
+    'a,
+    MEDIA_TYPE,
+    { firmware_volume::SUB_TYPE },
+    { firmware_volume::LEAST },
+>;
 
 /// [`FirmwareVolume`], under its name in the Rust crate `uefi`.
 pub type PiwgFirmwareVolume<'a> = FirmwareVolume<'a>;
@@ -336,9 +353,9 @@ impl<'a> FirmwareVolume<'a> {
 
     /// Returns the GUID that names the volume.
     pub fn volume_name(&self) -> Guid
-        ensures { result ≡ bytes_in FIRMWARE_VOLUME_VOLUME_NAME (data_of self.now) }
+        ensures { result ≡ bytes_in firmware_volume.VOLUME_NAME (data_of self.now) }
     {
-        self.guid_in(FIRMWARE_VOLUME_VOLUME_NAME)
+        self.guid_in(firmware_volume::VOLUME_NAME)
     }
 }
 
@@ -353,8 +370,8 @@ impl<'a> FirmwareVolume<'a> {
 pub type RelativeOffsetRange<'a> = TypedNode<
     'a,
     MEDIA_TYPE,
-    RELATIVE_OFFSET_RANGE,
-    RELATIVE_OFFSET_RANGE_LEAST,
+    { relative_offset_range::SUB_TYPE },
+    { relative_offset_range::LEAST },
 >;
 
 impl<'a> RelativeOffsetRange<'a> {
@@ -362,16 +379,16 @@ impl<'a> RelativeOffsetRange<'a> {
 
     /// Returns the offset of its first byte.
     pub fn starting_offset(&self) -> u64
-        ensures { result ≡ number_in RELATIVE_OFFSET_RANGE_STARTING_OFFSET (data_of self.now) }
+        ensures { result ≡ number_in relative_offset_range.STARTING_OFFSET (data_of self.now) }
     {
-        self.number(RELATIVE_OFFSET_RANGE_STARTING_OFFSET)
+        self.number(relative_offset_range::STARTING_OFFSET)
     }
 
     /// Returns the offset of its last byte.
     pub fn ending_offset(&self) -> u64
-        ensures { result ≡ number_in RELATIVE_OFFSET_RANGE_ENDING_OFFSET (data_of self.now) }
+        ensures { result ≡ number_in relative_offset_range.ENDING_OFFSET (data_of self.now) }
     {
-        self.number(RELATIVE_OFFSET_RANGE_ENDING_OFFSET)
+        self.number(relative_offset_range::ENDING_OFFSET)
     }
 }
 
@@ -384,37 +401,37 @@ impl<'a> RelativeOffsetRange<'a> {
 /// assert_eq!(rt; (disk.starting_address(), disk.ending_address()), (0x10_0000, 0x1f_ffff));
 /// assert_eq!(rt; (disk.disk_type(), disk.disk_instance()), (Guid::from_bytes(*b"abcdefghijklmnop"), 1));
 /// ```
-pub type RamDisk<'a> = TypedNode<'a, MEDIA_TYPE, RAM_DISK, RAM_DISK_LEAST>;
+pub type RamDisk<'a> = TypedNode<'a, MEDIA_TYPE, { ram_disk::SUB_TYPE }, { ram_disk::LEAST }>;
 
 impl<'a> RamDisk<'a> {
     ghost use Rattle.uefi_device_nodes.specs.NodeViews.{data_of};
 
     /// Returns the address of its first byte.
     pub fn starting_address(&self) -> u64
-        ensures { result ≡ number_in RAM_DISK_STARTING_ADDRESS (data_of self.now) }
+        ensures { result ≡ number_in ram_disk.STARTING_ADDRESS (data_of self.now) }
     {
-        self.number(RAM_DISK_STARTING_ADDRESS)
+        self.number(ram_disk::STARTING_ADDRESS)
     }
 
     /// Returns the address of its last byte.
     pub fn ending_address(&self) -> u64
-        ensures { result ≡ number_in RAM_DISK_ENDING_ADDRESS (data_of self.now) }
+        ensures { result ≡ number_in ram_disk.ENDING_ADDRESS (data_of self.now) }
     {
-        self.number(RAM_DISK_ENDING_ADDRESS)
+        self.number(ram_disk::ENDING_ADDRESS)
     }
 
     /// Returns the GUID of its type.
     pub fn disk_type(&self) -> Guid
-        ensures { result ≡ bytes_in RAM_DISK_DISK_TYPE (data_of self.now) }
+        ensures { result ≡ bytes_in ram_disk.DISK_TYPE (data_of self.now) }
     {
-        self.guid_in(RAM_DISK_DISK_TYPE)
+        self.guid_in(ram_disk::DISK_TYPE)
     }
 
     /// Returns the number of the disk.
     pub fn disk_instance(&self) -> u16
-        ensures { result ≡ number_in RAM_DISK_DISK_INSTANCE (data_of self.now) }
+        ensures { result ≡ number_in ram_disk.DISK_INSTANCE (data_of self.now) }
     {
-        self.number(RAM_DISK_DISK_INSTANCE)
+        self.number(ram_disk::DISK_INSTANCE)
     }
 }
 
@@ -422,14 +439,10 @@ impl<'a> RamDisk<'a> {
 pub mod build {
     use crate::field_texts::guid::Guid;
     use crate::fields::{Fields, put, put_bytes};
-    use crate::node_table::layouts::{
-        CD_ROM_BOOT_ENTRY, CD_ROM_PARTITION_SIZE, CD_ROM_PARTITION_START, FILE_PATH,
-        FIRMWARE_FILE_FILE_NAME, FIRMWARE_VOLUME_VOLUME_NAME, HARD_DRIVE_PARTITION_FORMAT,
-        HARD_DRIVE_PARTITION_NUMBER, HARD_DRIVE_PARTITION_SIGNATURE, HARD_DRIVE_PARTITION_SIZE,
-        HARD_DRIVE_PARTITION_START, HARD_DRIVE_SIGNATURE_TYPE, MEDIA_TYPE, MEDIA_VENDOR,
-        PROTOCOL_PROTOCOL_GUID, RAM_DISK_DISK_INSTANCE, RAM_DISK_DISK_TYPE,
-        RAM_DISK_ENDING_ADDRESS, RAM_DISK_STARTING_ADDRESS, RELATIVE_OFFSET_RANGE_ENDING_OFFSET,
-        RELATIVE_OFFSET_RANGE_STARTING_OFFSET,
+    use crate::node_table::layouts::MEDIA_TYPE;
+    use crate::node_table::layouts::media::{
+        cd_rom, file_path, firmware_file, firmware_volume, hard_drive, media_vendor, protocol,
+        ram_disk, relative_offset_range,
     };
     use crate::typed_node::TypedNode;
     use crate::vendor::VendorNode;
@@ -467,26 +480,26 @@ pub mod build {
 
         type Tail = ();
 
-        ghost fields = { λ n. number HARD_DRIVE_PARTITION_NUMBER n.partition_number ∷
-            number HARD_DRIVE_PARTITION_START n.partition_start ∷
-            number HARD_DRIVE_PARTITION_SIZE n.partition_size ∷
-            bytes HARD_DRIVE_PARTITION_SIGNATURE n.partition_signature ∷
-            number HARD_DRIVE_PARTITION_FORMAT n.partition_format ∷
-            number HARD_DRIVE_SIGNATURE_TYPE n.signature_type ∷ [] };
+        ghost fields = { λ n. number hard_drive.PARTITION_NUMBER n.partition_number ∷
+            number hard_drive.PARTITION_START n.partition_start ∷
+            number hard_drive.PARTITION_SIZE n.partition_size ∷
+            bytes hard_drive.PARTITION_SIGNATURE n.partition_signature ∷
+            number hard_drive.PARTITION_FORMAT n.partition_format ∷
+            number hard_drive.SIGNATURE_TYPE n.signature_type ∷ [] };
 
         fn tail(self) {}
 
         fn put(&self, content: &mut [u8]) {
-            put(content, HARD_DRIVE_PARTITION_NUMBER, self.partition_number);
-            put(content, HARD_DRIVE_PARTITION_START, self.partition_start);
-            put(content, HARD_DRIVE_PARTITION_SIZE, self.partition_size);
+            put(content, hard_drive::PARTITION_NUMBER, self.partition_number);
+            put(content, hard_drive::PARTITION_START, self.partition_start);
+            put(content, hard_drive::PARTITION_SIZE, self.partition_size);
             put_bytes(
                 content,
-                HARD_DRIVE_PARTITION_SIGNATURE,
+                hard_drive::PARTITION_SIGNATURE,
                 &self.partition_signature,
             );
-            put(content, HARD_DRIVE_PARTITION_FORMAT, self.partition_format);
-            put(content, HARD_DRIVE_SIGNATURE_TYPE, self.signature_type);
+            put(content, hard_drive::PARTITION_FORMAT, self.partition_format);
+            put(content, hard_drive::SIGNATURE_TYPE, self.signature_type);
         }
     }
 
@@ -514,16 +527,16 @@ pub mod build {
 
         type Tail = ();
 
-        ghost fields = { λ n. number CD_ROM_BOOT_ENTRY n.boot_entry ∷
-            number CD_ROM_PARTITION_START n.partition_start ∷
-            number CD_ROM_PARTITION_SIZE n.partition_size ∷ [] };
+        ghost fields = { λ n. number cd_rom.BOOT_ENTRY n.boot_entry ∷
+            number cd_rom.PARTITION_START n.partition_start ∷
+            number cd_rom.PARTITION_SIZE n.partition_size ∷ [] };
 
         fn tail(self) {}
 
         fn put(&self, content: &mut [u8]) {
-            put(content, CD_ROM_BOOT_ENTRY, self.boot_entry);
-            put(content, CD_ROM_PARTITION_START, self.partition_start);
-            put(content, CD_ROM_PARTITION_SIZE, self.partition_size);
+            put(content, cd_rom::BOOT_ENTRY, self.boot_entry);
+            put(content, cd_rom::PARTITION_START, self.partition_start);
+            put(content, cd_rom::PARTITION_SIZE, self.partition_size);
         }
     }
 
@@ -537,7 +550,7 @@ pub mod build {
     /// let text = format!(in rt.alloc(); "{}", path.as_device_path())?;
     /// assert_eq!(rt; text.as_str(), "VenMedia(64636261-6665-6867-696A-6B6C6D6E6F70,0102)");
     /// ```
-    pub type Vendor<'a> = VendorNode<'a, MEDIA_TYPE, MEDIA_VENDOR>;
+    pub type Vendor<'a> = VendorNode<'a, MEDIA_TYPE, { media_vendor::SUB_TYPE }>;
 
     /// A file.
     ///
@@ -556,7 +569,7 @@ pub mod build {
 
     /// Builds the node from its fields.
     impl<'a> Fields for FilePath<'a> {
-        type Layout = TypedNode<'static, MEDIA_TYPE, FILE_PATH, 0>;
+        type Layout = TypedNode<'static, MEDIA_TYPE, { file_path::SUB_TYPE }, 0>;
 
         type Tail = CStr16<'a>;
 
@@ -591,7 +604,7 @@ pub mod build {
 
         type Tail = ();
 
-        ghost fields = { λ n. bytes PROTOCOL_PROTOCOL_GUID n.protocol_guid ∷ [] };
+        ghost fields = { λ n. bytes protocol.PROTOCOL_GUID n.protocol_guid ∷ [] };
 
         fn tail(self) {
             let _bytes = self.protocol_guid.to_bytes();
@@ -600,7 +613,7 @@ pub mod build {
         fn put(&self, content: &mut [u8]) {
             put_bytes(
                 content,
-                PROTOCOL_PROTOCOL_GUID,
+                protocol::PROTOCOL_GUID,
                 &self.protocol_guid.to_bytes(),
             );
         }
@@ -626,14 +639,18 @@ pub mod build {
 
         type Tail = ();
 
-        ghost fields = { λ n. bytes FIRMWARE_FILE_FILE_NAME n.file_name ∷ [] };
+        ghost fields = { λ n. bytes firmware_file.FILE_NAME n.file_name ∷ [] };
 
         fn tail(self) {
             let _bytes = self.file_name.to_bytes();
         }
 
         fn put(&self, content: &mut [u8]) {
-            put_bytes(content, FIRMWARE_FILE_FILE_NAME, &self.file_name.to_bytes());
+            put_bytes(
+                content,
+                firmware_file::FILE_NAME,
+                &self.file_name.to_bytes(),
+            );
         }
     }
 
@@ -657,7 +674,7 @@ pub mod build {
 
         type Tail = ();
 
-        ghost fields = { λ n. bytes FIRMWARE_VOLUME_VOLUME_NAME n.volume_name ∷ [] };
+        ghost fields = { λ n. bytes firmware_volume.VOLUME_NAME n.volume_name ∷ [] };
 
         fn tail(self) {
             let _bytes = self.volume_name.to_bytes();
@@ -666,7 +683,7 @@ pub mod build {
         fn put(&self, content: &mut [u8]) {
             put_bytes(
                 content,
-                FIRMWARE_VOLUME_VOLUME_NAME,
+                firmware_volume::VOLUME_NAME,
                 &self.volume_name.to_bytes(),
             );
         }
@@ -694,20 +711,20 @@ pub mod build {
 
         type Tail = ();
 
-        ghost fields = { λ n. number RELATIVE_OFFSET_RANGE_STARTING_OFFSET n.starting_offset ∷
-            number RELATIVE_OFFSET_RANGE_ENDING_OFFSET n.ending_offset ∷ [] };
+        ghost fields = { λ n. number relative_offset_range.STARTING_OFFSET n.starting_offset ∷
+            number relative_offset_range.ENDING_OFFSET n.ending_offset ∷ [] };
 
         fn tail(self) {}
 
         fn put(&self, content: &mut [u8]) {
             put(
                 content,
-                RELATIVE_OFFSET_RANGE_STARTING_OFFSET,
+                relative_offset_range::STARTING_OFFSET,
                 self.starting_offset,
             );
             put(
                 content,
-                RELATIVE_OFFSET_RANGE_ENDING_OFFSET,
+                relative_offset_range::ENDING_OFFSET,
                 self.ending_offset,
             );
         }
@@ -741,19 +758,19 @@ pub mod build {
 
         type Tail = ();
 
-        ghost fields = { λ n. number RAM_DISK_STARTING_ADDRESS n.starting_address ∷
-            number RAM_DISK_ENDING_ADDRESS n.ending_address ∷ bytes RAM_DISK_DISK_TYPE n.disk_type ∷
-            number RAM_DISK_DISK_INSTANCE n.disk_instance ∷ [] };
+        ghost fields = { λ n. number ram_disk.STARTING_ADDRESS n.starting_address ∷
+            number ram_disk.ENDING_ADDRESS n.ending_address ∷ bytes ram_disk.DISK_TYPE n.disk_type ∷
+            number ram_disk.DISK_INSTANCE n.disk_instance ∷ [] };
 
         fn tail(self) {
             let _bytes = self.disk_type.to_bytes();
         }
 
         fn put(&self, content: &mut [u8]) {
-            put(content, RAM_DISK_STARTING_ADDRESS, self.starting_address);
-            put(content, RAM_DISK_ENDING_ADDRESS, self.ending_address);
-            put_bytes(content, RAM_DISK_DISK_TYPE, &self.disk_type.to_bytes());
-            put(content, RAM_DISK_DISK_INSTANCE, self.disk_instance);
+            put(content, ram_disk::STARTING_ADDRESS, self.starting_address);
+            put(content, ram_disk::ENDING_ADDRESS, self.ending_address);
+            put_bytes(content, ram_disk::DISK_TYPE, &self.disk_type.to_bytes());
+            put(content, ram_disk::DISK_INSTANCE, self.disk_instance);
         }
     }
 }

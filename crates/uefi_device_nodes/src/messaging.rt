@@ -5,7 +5,10 @@
 ghost use Rattle.std.specs.Prelude.{◌≡◌, ◌∷◌, []};
 ghost use Rattle.uefi_device_nodes.specs.TypedNodes.{bytes_from, bytes_in, number_in};
 ghost use Rattle.uefi_device_nodes.specs.NodeViews.{data_of};
-ghost use Rattle.uefi_device_nodes.specs.declared.node_table.layouts.TheConstants.{I2O_TARGET_ID, IEEE1394_GUID, MESSAGING_VENDOR_VENDOR_GUID, UART_BAUD_RATE, UART_DATA_BITS, UART_PARITY, UART_STOP_BITS};
+ghost use Rattle.uefi_device_nodes.specs.declared.node_table.layouts.messaging.i2o.TheConstants as i2o;
+ghost use Rattle.uefi_device_nodes.specs.declared.node_table.layouts.messaging.ieee1394.TheConstants as ieee1394;
+ghost use Rattle.uefi_device_nodes.specs.declared.node_table.layouts.messaging.messaging_vendor.TheConstants as messaging_vendor;
+ghost use Rattle.uefi_device_nodes.specs.declared.node_table.layouts.messaging.uart.TheConstants as uart;
 ghost use Rattle.uefi_device_nodes.specs.NodeFields.{bytes, number};
 
 pub(crate) mod fabrics;
@@ -25,27 +28,23 @@ pub use crate::messaging::storage::{
 pub use crate::messaging::usb::{Usb, UsbClass, UsbWwid};
 pub use crate::messaging::wireless::{Bluetooth, BluetoothLe, Wifi};
 use crate::node::DeviceSubType;
-use crate::node_table::layouts::{
-    I2O, I2O_LEAST, I2O_TARGET_ID, IEEE1394, IEEE1394_GUID, IEEE1394_LEAST, MESSAGING_TYPE,
-    MESSAGING_VENDOR, MESSAGING_VENDOR_LEAST, MESSAGING_VENDOR_VENDOR_DEFINED_DATA,
-    MESSAGING_VENDOR_VENDOR_GUID, UART, UART_BAUD_RATE, UART_DATA_BITS, UART_LEAST, UART_PARITY,
-    UART_STOP_BITS,
-};
+use crate::node_table::layouts::MESSAGING_TYPE;
+use crate::node_table::layouts::messaging::{i2o, ieee1394, messaging_vendor, uart};
 use crate::typed_node::TypedNode;
 
 /// Sub-types of the type [`DeviceType::MESSAGING`](crate::DeviceType).
 impl DeviceSubType {
     /// A FireWire device.
-    pub const MESSAGING_1394: DeviceSubType = DeviceSubType(IEEE1394);
+    pub const MESSAGING_1394: DeviceSubType = DeviceSubType(ieee1394::SUB_TYPE);
 
     /// An I2O device.
-    pub const MESSAGING_I2O: DeviceSubType = DeviceSubType(I2O);
+    pub const MESSAGING_I2O: DeviceSubType = DeviceSubType(i2o::SUB_TYPE);
 
     /// A vendor-defined node.
-    pub const MESSAGING_VENDOR: DeviceSubType = DeviceSubType(MESSAGING_VENDOR);
+    pub const MESSAGING_VENDOR: DeviceSubType = DeviceSubType(messaging_vendor::SUB_TYPE);
 
     /// A serial port.
-    pub const MESSAGING_UART: DeviceSubType = DeviceSubType(UART);
+    pub const MESSAGING_UART: DeviceSubType = DeviceSubType(uart::SUB_TYPE);
 }
 
 /// A FireWire device.
@@ -55,14 +54,14 @@ impl DeviceSubType {
 /// let device = messaging::Ieee1394::from_node(node)?;
 /// assert_eq!(rt; device.guid(), *b"firewire");
 /// ```
-pub type Ieee1394<'a> = TypedNode<'a, MESSAGING_TYPE, IEEE1394, IEEE1394_LEAST>;
+pub type Ieee1394<'a> = TypedNode<'a, MESSAGING_TYPE, { ieee1394::SUB_TYPE }, { ieee1394::LEAST }>;
 
 impl<'a> Ieee1394<'a> {
     /// Returns the eight bytes of its GUID.
     pub fn guid(&self) -> [u8; 8]
-        ensures { result ≡ bytes_in IEEE1394_GUID (data_of self.now) }
+        ensures { result ≡ bytes_in ieee1394.GUID (data_of self.now) }
     {
-        self.bytes(IEEE1394_GUID)
+        self.bytes(ieee1394::GUID)
     }
 }
 
@@ -73,14 +72,14 @@ impl<'a> Ieee1394<'a> {
 /// let device = messaging::I2o::from_node(node)?;
 /// assert_eq!(rt; device.target_id(), 9);
 /// ```
-pub type I2o<'a> = TypedNode<'a, MESSAGING_TYPE, I2O, I2O_LEAST>;
+pub type I2o<'a> = TypedNode<'a, MESSAGING_TYPE, { i2o::SUB_TYPE }, { i2o::LEAST }>;
 
 impl<'a> I2o<'a> {
     /// Returns the number of the target on its bus.
     pub fn target_id(&self) -> u32
-        ensures { result ≡ number_in I2O_TARGET_ID (data_of self.now) }
+        ensures { result ≡ number_in i2o.TARGET_ID (data_of self.now) }
     {
-        self.number(I2O_TARGET_ID)
+        self.number(i2o::TARGET_ID)
     }
 }
 
@@ -93,35 +92,35 @@ impl<'a> I2o<'a> {
 /// assert_eq!(rt; port.baud_rate(), 115_200);
 /// assert_eq!(rt; (port.data_bits(), port.parity(), port.stop_bits()), (8, 2, 1));
 /// ```
-pub type Uart<'a> = TypedNode<'a, MESSAGING_TYPE, UART, UART_LEAST>;
+pub type Uart<'a> = TypedNode<'a, MESSAGING_TYPE, { uart::SUB_TYPE }, { uart::LEAST }>;
 
 impl<'a> Uart<'a> {
     /// Returns the baud rate; 0 is the device's default.
     pub fn baud_rate(&self) -> u64
-        ensures { result ≡ number_in UART_BAUD_RATE (data_of self.now) }
+        ensures { result ≡ number_in uart.BAUD_RATE (data_of self.now) }
     {
-        self.number(UART_BAUD_RATE)
+        self.number(uart::BAUD_RATE)
     }
 
     /// Returns the number of data bits; 0 is the device's default.
     pub fn data_bits(&self) -> u8
-        ensures { result ≡ number_in UART_DATA_BITS (data_of self.now) }
+        ensures { result ≡ number_in uart.DATA_BITS (data_of self.now) }
     {
-        self.number(UART_DATA_BITS)
+        self.number(uart::DATA_BITS)
     }
 
     /// Returns the parity: 0 is the default, 1 none, 2 even, 3 odd, 4 mark, 5 space.
     pub fn parity(&self) -> u8
-        ensures { result ≡ number_in UART_PARITY (data_of self.now) }
+        ensures { result ≡ number_in uart.PARITY (data_of self.now) }
     {
-        self.number(UART_PARITY)
+        self.number(uart::PARITY)
     }
 
     /// Returns the stop bits: 0 is the default, 1 one, 2 one and a half, 3 two.
     pub fn stop_bits(&self) -> u8
-        ensures { result ≡ number_in UART_STOP_BITS (data_of self.now) }
+        ensures { result ≡ number_in uart.STOP_BITS (data_of self.now) }
     {
-        self.number(UART_STOP_BITS)
+        self.number(uart::STOP_BITS)
     }
 }
 
@@ -136,8 +135,8 @@ impl<'a> Uart<'a> {
 pub type MessagingVendor<'a> = TypedNode<
     'a,
     MESSAGING_TYPE,
-    MESSAGING_VENDOR,
-    MESSAGING_VENDOR_LEAST,
+    { messaging_vendor::SUB_TYPE },
+    { messaging_vendor::LEAST },
 >;
 
 /// [`MessagingVendor`], under its name in the Rust crate `uefi`.
@@ -146,16 +145,16 @@ pub type Vendor<'a> = MessagingVendor<'a>;
 impl<'a> MessagingVendor<'a> {
     /// Returns the GUID that names the vendor.
     pub fn vendor_guid(&self) -> Guid
-        ensures { result ≡ bytes_in MESSAGING_VENDOR_VENDOR_GUID (data_of self.now) }
+        ensures { result ≡ bytes_in messaging_vendor.VENDOR_GUID (data_of self.now) }
     {
-        self.guid_in(MESSAGING_VENDOR_VENDOR_GUID)
+        self.guid_in(messaging_vendor::VENDOR_GUID)
     }
 
     /// Returns the data that the vendor defines.
     pub fn vendor_defined_data(&self) -> &'a [u8]
-        ensures { result.now ≡ bytes_from MESSAGING_VENDOR_VENDOR_DEFINED_DATA (data_of self.now) }
+        ensures { result.now ≡ bytes_from messaging_vendor.VENDOR_DEFINED_DATA (data_of self.now) }
     {
-        self.tail(MESSAGING_VENDOR_VENDOR_DEFINED_DATA)
+        self.tail(messaging_vendor::VENDOR_DEFINED_DATA)
     }
 }
 
@@ -172,10 +171,8 @@ pub mod build {
     };
     pub use crate::messaging::usb::build::{Usb, UsbClass, UsbWwid};
     pub use crate::messaging::wireless::build::{Bluetooth, BluetoothLe, Wifi};
-    use crate::node_table::layouts::{
-        I2O_TARGET_ID, IEEE1394_GUID, MESSAGING_TYPE, MESSAGING_VENDOR, UART_BAUD_RATE,
-        UART_DATA_BITS, UART_PARITY, UART_STOP_BITS,
-    };
+    use crate::node_table::layouts::MESSAGING_TYPE;
+    use crate::node_table::layouts::messaging::{i2o, ieee1394, messaging_vendor, uart};
     use crate::vendor::VendorNode;
 
     /// A FireWire device.
@@ -198,12 +195,12 @@ pub mod build {
 
         type Tail = ();
 
-        ghost fields = { λ n. bytes IEEE1394_GUID n.guid ∷ [] };
+        ghost fields = { λ n. bytes ieee1394.GUID n.guid ∷ [] };
 
         fn tail(self) {}
 
         fn put(&self, content: &mut [u8]) {
-            put_bytes(content, IEEE1394_GUID, &self.guid);
+            put_bytes(content, ieee1394::GUID, &self.guid);
         }
     }
 
@@ -227,12 +224,12 @@ pub mod build {
 
         type Tail = ();
 
-        ghost fields = { λ n. number I2O_TARGET_ID n.target_id ∷ [] };
+        ghost fields = { λ n. number i2o.TARGET_ID n.target_id ∷ [] };
 
         fn tail(self) {}
 
         fn put(&self, content: &mut [u8]) {
-            put(content, I2O_TARGET_ID, self.target_id);
+            put(content, i2o::TARGET_ID, self.target_id);
         }
     }
 
@@ -262,16 +259,16 @@ pub mod build {
 
         type Tail = ();
 
-        ghost fields = { λ n. number UART_BAUD_RATE n.baud_rate ∷ number UART_DATA_BITS n.data_bits ∷
-            number UART_PARITY n.parity ∷ number UART_STOP_BITS n.stop_bits ∷ [] };
+        ghost fields = { λ n. number uart.BAUD_RATE n.baud_rate ∷ number uart.DATA_BITS n.data_bits ∷
+            number uart.PARITY n.parity ∷ number uart.STOP_BITS n.stop_bits ∷ [] };
 
         fn tail(self) {}
 
         fn put(&self, content: &mut [u8]) {
-            put(content, UART_BAUD_RATE, self.baud_rate);
-            put(content, UART_DATA_BITS, self.data_bits);
-            put(content, UART_PARITY, self.parity);
-            put(content, UART_STOP_BITS, self.stop_bits);
+            put(content, uart::BAUD_RATE, self.baud_rate);
+            put(content, uart::DATA_BITS, self.data_bits);
+            put(content, uart::PARITY, self.parity);
+            put(content, uart::STOP_BITS, self.stop_bits);
         }
     }
 
@@ -285,5 +282,5 @@ pub mod build {
     /// let text = format!(in rt.alloc(); "{}", path.as_device_path())?;
     /// assert_eq!(rt; text.as_str(), "VenMsg(64636261-6665-6867-696A-6B6C6D6E6F70,01)");
     /// ```
-    pub type Vendor<'a> = VendorNode<'a, MESSAGING_TYPE, MESSAGING_VENDOR>;
+    pub type Vendor<'a> = VendorNode<'a, MESSAGING_TYPE, { messaging_vendor::SUB_TYPE }>;
 }

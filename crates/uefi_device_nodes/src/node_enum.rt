@@ -9,15 +9,24 @@ ghost use Rattle.uefi_device_nodes.specs.NodeViews.{node_of};
 use crate::errors::NodeConversionError;
 use crate::media::FilePath;
 use crate::node::{DevicePathNode, DeviceType};
+use crate::node_table::layouts;
+use crate::node_table::layouts::acpi::{adr, expanded, nvdimm};
+use crate::node_table::layouts::bios_boot_spec::boot_specification;
+use crate::node_table::layouts::hardware::{
+    bmc, controller, hardware_vendor, memory_mapped, pccard, pci,
+};
+use crate::node_table::layouts::media::{
+    cd_rom, file_path, firmware_file, firmware_volume, hard_drive, media_vendor, protocol,
+    ram_disk, relative_offset_range,
+};
+use crate::node_table::layouts::messaging::{
+    atapi, bluetooth, bluetooth_le, device_logical_unit, dns, emmc, fibre_channel,
+    fibre_channel_ex, i2o, ieee1394, infiniband, ipv4, ipv6, iscsi, mac_address, messaging_vendor,
+    nvdimm_namespace, nvme_namespace, nvme_of_namespace, rest_service, sas_ex, sata, scsi, sd,
+    uart, ufs, uri, usb, usb_class, usb_wwid, vlan, wifi,
+};
 use crate::node_table::layouts::{
-    ACPI, ACPI_TYPE, ADR, ATAPI, BIOS_BOOT_SPEC_TYPE, BLUETOOTH, BLUETOOTH_LE, BMC,
-    BOOT_SPECIFICATION, CD_ROM, CONTROLLER, DEVICE_LOGICAL_UNIT, DNS, EMMC, EXPANDED,
-    FIBRE_CHANNEL, FIBRE_CHANNEL_EX, FILE_PATH, FIRMWARE_FILE, FIRMWARE_VOLUME, HARD_DRIVE,
-    HARDWARE_TYPE, HARDWARE_VENDOR, I2O, IEEE1394, INFINIBAND, IPV4, IPV6, ISCSI, MAC_ADDRESS,
-    MEDIA_TYPE, MEDIA_VENDOR, MEMORY_MAPPED, MESSAGING_TYPE, MESSAGING_VENDOR, NVDIMM,
-    NVDIMM_NAMESPACE, NVME_NAMESPACE, NVME_OF_NAMESPACE, PCCARD, PCI, PROTOCOL, RAM_DISK,
-    RELATIVE_OFFSET_RANGE, REST_SERVICE, SAS_EX, SATA, SCSI, SD, UART, UFS, URI, USB, USB_CLASS,
-    USB_WWID, VLAN, WIFI,
+    ACPI_TYPE, BIOS_BOOT_SPEC_TYPE, HARDWARE_TYPE, MEDIA_TYPE, MESSAGING_TYPE,
 };
 use crate::typed_node::TypedNode;
 use crate::{acpi, bios_boot_spec, hardware, media, messaging};
@@ -140,12 +149,12 @@ impl<'a> DevicePathNodeEnum<'a> {
         ensures refusal { result_err result ≡ refusal_among hardware_kinds (node_of node.entry) }
     {
         Ok(match node.sub_type().0 {
-            PCI => Self::HardwarePci(TypedNode::from_node(node)?),
-            PCCARD => Self::HardwarePccard(TypedNode::from_node(node)?),
-            MEMORY_MAPPED => Self::HardwareMemoryMapped(TypedNode::from_node(node)?),
-            HARDWARE_VENDOR => Self::HardwareVendor(TypedNode::from_node(node)?),
-            CONTROLLER => Self::HardwareController(TypedNode::from_node(node)?),
-            BMC => Self::HardwareBmc(TypedNode::from_node(node)?),
+            pci::SUB_TYPE => Self::HardwarePci(TypedNode::from_node(node)?),
+            pccard::SUB_TYPE => Self::HardwarePccard(TypedNode::from_node(node)?),
+            memory_mapped::SUB_TYPE => Self::HardwareMemoryMapped(TypedNode::from_node(node)?),
+            hardware_vendor::SUB_TYPE => Self::HardwareVendor(TypedNode::from_node(node)?),
+            controller::SUB_TYPE => Self::HardwareController(TypedNode::from_node(node)?),
+            bmc::SUB_TYPE => Self::HardwareBmc(TypedNode::from_node(node)?),
             _ => return Err(NodeConversionError::UnsupportedType),
         })
     }
@@ -157,10 +166,10 @@ impl<'a> DevicePathNodeEnum<'a> {
         ensures refusal { result_err result ≡ refusal_among acpi_kinds (node_of node.entry) }
     {
         Ok(match node.sub_type().0 {
-            ACPI => Self::AcpiAcpi(TypedNode::from_node(node)?),
-            EXPANDED => Self::AcpiExpanded(TypedNode::from_node(node)?),
-            ADR => Self::AcpiAdr(TypedNode::from_node(node)?),
-            NVDIMM => Self::AcpiNvdimm(TypedNode::from_node(node)?),
+            layouts::acpi::acpi::SUB_TYPE => Self::AcpiAcpi(TypedNode::from_node(node)?),
+            expanded::SUB_TYPE => Self::AcpiExpanded(TypedNode::from_node(node)?),
+            adr::SUB_TYPE => Self::AcpiAdr(TypedNode::from_node(node)?),
+            nvdimm::SUB_TYPE => Self::AcpiNvdimm(TypedNode::from_node(node)?),
             _ => return Err(NodeConversionError::UnsupportedType),
         })
     }
@@ -172,13 +181,13 @@ impl<'a> DevicePathNodeEnum<'a> {
         ensures refusal { result_err result ≡ refusal_among messaging_kinds (node_of node.entry) }
     {
         Ok(match node.sub_type().0 {
-            IEEE1394 => Self::MessagingIeee1394(TypedNode::from_node(node)?),
-            USB => Self::MessagingUsb(TypedNode::from_node(node)?),
-            I2O => Self::MessagingI2o(TypedNode::from_node(node)?),
-            MESSAGING_VENDOR => Self::MessagingVendor(TypedNode::from_node(node)?),
-            UART => Self::MessagingUart(TypedNode::from_node(node)?),
-            USB_CLASS => Self::MessagingUsbClass(TypedNode::from_node(node)?),
-            USB_WWID => Self::MessagingUsbWwid(TypedNode::from_node(node)?),
+            ieee1394::SUB_TYPE => Self::MessagingIeee1394(TypedNode::from_node(node)?),
+            usb::SUB_TYPE => Self::MessagingUsb(TypedNode::from_node(node)?),
+            i2o::SUB_TYPE => Self::MessagingI2o(TypedNode::from_node(node)?),
+            messaging_vendor::SUB_TYPE => Self::MessagingVendor(TypedNode::from_node(node)?),
+            uart::SUB_TYPE => Self::MessagingUart(TypedNode::from_node(node)?),
+            usb_class::SUB_TYPE => Self::MessagingUsbClass(TypedNode::from_node(node)?),
+            usb_wwid::SUB_TYPE => Self::MessagingUsbWwid(TypedNode::from_node(node)?),
             _ => return Self::storage_or_network_node(node),
         })
     }
@@ -191,18 +200,24 @@ impl<'a> DevicePathNodeEnum<'a> {
             ≡ refusal_among (storage_kinds ++ network_kinds) (node_of node.entry) }
     {
         Ok(match node.sub_type().0 {
-            ATAPI => Self::MessagingAtapi(TypedNode::from_node(node)?),
-            SCSI => Self::MessagingScsi(TypedNode::from_node(node)?),
-            FIBRE_CHANNEL => Self::MessagingFibreChannel(TypedNode::from_node(node)?),
-            DEVICE_LOGICAL_UNIT => Self::MessagingDeviceLogicalUnit(TypedNode::from_node(node)?),
-            SATA => Self::MessagingSata(TypedNode::from_node(node)?),
-            FIBRE_CHANNEL_EX => Self::MessagingFibreChannelEx(TypedNode::from_node(node)?),
-            SAS_EX => Self::MessagingSasEx(TypedNode::from_node(node)?),
-            NVME_NAMESPACE => Self::MessagingNvmeNamespace(TypedNode::from_node(node)?),
-            UFS => Self::MessagingUfs(TypedNode::from_node(node)?),
-            SD => Self::MessagingSd(TypedNode::from_node(node)?),
-            EMMC => Self::MessagingEmmc(TypedNode::from_node(node)?),
-            NVDIMM_NAMESPACE => Self::MessagingNvdimmNamespace(TypedNode::from_node(node)?),
+            atapi::SUB_TYPE => Self::MessagingAtapi(TypedNode::from_node(node)?),
+            scsi::SUB_TYPE => Self::MessagingScsi(TypedNode::from_node(node)?),
+            fibre_channel::SUB_TYPE => Self::MessagingFibreChannel(TypedNode::from_node(node)?),
+            device_logical_unit::SUB_TYPE => Self::MessagingDeviceLogicalUnit(TypedNode::from_node(
+                node,
+            )?),
+            sata::SUB_TYPE => Self::MessagingSata(TypedNode::from_node(node)?),
+            fibre_channel_ex::SUB_TYPE => Self::MessagingFibreChannelEx(TypedNode::from_node(
+                node,
+            )?),
+            sas_ex::SUB_TYPE => Self::MessagingSasEx(TypedNode::from_node(node)?),
+            nvme_namespace::SUB_TYPE => Self::MessagingNvmeNamespace(TypedNode::from_node(node)?),
+            ufs::SUB_TYPE => Self::MessagingUfs(TypedNode::from_node(node)?),
+            sd::SUB_TYPE => Self::MessagingSd(TypedNode::from_node(node)?),
+            emmc::SUB_TYPE => Self::MessagingEmmc(TypedNode::from_node(node)?),
+            nvdimm_namespace::SUB_TYPE => Self::MessagingNvdimmNamespace(TypedNode::from_node(
+                node,
+            )?),
             _ => return Self::network_node(node),
         })
     }
@@ -214,19 +229,21 @@ impl<'a> DevicePathNodeEnum<'a> {
         ensures refusal { result_err result ≡ refusal_among network_kinds (node_of node.entry) }
     {
         Ok(match node.sub_type().0 {
-            INFINIBAND => Self::MessagingInfiniband(TypedNode::from_node(node)?),
-            MAC_ADDRESS => Self::MessagingMacAddress(TypedNode::from_node(node)?),
-            IPV4 => Self::MessagingIpv4(TypedNode::from_node(node)?),
-            IPV6 => Self::MessagingIpv6(TypedNode::from_node(node)?),
-            ISCSI => Self::MessagingIscsi(TypedNode::from_node(node)?),
-            VLAN => Self::MessagingVlan(TypedNode::from_node(node)?),
-            URI => Self::MessagingUri(TypedNode::from_node(node)?),
-            BLUETOOTH => Self::MessagingBluetooth(TypedNode::from_node(node)?),
-            WIFI => Self::MessagingWifi(TypedNode::from_node(node)?),
-            BLUETOOTH_LE => Self::MessagingBluetoothLe(TypedNode::from_node(node)?),
-            DNS => Self::MessagingDns(TypedNode::from_node(node)?),
-            REST_SERVICE => Self::MessagingRestService(TypedNode::from_node(node)?),
-            NVME_OF_NAMESPACE => Self::MessagingNvmeOfNamespace(TypedNode::from_node(node)?),
+            infiniband::SUB_TYPE => Self::MessagingInfiniband(TypedNode::from_node(node)?),
+            mac_address::SUB_TYPE => Self::MessagingMacAddress(TypedNode::from_node(node)?),
+            ipv4::SUB_TYPE => Self::MessagingIpv4(TypedNode::from_node(node)?),
+            ipv6::SUB_TYPE => Self::MessagingIpv6(TypedNode::from_node(node)?),
+            iscsi::SUB_TYPE => Self::MessagingIscsi(TypedNode::from_node(node)?),
+            vlan::SUB_TYPE => Self::MessagingVlan(TypedNode::from_node(node)?),
+            uri::SUB_TYPE => Self::MessagingUri(TypedNode::from_node(node)?),
+            bluetooth::SUB_TYPE => Self::MessagingBluetooth(TypedNode::from_node(node)?),
+            wifi::SUB_TYPE => Self::MessagingWifi(TypedNode::from_node(node)?),
+            bluetooth_le::SUB_TYPE => Self::MessagingBluetoothLe(TypedNode::from_node(node)?),
+            dns::SUB_TYPE => Self::MessagingDns(TypedNode::from_node(node)?),
+            rest_service::SUB_TYPE => Self::MessagingRestService(TypedNode::from_node(node)?),
+            nvme_of_namespace::SUB_TYPE => Self::MessagingNvmeOfNamespace(TypedNode::from_node(
+                node,
+            )?),
             _ => return Err(NodeConversionError::UnsupportedType),
         })
     }
@@ -238,15 +255,17 @@ impl<'a> DevicePathNodeEnum<'a> {
         ensures refusal { result_err result ≡ enum_refusal (node_of node.entry) }
     {
         Ok(match node.sub_type().0 {
-            HARD_DRIVE => Self::MediaHardDrive(TypedNode::from_node(node)?),
-            CD_ROM => Self::MediaCdRom(TypedNode::from_node(node)?),
-            MEDIA_VENDOR => Self::MediaVendor(TypedNode::from_node(node)?),
-            FILE_PATH => Self::MediaFilePath(FilePath::from_node(node)?),
-            PROTOCOL => Self::MediaProtocol(TypedNode::from_node(node)?),
-            FIRMWARE_FILE => Self::MediaPiwgFirmwareFile(TypedNode::from_node(node)?),
-            FIRMWARE_VOLUME => Self::MediaPiwgFirmwareVolume(TypedNode::from_node(node)?),
-            RELATIVE_OFFSET_RANGE => Self::MediaRelativeOffsetRange(TypedNode::from_node(node)?),
-            RAM_DISK => Self::MediaRamDisk(TypedNode::from_node(node)?),
+            hard_drive::SUB_TYPE => Self::MediaHardDrive(TypedNode::from_node(node)?),
+            cd_rom::SUB_TYPE => Self::MediaCdRom(TypedNode::from_node(node)?),
+            media_vendor::SUB_TYPE => Self::MediaVendor(TypedNode::from_node(node)?),
+            file_path::SUB_TYPE => Self::MediaFilePath(FilePath::from_node(node)?),
+            protocol::SUB_TYPE => Self::MediaProtocol(TypedNode::from_node(node)?),
+            firmware_file::SUB_TYPE => Self::MediaPiwgFirmwareFile(TypedNode::from_node(node)?),
+            firmware_volume::SUB_TYPE => Self::MediaPiwgFirmwareVolume(TypedNode::from_node(node)?),
+            relative_offset_range::SUB_TYPE => Self::MediaRelativeOffsetRange(TypedNode::from_node(
+                node,
+            )?),
+            ram_disk::SUB_TYPE => Self::MediaRamDisk(TypedNode::from_node(node)?),
             _ => return Err(NodeConversionError::UnsupportedType),
         })
     }
@@ -258,7 +277,9 @@ impl<'a> DevicePathNodeEnum<'a> {
         ensures refusal { result_err result ≡ refusal_among bios_boot_spec_kinds (node_of node.entry) }
     {
         Ok(match node.sub_type().0 {
-            BOOT_SPECIFICATION => Self::BiosBootSpecBootSpecification(TypedNode::from_node(node)?),
+            boot_specification::SUB_TYPE => Self::BiosBootSpecBootSpecification(
+                TypedNode::from_node(node)?,
+            ),
             _ => return Err(NodeConversionError::UnsupportedType),
         })
     }

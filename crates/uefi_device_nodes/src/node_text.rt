@@ -19,9 +19,9 @@ use crate::field_texts::shown_texts::{put_byte_text, put_utf16_text};
 use crate::field_texts::vendor_names::vendor_name;
 use crate::media::FilePath;
 use crate::node::DevicePathNode;
-use crate::node_table::layouts::{
-    FILE_PATH, MEDIA_TYPE, MESSAGING_TYPE, MESSAGING_VENDOR, MESSAGING_VENDOR_LEAST,
-};
+use crate::node_table::layouts::media::file_path;
+use crate::node_table::layouts::messaging::messaging_vendor;
+use crate::node_table::layouts::{MEDIA_TYPE, MESSAGING_TYPE};
 use crate::node_table::printing::put_form;
 use crate::typed_node::TypedNode;
 use std::fmt;
@@ -86,8 +86,8 @@ fn short_name(node: &Parts<'_>) -> &'static str
     ensures { result.now ≡ short_name (node_with node.now.device_type node.now.sub_type node.now.data.now) }
 {
     if node.device_type != MESSAGING_TYPE
-        || node.sub_type != MESSAGING_VENDOR
-        || node.data.len() != MESSAGING_VENDOR_LEAST
+        || node.sub_type != messaging_vendor::SUB_TYPE
+        || node.data.len() != messaging_vendor::LEAST
     {
         return "";
     }
@@ -104,7 +104,10 @@ fn put_irregular<S: TextSink>(sink: &mut S, node: &Parts<'_>) -> bool
         node.now.allow_shortcuts (node_with node.now.device_type node.now.sub_type node.now.data.now)
         else []) sink.new }
 {
-    if node.device_type == MEDIA_TYPE && node.sub_type == FILE_PATH && node.data.len() % 2 == 0 {
+    if node.device_type == MEDIA_TYPE
+        && node.sub_type == file_path::SUB_TYPE
+        && node.data.len() % 2 == 0
+    {
         put_utf16_text(sink, node.data);
         return true;
     }

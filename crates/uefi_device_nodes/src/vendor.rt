@@ -4,11 +4,11 @@
 
 ghost use Rattle.std.specs.Prelude.{◌∷◌, []};
 ghost use Rattle.uefi_device_nodes.specs.NodeFields.{bytes};
-ghost use Rattle.uefi_device_nodes.specs.declared.node_table.layouts.TheConstants.{HARDWARE_VENDOR_VENDOR_GUID};
+ghost use Rattle.uefi_device_nodes.specs.declared.node_table.layouts.hardware.hardware_vendor.TheConstants as hardware_vendor;
 
 use crate::field_texts::guid::Guid;
 use crate::fields::{Fields, put_bytes};
-use crate::node_table::layouts::{HARDWARE_VENDOR_LEAST, HARDWARE_VENDOR_VENDOR_GUID};
+use crate::node_table::layouts::hardware::hardware_vendor;
 use crate::typed_node::TypedNode;
 
 /// A vendor-defined node of a type and a sub-type, identified by a GUID.
@@ -23,11 +23,11 @@ pub struct VendorNode<'a, const DEVICE_TYPE: u8, const SUB_TYPE: u8> {
 /// Builds the node from its fields.
 impl<'a, const DEVICE_TYPE: u8, const SUB_TYPE: u8> Fields
     for VendorNode<'a, DEVICE_TYPE, SUB_TYPE> {
-    type Layout = TypedNode<'static, DEVICE_TYPE, SUB_TYPE, HARDWARE_VENDOR_LEAST>;
+    type Layout = TypedNode<'static, DEVICE_TYPE, SUB_TYPE, { hardware_vendor::LEAST }>;
 
     type Tail = &'a [u8];
 
-    ghost fields = { λ n. bytes HARDWARE_VENDOR_VENDOR_GUID n.vendor_guid ∷ [] };
+    ghost fields = { λ n. bytes hardware_vendor.VENDOR_GUID n.vendor_guid ∷ [] };
 
     ghost after = { λ n. n.vendor_defined_data.now };
 
@@ -38,6 +38,6 @@ impl<'a, const DEVICE_TYPE: u8, const SUB_TYPE: u8> Fields
 
     fn put(&self, content: &mut [u8]) {
         let guid = self.vendor_guid.to_bytes();
-        put_bytes(content, HARDWARE_VENDOR_VENDOR_GUID, &guid);
+        put_bytes(content, hardware_vendor::VENDOR_GUID, &guid);
     }
 }

@@ -2,7 +2,8 @@
 use Rattle.std.specs.Prelude.{ℕ, ◌+◌, ◌-◌, ◌^◌, min, List, ◌++◌, nat_eq, nat_lt, ◌==◌, ◌&&◌, not, if◌then◌else◌, Bool, length, take, Option, Some, None}
 use Rattle.std.specs.List.{ends_with}
 use Rattle.std.specs.Option.{option_map}
-use Rattle.uefi_device_nodes.specs.declared.node_table.layouts.TheConstants.{FILE_PATH, MEDIA_TYPE}
+use Rattle.uefi_device_nodes.specs.declared.node_table.layouts.TheConstants.{MEDIA_TYPE}
+use Rattle.uefi_device_nodes.specs.declared.node_table.layouts.media.file_path.TheConstants as file_path
 use Rattle.uefi_device_nodes.specs.Nodes.{is_end_instance}
 use Rattle.uefi_device_nodes.specs.Nodes.{Node, end_entire, node_bytes, node_length, node_with}
 use Rattle.uefi_device_nodes.specs.declared.errors.NodeError.TheVariants.{Missing}
@@ -18,7 +19,7 @@ use Rattle.uefi_device_path.specs.declared.text.text_errors.PushTextError.TheVar
 
 -- the node that names a file: its name and a NUL
 abbrev pub node_of_name : List ℕ → Node
-node_of_name name = node_with MEDIA_TYPE FILE_PATH (unit_bytes (nul_terminated name))
+node_of_name name = node_with MEDIA_TYPE file_path.SUB_TYPE (unit_bytes (nul_terminated name))
 
 -- why a node may not stand before the end of a path, or none
 abbrev pub build_refusal : Node → Option BuildError

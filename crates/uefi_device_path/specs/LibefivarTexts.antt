@@ -2,7 +2,9 @@
 use Rattle.std.specs.Prelude.{◌≡◌, ℕ, ◌-◌, ◌==◌, Bool, true, false, if◌then◌else◌, List, [], ◌∷◌, ◌++◌, codes, drop, reverse, take, Option, Some, None}
 use Rattle.std.specs.Char.{to_ascii_lowercase}
 use Rattle.std.specs.Str.{chars, encode_utf8_all}
-use Rattle.uefi_device_nodes.specs.declared.node_table.layouts.TheConstants.{HARD_DRIVE, HARD_DRIVE_LEAST, MEDIA_TYPE, MESSAGING_TYPE, NVME_NAMESPACE, NVME_NAMESPACE_LEAST}
+use Rattle.uefi_device_nodes.specs.declared.node_table.layouts.TheConstants.{MEDIA_TYPE, MESSAGING_TYPE}
+use Rattle.uefi_device_nodes.specs.declared.node_table.layouts.media.hard_drive.TheConstants as hard_drive
+use Rattle.uefi_device_nodes.specs.declared.node_table.layouts.messaging.nvme_namespace.TheConstants as nvme_namespace
 use Rattle.uefi_device_nodes.specs.Nodes.{Node, node_bytes, node_with}
 use Rattle.uefi_device_nodes.specs.NodeTexts.{is_file_node, node_text}
 use Rattle.uefi_device_nodes.specs.TypedNodes.{is_kind}
@@ -38,15 +40,15 @@ commas_to_come lowers commas text = if lowers then commas_left commas (chars tex
 
 -- the test for a node of a partition
 abbrev pub is_partition : Node → Bool
-is_partition node = is_kind MEDIA_TYPE HARD_DRIVE HARD_DRIVE_LEAST node
+is_partition node = is_kind MEDIA_TYPE hard_drive.SUB_TYPE hard_drive.LEAST node
 
 -- the test for a namespace of an NVMe controller
 abbrev pub is_namespace : Node → Bool
-is_namespace node = is_kind MESSAGING_TYPE NVME_NAMESPACE NVME_NAMESPACE_LEAST node
+is_namespace node = is_kind MESSAGING_TYPE nvme_namespace.SUB_TYPE nvme_namespace.LEAST node
 
 -- the node of a namespace with the bytes of the identifier in the opposite order
 abbrev pub with_reversed_id : Node → Node
-with_reversed_id node = node_with MESSAGING_TYPE NVME_NAMESPACE
+with_reversed_id node = node_with MESSAGING_TYPE nvme_namespace.SUB_TYPE
     (take 4 node.content ++ reverse (take 8 (drop 4 node.content)))
 
 -- these are the bytes of a namespace's node, with_reversed_id, or there are none for another node

@@ -1,6 +1,11 @@
 -- Device paths beside others: short forms, and what they stand for (UEFI Specification 2.10, section 3.1.2).
 use Rattle.std.specs.Prelude.{◌≡◌, ℕ, Bool, ◌==◌, ◌&&◌, if◌then◌else◌, ◌⊎◌, List, [], ◌∷◌, ◌++◌, Option, None, Some}
-use Rattle.uefi_device_nodes.specs.declared.node_table.layouts.TheConstants.{FILE_PATH, HARD_DRIVE, HARD_DRIVE_LEAST, HARD_DRIVE_PARTITION_NUMBER, HARD_DRIVE_PARTITION_SIGNATURE, HARD_DRIVE_SIGNATURE_TYPE, MEDIA_TYPE, MESSAGING_TYPE, URI, USB_CLASS, USB_WWID}
+use Rattle.uefi_device_nodes.specs.declared.node_table.layouts.TheConstants.{MEDIA_TYPE, MESSAGING_TYPE}
+use Rattle.uefi_device_nodes.specs.declared.node_table.layouts.media.file_path.TheConstants as file_path
+use Rattle.uefi_device_nodes.specs.declared.node_table.layouts.media.hard_drive.TheConstants as hard_drive
+use Rattle.uefi_device_nodes.specs.declared.node_table.layouts.messaging.uri.TheConstants as uri
+use Rattle.uefi_device_nodes.specs.declared.node_table.layouts.messaging.usb_class.TheConstants as usb_class
+use Rattle.uefi_device_nodes.specs.declared.node_table.layouts.messaging.usb_wwid.TheConstants as usb_wwid
 use Rattle.uefi_device_nodes.specs.Nodes.{Node}
 use Rattle.uefi_device_nodes.specs.TypedNodes.{IsOfKind, bytes_in, number_in}
 use Rattle.uefi_device_path.specs.declared.matching.ShortForm.{ShortForm}
@@ -13,11 +18,11 @@ is_of_type device_type sub_type node = (node.device_type == device_type) && (nod
 -- the short form that a path has if this is its first node
 abbrev pub short_form_of : Node → Option ShortForm
 short_form_of node =
-    if is_of_type MEDIA_TYPE HARD_DRIVE node then Some HardDrive
-    else if is_of_type MEDIA_TYPE FILE_PATH node then Some File
-    else if is_of_type MESSAGING_TYPE USB_CLASS node then Some UsbClass
-    else if is_of_type MESSAGING_TYPE USB_WWID node then Some UsbWwid
-    else if is_of_type MESSAGING_TYPE URI node then Some Uri
+    if is_of_type MEDIA_TYPE hard_drive.SUB_TYPE node then Some HardDrive
+    else if is_of_type MEDIA_TYPE file_path.SUB_TYPE node then Some File
+    else if is_of_type MESSAGING_TYPE usb_class.SUB_TYPE node then Some UsbClass
+    else if is_of_type MESSAGING_TYPE usb_wwid.SUB_TYPE node then Some UsbWwid
+    else if is_of_type MESSAGING_TYPE uri.SUB_TYPE node then Some Uri
     else None
 
 -- the short form of a path
@@ -27,14 +32,14 @@ short_form (node ∷ nodes) = short_form_of node
 
 -- nodes of partitions with one number and one signature
 pub record NameOnePartition (node other : Node) : Type 0 where
-  pub node_is : IsOfKind MEDIA_TYPE HARD_DRIVE HARD_DRIVE_LEAST node
-  pub other_is : IsOfKind MEDIA_TYPE HARD_DRIVE HARD_DRIVE_LEAST other
-  pub number : number_in HARD_DRIVE_PARTITION_NUMBER node.content
-      ≡ number_in HARD_DRIVE_PARTITION_NUMBER other.content
-  pub signature_type : number_in HARD_DRIVE_SIGNATURE_TYPE node.content
-      ≡ number_in HARD_DRIVE_SIGNATURE_TYPE other.content
-  pub signature : bytes_in HARD_DRIVE_PARTITION_SIGNATURE node.content
-      ≡ bytes_in HARD_DRIVE_PARTITION_SIGNATURE other.content
+  pub node_is : IsOfKind MEDIA_TYPE hard_drive.SUB_TYPE hard_drive.LEAST node
+  pub other_is : IsOfKind MEDIA_TYPE hard_drive.SUB_TYPE hard_drive.LEAST other
+  pub number : number_in hard_drive.PARTITION_NUMBER node.content
+      ≡ number_in hard_drive.PARTITION_NUMBER other.content
+  pub signature_type : number_in hard_drive.SIGNATURE_TYPE node.content
+      ≡ number_in hard_drive.SIGNATURE_TYPE other.content
+  pub signature : bytes_in hard_drive.PARTITION_SIGNATURE node.content
+      ≡ bytes_in hard_drive.PARTITION_SIGNATURE other.content
 
 -- what the first node of a short form names, a node names: a partition by its number and signature,
 -- and a file or a URI by an equal node

@@ -11,7 +11,9 @@ ghost use Rattle.uefi_device_path.specs.Matching.{IsExpansion, Names, NameOnePar
 use crate::device_path::DevicePath;
 use uefi_device_nodes::DevicePathNode;
 use uefi_device_nodes::media::HardDrive;
-use uefi_device_nodes::node_table::layouts;
+use uefi_device_nodes::node_table::layouts::media::{file_path, hard_drive};
+use uefi_device_nodes::node_table::layouts::messaging::{uri, usb_class, usb_wwid};
+use uefi_device_nodes::node_table::layouts::{MEDIA_TYPE, MESSAGING_TYPE};
 
 /// The first node of a short-form device path. Such a path leaves out where the device is, and
 /// firmware looks for the device (UEFI Specification 2.10, section 3.1.2).
@@ -34,11 +36,11 @@ fn form_of(node: DevicePathNode<'_>) -> Option<ShortForm>
     ensures { result ≡ short_form_of (node_of node.entry) }
 {
     match (node.device_type().0, node.sub_type().0) {
-        (layouts::MEDIA_TYPE, layouts::HARD_DRIVE) => Some(ShortForm::HardDrive),
-        (layouts::MEDIA_TYPE, layouts::FILE_PATH) => Some(ShortForm::File),
-        (layouts::MESSAGING_TYPE, layouts::USB_CLASS) => Some(ShortForm::UsbClass),
-        (layouts::MESSAGING_TYPE, layouts::USB_WWID) => Some(ShortForm::UsbWwid),
-        (layouts::MESSAGING_TYPE, layouts::URI) => Some(ShortForm::Uri),
+        (MEDIA_TYPE, hard_drive::SUB_TYPE) => Some(ShortForm::HardDrive),
+        (MEDIA_TYPE, file_path::SUB_TYPE) => Some(ShortForm::File),
+        (MESSAGING_TYPE, usb_class::SUB_TYPE) => Some(ShortForm::UsbClass),
+        (MESSAGING_TYPE, usb_wwid::SUB_TYPE) => Some(ShortForm::UsbWwid),
+        (MESSAGING_TYPE, uri::SUB_TYPE) => Some(ShortForm::Uri),
         _ => None,
     }
 }

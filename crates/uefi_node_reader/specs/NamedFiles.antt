@@ -7,7 +7,8 @@ use Rattle.std.specs.Str.{all_scalars, chars, is_utf8}
 use Rattle.uefi_text.specs.UnitBytes.{unit_bytes}
 use Rattle.uefi_text.specs.Units.{nul_terminated}
 use Rattle.uefi_device_nodes.specs.FieldTexts.{is_escaped}
-use Rattle.uefi_device_nodes.specs.declared.node_table.layouts.TheConstants.{FILE_PATH, MEDIA_TYPE}
+use Rattle.uefi_device_nodes.specs.declared.node_table.layouts.TheConstants.{MEDIA_TYPE}
+use Rattle.uefi_device_nodes.specs.declared.node_table.layouts.media.file_path.TheConstants as file_path
 use Rattle.uefi_device_nodes.specs.Nodes.{Node, node_with}
 use Rattle.uefi_device_nodes.specs.Table.{forms}
 use Rattle.uefi_node_reader.specs.FieldReading.{either_read, read_if}
@@ -40,7 +41,7 @@ pub record IsNamedNode (node : Node) : Type 0 where
   pub name : List ℕ
   pub scalars : all_scalars name ≡ true
   pub is_name : is_name name ≡ true
-  pub is : node ≡ node_with MEDIA_TYPE FILE_PATH (name_data name)
+  pub is : node ≡ node_with MEDIA_TYPE file_path.SUB_TYPE (name_data name)
 
 -- the bytes of a text before the first byte that ends a name
 abbrev pub name_bytes : List ℕ → List ℕ
@@ -49,7 +50,7 @@ name_bytes text = take (position_or_len ends_name text) text
 -- the node of the name at the start of a text, and the rest of the text
 abbrev pub name_read : List ℕ → Option (Node × List ℕ)
 name_read text = read_if (is_utf8 (name_bytes text) && is_name (chars (name_bytes text)))
-    (node_with MEDIA_TYPE FILE_PATH (name_data (chars (name_bytes text))))
+    (node_with MEDIA_TYPE file_path.SUB_TYPE (name_data (chars (name_bytes text))))
     (drop (position_or_len ends_name text) text)
 
 -- a node that its text describes completely

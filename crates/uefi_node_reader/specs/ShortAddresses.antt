@@ -11,7 +11,8 @@ use Rattle.uefi_device_nodes.specs.Rows.{find_form}
 use Rattle.uefi_device_nodes.specs.Table.{forms}
 use Rattle.uefi_device_nodes.specs.declared.node_table.rows.Tail.{Tail}
 use Rattle.uefi_device_nodes.specs.declared.node_table.rows.Tail.TheVariants.{Nothing}
-use Rattle.uefi_device_nodes.specs.declared.node_table.layouts.TheConstants.{IPV6, MESSAGING_TYPE}
+use Rattle.uefi_device_nodes.specs.declared.node_table.layouts.TheConstants.{MESSAGING_TYPE}
+use Rattle.uefi_device_nodes.specs.declared.node_table.layouts.messaging.ipv6.TheConstants as ipv6
 use Rattle.uefi_device_nodes.specs.Nodes.{Node, node_with}
 use Rattle.uefi_node_reader.specs.CompleteTexts.{tells}
 use Rattle.uefi_node_reader.specs.FieldReading.{◌>>=◌, low_bytes}
@@ -138,4 +139,4 @@ told_fixed node = do
 unfoldable pub short_ipv6 : List ℕ → Option Node
 short_ipv6 text = do
   content ← call_data text
-  told_fixed (node_with MESSAGING_TYPE IPV6 content)
+  told_fixed (node_with MESSAGING_TYPE ipv6.SUB_TYPE content)

@@ -22,7 +22,8 @@ use crate::exact::numerals::number;
 use crate::exact::parsed_node::ParsedNode;
 use crate::lenient::lenient_fields::any_number;
 use crate::texts::Text;
-use uefi_device_nodes::node_table::layouts::{FILE_PATH, MEDIA_TYPE};
+use uefi_device_nodes::node_table::layouts::MEDIA_TYPE;
+use uefi_device_nodes::node_table::layouts::media::file_path;
 use uefi_device_nodes::node_table::printing::has_form;
 use uefi_device_nodes::node_table::rows::Tail;
 
@@ -31,7 +32,7 @@ fn is_file(device_type: u8, sub_type: u8, len: usize) -> bool
     ensures { (content : List ℕ) → len ≡ length content
         → result ≡ is_irregular false (node_with device_type sub_type content) }
 {
-    device_type == MEDIA_TYPE && sub_type == FILE_PATH && len % 2 == 0
+    device_type == MEDIA_TYPE && sub_type == file_path::SUB_TYPE && len % 2 == 0
 }
 
 /// Returns whether a node has no form of its own, fits into a path, and does not end an instance or

@@ -9,7 +9,8 @@ use crate::file_node::FileNode;
 use crate::lenient::tidied::Tidied;
 use crate::named_files::NameText;
 use uefi_device_nodes::build_node::BuildNode;
-use uefi_device_nodes::node_table::layouts::{FILE_PATH, MEDIA_TYPE};
+use uefi_device_nodes::node_table::layouts::MEDIA_TYPE;
+use uefi_device_nodes::node_table::layouts::media::file_path;
 use uefi_device_nodes::{DeviceSubType, DeviceType};
 
 /// A node that was read from a text.
@@ -31,7 +32,7 @@ impl<T: NameText> BuildNode for ReadNode<T> {
         let (device_type, sub_type) = match self {
             ReadNode::Exact(node) => node.types(),
             ReadNode::Tidied(node) => node.types(),
-            ReadNode::File(_) => (MEDIA_TYPE, FILE_PATH),
+            ReadNode::File(_) => (MEDIA_TYPE, file_path::SUB_TYPE),
         };
         (DeviceType(device_type), DeviceSubType(sub_type))
     }

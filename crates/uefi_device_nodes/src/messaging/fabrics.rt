@@ -5,29 +5,28 @@
 ghost use Rattle.std.specs.Prelude.{◌≡◌, ◌<◌, ◌∷◌, []};
 ghost use Rattle.uefi_device_nodes.specs.TypedNodes.{bytes_from, bytes_in, number_in};
 ghost use Rattle.uefi_device_nodes.specs.NodeViews.{data_of};
-ghost use Rattle.uefi_device_nodes.specs.declared.node_table.layouts.TheConstants.{INFINIBAND_DEVICE_ID, INFINIBAND_IOC_GUID_OR_SERVICE_ID, INFINIBAND_PORT_GID, INFINIBAND_RESOURCE_FLAGS, INFINIBAND_TARGET_PORT_ID, ISCSI_LOGICAL_UNIT_NUMBER, ISCSI_OPTIONS, ISCSI_PROTOCOL, ISCSI_TARGET_PORTAL_GROUP_TAG, NVME_OF_NAMESPACE_NID, NVME_OF_NAMESPACE_NIDT};
+ghost use Rattle.uefi_device_nodes.specs.declared.node_table.layouts.messaging.infiniband.TheConstants as infiniband;
+ghost use Rattle.uefi_device_nodes.specs.declared.node_table.layouts.messaging.iscsi.TheConstants as iscsi;
+ghost use Rattle.uefi_device_nodes.specs.declared.node_table.layouts.messaging.nvme_of_namespace.TheConstants as nvme_of_namespace;
 ghost use Rattle.uefi_device_nodes.specs.NodeFields.{bytes, number};
 
 use crate::node::DeviceSubType;
-use crate::node_table::layouts::{
-    INFINIBAND, INFINIBAND_DEVICE_ID, INFINIBAND_IOC_GUID_OR_SERVICE_ID, INFINIBAND_LEAST,
-    INFINIBAND_PORT_GID, INFINIBAND_RESOURCE_FLAGS, INFINIBAND_TARGET_PORT_ID, ISCSI,
-    ISCSI_ISCSI_TARGET_NAME, ISCSI_LEAST, ISCSI_LOGICAL_UNIT_NUMBER, ISCSI_OPTIONS, ISCSI_PROTOCOL,
-    ISCSI_TARGET_PORTAL_GROUP_TAG, MESSAGING_TYPE, NVME_OF_NAMESPACE, NVME_OF_NAMESPACE_LEAST,
-    NVME_OF_NAMESPACE_NID, NVME_OF_NAMESPACE_NIDT, NVME_OF_NAMESPACE_SUBSYSTEM_NQN,
-};
+use crate::node_table::layouts::MESSAGING_TYPE;
+use crate::node_table::layouts::messaging::{infiniband, iscsi, nvme_of_namespace};
 use crate::typed_node::TypedNode;
 
 /// Sub-types of the type [`DeviceType::MESSAGING`](crate::DeviceType).
 impl DeviceSubType {
     /// A device on InfiniBand.
-    pub const MESSAGING_INFINIBAND: DeviceSubType = DeviceSubType(INFINIBAND);
+    pub const MESSAGING_INFINIBAND: DeviceSubType = DeviceSubType(infiniband::SUB_TYPE);
 
     /// An iSCSI target.
-    pub const MESSAGING_ISCSI: DeviceSubType = DeviceSubType(ISCSI);
+    pub const MESSAGING_ISCSI: DeviceSubType = DeviceSubType(iscsi::SUB_TYPE);
 
     /// A namespace of an NVMe drive over a network.
-    pub const MESSAGING_NVME_OF_NAMESPACE: DeviceSubType = DeviceSubType(NVME_OF_NAMESPACE);
+    pub const MESSAGING_NVME_OF_NAMESPACE: DeviceSubType = DeviceSubType(
+        nvme_of_namespace::SUB_TYPE,
+    );
 }
 
 /// A device on InfiniBand.
@@ -40,43 +39,48 @@ impl DeviceSubType {
 /// assert_eq!(rt; (device.ioc_guid_or_service_id(), device.target_port_id()), (1, 2));
 /// assert_eq!(rt; device.device_id(), 3);
 /// ```
-pub type Infiniband<'a> = TypedNode<'a, MESSAGING_TYPE, INFINIBAND, INFINIBAND_LEAST>;
+pub type Infiniband<'a> = TypedNode<
+    'a,
+    MESSAGING_TYPE,
+    { infiniband::SUB_TYPE },
+    { infiniband::LEAST },
+>;
 
 impl<'a> Infiniband<'a> {
     /// Returns flags of the resource. Bit 0 is clear for an I/O controller and set for a service. Bits 1 to
     /// 4 mean an extension of the boot environment, a console, storage and a network.
     pub fn resource_flags(&self) -> u32
-        ensures { result ≡ number_in INFINIBAND_RESOURCE_FLAGS (data_of self.now) }
+        ensures { result ≡ number_in infiniband.RESOURCE_FLAGS (data_of self.now) }
     {
-        self.number(INFINIBAND_RESOURCE_FLAGS)
+        self.number(infiniband::RESOURCE_FLAGS)
     }
 
     /// Returns the bytes of the global identifier of the remote fabric port.
     pub fn port_gid(&self) -> [u8; 16]
-        ensures { result ≡ bytes_in INFINIBAND_PORT_GID (data_of self.now) }
+        ensures { result ≡ bytes_in infiniband.PORT_GID (data_of self.now) }
     {
-        self.bytes(INFINIBAND_PORT_GID)
+        self.bytes(infiniband::PORT_GID)
     }
 
     /// Returns the GUID of the I/O controller, or the identifier of the service.
     pub fn ioc_guid_or_service_id(&self) -> u64
-        ensures { result ≡ number_in INFINIBAND_IOC_GUID_OR_SERVICE_ID (data_of self.now) }
+        ensures { result ≡ number_in infiniband.IOC_GUID_OR_SERVICE_ID (data_of self.now) }
     {
-        self.number(INFINIBAND_IOC_GUID_OR_SERVICE_ID)
+        self.number(infiniband::IOC_GUID_OR_SERVICE_ID)
     }
 
     /// Returns the persistent identifier of the remote port.
     pub fn target_port_id(&self) -> u64
-        ensures { result ≡ number_in INFINIBAND_TARGET_PORT_ID (data_of self.now) }
+        ensures { result ≡ number_in infiniband.TARGET_PORT_ID (data_of self.now) }
     {
-        self.number(INFINIBAND_TARGET_PORT_ID)
+        self.number(infiniband::TARGET_PORT_ID)
     }
 
     /// Returns the persistent identifier of the remote device.
     pub fn device_id(&self) -> u64
-        ensures { result ≡ number_in INFINIBAND_DEVICE_ID (data_of self.now) }
+        ensures { result ≡ number_in infiniband.DEVICE_ID (data_of self.now) }
     {
-        self.number(INFINIBAND_DEVICE_ID)
+        self.number(infiniband::DEVICE_ID)
     }
 }
 
@@ -90,42 +94,42 @@ impl<'a> Infiniband<'a> {
 /// assert_eq!(rt; disk.logical_unit_number(), [0, 1, 0, 0, 0, 0, 0, 0]);
 /// assert_eq!(rt; disk.iscsi_target_name(), b"iqn.org:disk".as_slice());
 /// ```
-pub type Iscsi<'a> = TypedNode<'a, MESSAGING_TYPE, ISCSI, ISCSI_LEAST>;
+pub type Iscsi<'a> = TypedNode<'a, MESSAGING_TYPE, { iscsi::SUB_TYPE }, { iscsi::LEAST }>;
 
 impl<'a> Iscsi<'a> {
     /// Returns the protocol: 0 is TCP.
     pub fn protocol(&self) -> u16
-        ensures { result ≡ number_in ISCSI_PROTOCOL (data_of self.now) }
+        ensures { result ≡ number_in iscsi.PROTOCOL (data_of self.now) }
     {
-        self.number(ISCSI_PROTOCOL)
+        self.number(iscsi::PROTOCOL)
     }
 
     /// Returns the login options, with bits for digests and authentication.
     pub fn options(&self) -> u16
-        ensures { result ≡ number_in ISCSI_OPTIONS (data_of self.now) }
+        ensures { result ≡ number_in iscsi.OPTIONS (data_of self.now) }
     {
-        self.number(ISCSI_OPTIONS)
+        self.number(iscsi::OPTIONS)
     }
 
     /// Returns the bytes of the logical unit number.
     pub fn logical_unit_number(&self) -> [u8; 8]
-        ensures { result ≡ bytes_in ISCSI_LOGICAL_UNIT_NUMBER (data_of self.now) }
+        ensures { result ≡ bytes_in iscsi.LOGICAL_UNIT_NUMBER (data_of self.now) }
     {
-        self.bytes(ISCSI_LOGICAL_UNIT_NUMBER)
+        self.bytes(iscsi::LOGICAL_UNIT_NUMBER)
     }
 
     /// Returns the portal group tag of the target.
     pub fn target_portal_group_tag(&self) -> u16
-        ensures { result ≡ number_in ISCSI_TARGET_PORTAL_GROUP_TAG (data_of self.now) }
+        ensures { result ≡ number_in iscsi.TARGET_PORTAL_GROUP_TAG (data_of self.now) }
     {
-        self.number(ISCSI_TARGET_PORTAL_GROUP_TAG)
+        self.number(iscsi::TARGET_PORTAL_GROUP_TAG)
     }
 
     /// Returns the bytes of the name of the target.
     pub fn iscsi_target_name(&self) -> &'a [u8]
-        ensures { result.now ≡ bytes_from ISCSI_ISCSI_TARGET_NAME (data_of self.now) }
+        ensures { result.now ≡ bytes_from iscsi.ISCSI_TARGET_NAME (data_of self.now) }
     {
-        self.tail(ISCSI_ISCSI_TARGET_NAME)
+        self.tail(iscsi::ISCSI_TARGET_NAME)
     }
 }
 
@@ -140,42 +144,37 @@ impl<'a> Iscsi<'a> {
 pub type NvmeOfNamespace<'a> = TypedNode<
     'a,
     MESSAGING_TYPE,
-    NVME_OF_NAMESPACE,
-    NVME_OF_NAMESPACE_LEAST,
+    { nvme_of_namespace::SUB_TYPE },
+    { nvme_of_namespace::LEAST },
 >;
 
 impl<'a> NvmeOfNamespace<'a> {
     /// Returns the type of the identifier: 1 is EUI-64, 2 NGUID, 3 UUID.
     pub fn nidt(&self) -> u8
-        ensures { result ≡ number_in NVME_OF_NAMESPACE_NIDT (data_of self.now) }
+        ensures { result ≡ number_in nvme_of_namespace.NIDT (data_of self.now) }
     {
-        self.number(NVME_OF_NAMESPACE_NIDT)
+        self.number(nvme_of_namespace::NIDT)
     }
 
     /// Returns the bytes of the identifier.
     pub fn nid(&self) -> [u8; 16]
-        ensures { result ≡ bytes_in NVME_OF_NAMESPACE_NID (data_of self.now) }
+        ensures { result ≡ bytes_in nvme_of_namespace.NID (data_of self.now) }
     {
-        self.bytes(NVME_OF_NAMESPACE_NID)
+        self.bytes(nvme_of_namespace::NID)
     }
 
     /// Returns the qualified name of the subsystem, in UTF-8, with its NUL.
     pub fn subsystem_nqn(&self) -> &'a [u8]
-        ensures { result.now ≡ bytes_from NVME_OF_NAMESPACE_SUBSYSTEM_NQN (data_of self.now) }
+        ensures { result.now ≡ bytes_from nvme_of_namespace.SUBSYSTEM_NQN (data_of self.now) }
     {
-        self.tail(NVME_OF_NAMESPACE_SUBSYSTEM_NQN)
+        self.tail(nvme_of_namespace::SUBSYSTEM_NQN)
     }
 }
 
 /// The structs from which these nodes are built.
 pub mod build {
     use crate::fields::{Fields, put, put_bytes};
-    use crate::node_table::layouts::{
-        INFINIBAND_DEVICE_ID, INFINIBAND_IOC_GUID_OR_SERVICE_ID, INFINIBAND_PORT_GID,
-        INFINIBAND_RESOURCE_FLAGS, INFINIBAND_TARGET_PORT_ID, ISCSI_LOGICAL_UNIT_NUMBER,
-        ISCSI_OPTIONS, ISCSI_PROTOCOL, ISCSI_TARGET_PORTAL_GROUP_TAG, NVME_OF_NAMESPACE_NID,
-        NVME_OF_NAMESPACE_NIDT,
-    };
+    use crate::node_table::layouts::messaging::{infiniband, iscsi, nvme_of_namespace};
 
     /// A device on InfiniBand.
     ///
@@ -208,24 +207,24 @@ pub mod build {
 
         type Tail = ();
 
-        ghost fields = { λ n. number INFINIBAND_RESOURCE_FLAGS n.resource_flags ∷
-            bytes INFINIBAND_PORT_GID n.port_gid ∷
-            number INFINIBAND_IOC_GUID_OR_SERVICE_ID n.ioc_guid_or_service_id ∷
-            number INFINIBAND_TARGET_PORT_ID n.target_port_id ∷
-            number INFINIBAND_DEVICE_ID n.device_id ∷ [] };
+        ghost fields = { λ n. number infiniband.RESOURCE_FLAGS n.resource_flags ∷
+            bytes infiniband.PORT_GID n.port_gid ∷
+            number infiniband.IOC_GUID_OR_SERVICE_ID n.ioc_guid_or_service_id ∷
+            number infiniband.TARGET_PORT_ID n.target_port_id ∷
+            number infiniband.DEVICE_ID n.device_id ∷ [] };
 
         fn tail(self) {}
 
         fn put(&self, content: &mut [u8]) {
-            put(content, INFINIBAND_RESOURCE_FLAGS, self.resource_flags);
-            put_bytes(content, INFINIBAND_PORT_GID, &self.port_gid);
+            put(content, infiniband::RESOURCE_FLAGS, self.resource_flags);
+            put_bytes(content, infiniband::PORT_GID, &self.port_gid);
             put(
                 content,
-                INFINIBAND_IOC_GUID_OR_SERVICE_ID,
+                infiniband::IOC_GUID_OR_SERVICE_ID,
                 self.ioc_guid_or_service_id,
             );
-            put(content, INFINIBAND_TARGET_PORT_ID, self.target_port_id);
-            put(content, INFINIBAND_DEVICE_ID, self.device_id);
+            put(content, infiniband::TARGET_PORT_ID, self.target_port_id);
+            put(content, infiniband::DEVICE_ID, self.device_id);
         }
     }
 
@@ -259,9 +258,9 @@ pub mod build {
 
         type Tail = &'a [u8];
 
-        ghost fields = { λ n. number ISCSI_PROTOCOL n.protocol ∷ number ISCSI_OPTIONS n.options ∷
-            bytes ISCSI_LOGICAL_UNIT_NUMBER n.logical_unit_number ∷
-            number ISCSI_TARGET_PORTAL_GROUP_TAG n.target_portal_group_tag ∷ [] };
+        ghost fields = { λ n. number iscsi.PROTOCOL n.protocol ∷ number iscsi.OPTIONS n.options ∷
+            bytes iscsi.LOGICAL_UNIT_NUMBER n.logical_unit_number ∷
+            number iscsi.TARGET_PORTAL_GROUP_TAG n.target_portal_group_tag ∷ [] };
 
         ghost after = { λ n. n.iscsi_target_name.now };
 
@@ -270,16 +269,16 @@ pub mod build {
         }
 
         fn put(&self, content: &mut [u8]) {
-            put(content, ISCSI_PROTOCOL, self.protocol);
-            put(content, ISCSI_OPTIONS, self.options);
+            put(content, iscsi::PROTOCOL, self.protocol);
+            put(content, iscsi::OPTIONS, self.options);
             put_bytes(
                 content,
-                ISCSI_LOGICAL_UNIT_NUMBER,
+                iscsi::LOGICAL_UNIT_NUMBER,
                 &self.logical_unit_number,
             );
             put(
                 content,
-                ISCSI_TARGET_PORTAL_GROUP_TAG,
+                iscsi::TARGET_PORTAL_GROUP_TAG,
                 self.target_portal_group_tag,
             );
         }
@@ -312,7 +311,7 @@ pub mod build {
 
         type Tail = &'a [u8];
 
-        ghost fields = { λ n. number NVME_OF_NAMESPACE_NIDT n.nidt ∷ bytes NVME_OF_NAMESPACE_NID n.nid ∷
+        ghost fields = { λ n. number nvme_of_namespace.NIDT n.nidt ∷ bytes nvme_of_namespace.NID n.nid ∷
             [] };
 
         ghost after = { λ n. n.subsystem_nqn.now };
@@ -322,8 +321,8 @@ pub mod build {
         }
 
         fn put(&self, content: &mut [u8]) {
-            put(content, NVME_OF_NAMESPACE_NIDT, self.nidt);
-            put_bytes(content, NVME_OF_NAMESPACE_NID, &self.nid);
+            put(content, nvme_of_namespace::NIDT, self.nidt);
+            put_bytes(content, nvme_of_namespace::NID, &self.nid);
         }
     }
 }

@@ -5,35 +5,35 @@
 ghost use Rattle.std.specs.Prelude.{◌≡◌, ◌∷◌, []};
 ghost use Rattle.uefi_device_nodes.specs.TypedNodes.{bytes_in, number_in};
 ghost use Rattle.uefi_device_nodes.specs.NodeViews.{data_of};
-ghost use Rattle.uefi_device_nodes.specs.declared.node_table.layouts.TheConstants.{EMMC_SLOT_NUMBER, NVDIMM_NAMESPACE_UUID, NVME_NAMESPACE_IEEE_EXTENDED_UNIQUE_IDENTIFIER, NVME_NAMESPACE_NAMESPACE_IDENTIFIER, SD_SLOT_NUMBER, UFS_LOGICAL_UNIT_NUMBER, UFS_TARGET_ID};
+ghost use Rattle.uefi_device_nodes.specs.declared.node_table.layouts.messaging.emmc.TheConstants as emmc;
+ghost use Rattle.uefi_device_nodes.specs.declared.node_table.layouts.messaging.nvdimm_namespace.TheConstants as nvdimm_namespace;
+ghost use Rattle.uefi_device_nodes.specs.declared.node_table.layouts.messaging.nvme_namespace.TheConstants as nvme_namespace;
+ghost use Rattle.uefi_device_nodes.specs.declared.node_table.layouts.messaging.sd.TheConstants as sd;
+ghost use Rattle.uefi_device_nodes.specs.declared.node_table.layouts.messaging.ufs.TheConstants as ufs;
 ghost use Rattle.uefi_device_nodes.specs.NodeFields.{bytes, number};
 
 use crate::field_texts::guid::Guid;
 use crate::node::DeviceSubType;
-use crate::node_table::layouts::{
-    EMMC, EMMC_LEAST, EMMC_SLOT_NUMBER, MESSAGING_TYPE, NVDIMM_NAMESPACE, NVDIMM_NAMESPACE_LEAST,
-    NVDIMM_NAMESPACE_UUID, NVME_NAMESPACE, NVME_NAMESPACE_IEEE_EXTENDED_UNIQUE_IDENTIFIER,
-    NVME_NAMESPACE_LEAST, NVME_NAMESPACE_NAMESPACE_IDENTIFIER, SD, SD_LEAST, SD_SLOT_NUMBER, UFS,
-    UFS_LEAST, UFS_LOGICAL_UNIT_NUMBER, UFS_TARGET_ID,
-};
+use crate::node_table::layouts::MESSAGING_TYPE;
+use crate::node_table::layouts::messaging::{emmc, nvdimm_namespace, nvme_namespace, sd, ufs};
 use crate::typed_node::TypedNode;
 
 /// Sub-types of the type [`DeviceType::MESSAGING`](crate::DeviceType).
 impl DeviceSubType {
     /// A namespace of an NVMe drive.
-    pub const MESSAGING_NVME_NAMESPACE: DeviceSubType = DeviceSubType(NVME_NAMESPACE);
+    pub const MESSAGING_NVME_NAMESPACE: DeviceSubType = DeviceSubType(nvme_namespace::SUB_TYPE);
 
     /// A device on UFS.
-    pub const MESSAGING_UFS: DeviceSubType = DeviceSubType(UFS);
+    pub const MESSAGING_UFS: DeviceSubType = DeviceSubType(ufs::SUB_TYPE);
 
     /// An SD card.
-    pub const MESSAGING_SD: DeviceSubType = DeviceSubType(SD);
+    pub const MESSAGING_SD: DeviceSubType = DeviceSubType(sd::SUB_TYPE);
 
     /// An eMMC device.
-    pub const MESSAGING_EMMC: DeviceSubType = DeviceSubType(EMMC);
+    pub const MESSAGING_EMMC: DeviceSubType = DeviceSubType(emmc::SUB_TYPE);
 
     /// A namespace of a persistent memory module.
-    pub const MESSAGING_NVDIMM_NAMESPACE: DeviceSubType = DeviceSubType(NVDIMM_NAMESPACE);
+    pub const MESSAGING_NVDIMM_NAMESPACE: DeviceSubType = DeviceSubType(nvdimm_namespace::SUB_TYPE);
 }
 
 /// A namespace of NVM Express.
@@ -44,21 +44,26 @@ impl DeviceSubType {
 /// assert_eq!(rt; disk.namespace_identifier(), 1);
 /// assert_eq!(rt; disk.ieee_extended_unique_identifier(), 0x0025_38b1_0000_0007);
 /// ```
-pub type NvmeNamespace<'a> = TypedNode<'a, MESSAGING_TYPE, NVME_NAMESPACE, NVME_NAMESPACE_LEAST>;
+pub type NvmeNamespace<'a> = TypedNode<
+    'a,
+    MESSAGING_TYPE,
+    { nvme_namespace::SUB_TYPE },
+    { nvme_namespace::LEAST },
+>;
 
 impl<'a> NvmeNamespace<'a> {
     /// Returns the number of the namespace.
     pub fn namespace_identifier(&self) -> u32
-        ensures { result ≡ number_in NVME_NAMESPACE_NAMESPACE_IDENTIFIER (data_of self.now) }
+        ensures { result ≡ number_in nvme_namespace.NAMESPACE_IDENTIFIER (data_of self.now) }
     {
-        self.number(NVME_NAMESPACE_NAMESPACE_IDENTIFIER)
+        self.number(nvme_namespace::NAMESPACE_IDENTIFIER)
     }
 
     /// Returns the extended unique identifier, EUI-64.
     pub fn ieee_extended_unique_identifier(&self) -> u64
-        ensures { result ≡ number_in NVME_NAMESPACE_IEEE_EXTENDED_UNIQUE_IDENTIFIER (data_of self.now) }
+        ensures { result ≡ number_in nvme_namespace.IEEE_EXTENDED_UNIQUE_IDENTIFIER (data_of self.now) }
     {
-        self.number(NVME_NAMESPACE_IEEE_EXTENDED_UNIQUE_IDENTIFIER)
+        self.number(nvme_namespace::IEEE_EXTENDED_UNIQUE_IDENTIFIER)
     }
 }
 
@@ -69,21 +74,21 @@ impl<'a> NvmeNamespace<'a> {
 /// let disk = messaging::Ufs::from_node(node)?;
 /// assert_eq!(rt; (disk.target_id(), disk.logical_unit_number()), (0, 1));
 /// ```
-pub type Ufs<'a> = TypedNode<'a, MESSAGING_TYPE, UFS, UFS_LEAST>;
+pub type Ufs<'a> = TypedNode<'a, MESSAGING_TYPE, { ufs::SUB_TYPE }, { ufs::LEAST }>;
 
 impl<'a> Ufs<'a> {
     /// Returns the number of the target on its bus.
     pub fn target_id(&self) -> u8
-        ensures { result ≡ number_in UFS_TARGET_ID (data_of self.now) }
+        ensures { result ≡ number_in ufs.TARGET_ID (data_of self.now) }
     {
-        self.number(UFS_TARGET_ID)
+        self.number(ufs::TARGET_ID)
     }
 
     /// Returns the logical unit number.
     pub fn logical_unit_number(&self) -> u8
-        ensures { result ≡ number_in UFS_LOGICAL_UNIT_NUMBER (data_of self.now) }
+        ensures { result ≡ number_in ufs.LOGICAL_UNIT_NUMBER (data_of self.now) }
     {
-        self.number(UFS_LOGICAL_UNIT_NUMBER)
+        self.number(ufs::LOGICAL_UNIT_NUMBER)
     }
 }
 
@@ -94,14 +99,14 @@ impl<'a> Ufs<'a> {
 /// let card = messaging::Sd::from_node(node)?;
 /// assert_eq!(rt; card.slot_number(), 1);
 /// ```
-pub type Sd<'a> = TypedNode<'a, MESSAGING_TYPE, SD, SD_LEAST>;
+pub type Sd<'a> = TypedNode<'a, MESSAGING_TYPE, { sd::SUB_TYPE }, { sd::LEAST }>;
 
 impl<'a> Sd<'a> {
     /// Returns the number of the slot.
     pub fn slot_number(&self) -> u8
-        ensures { result ≡ number_in SD_SLOT_NUMBER (data_of self.now) }
+        ensures { result ≡ number_in sd.SLOT_NUMBER (data_of self.now) }
     {
-        self.number(SD_SLOT_NUMBER)
+        self.number(sd::SLOT_NUMBER)
     }
 }
 
@@ -112,14 +117,14 @@ impl<'a> Sd<'a> {
 /// let card = messaging::Emmc::from_node(node)?;
 /// assert_eq!(rt; card.slot_number(), 2);
 /// ```
-pub type Emmc<'a> = TypedNode<'a, MESSAGING_TYPE, EMMC, EMMC_LEAST>;
+pub type Emmc<'a> = TypedNode<'a, MESSAGING_TYPE, { emmc::SUB_TYPE }, { emmc::LEAST }>;
 
 impl<'a> Emmc<'a> {
     /// Returns the number of the slot.
     pub fn slot_number(&self) -> u8
-        ensures { result ≡ number_in EMMC_SLOT_NUMBER (data_of self.now) }
+        ensures { result ≡ number_in emmc.SLOT_NUMBER (data_of self.now) }
     {
-        self.number(EMMC_SLOT_NUMBER)
+        self.number(emmc::SLOT_NUMBER)
     }
 }
 
@@ -133,16 +138,16 @@ impl<'a> Emmc<'a> {
 pub type NvdimmNamespace<'a> = TypedNode<
     'a,
     MESSAGING_TYPE,
-    NVDIMM_NAMESPACE,
-    NVDIMM_NAMESPACE_LEAST,
+    { nvdimm_namespace::SUB_TYPE },
+    { nvdimm_namespace::LEAST },
 >;
 
 impl<'a> NvdimmNamespace<'a> {
     /// Returns the UUID that labels the namespace.
     pub fn uuid(&self) -> Guid
-        ensures { result ≡ bytes_in NVDIMM_NAMESPACE_UUID (data_of self.now) }
+        ensures { result ≡ bytes_in nvdimm_namespace.UUID (data_of self.now) }
     {
-        self.guid_in(NVDIMM_NAMESPACE_UUID)
+        self.guid_in(nvdimm_namespace::UUID)
     }
 }
 
@@ -150,11 +155,7 @@ impl<'a> NvdimmNamespace<'a> {
 pub mod build {
     use crate::field_texts::guid::Guid;
     use crate::fields::{Fields, put, put_bytes};
-    use crate::node_table::layouts::{
-        EMMC_SLOT_NUMBER, NVDIMM_NAMESPACE_UUID, NVME_NAMESPACE_IEEE_EXTENDED_UNIQUE_IDENTIFIER,
-        NVME_NAMESPACE_NAMESPACE_IDENTIFIER, SD_SLOT_NUMBER, UFS_LOGICAL_UNIT_NUMBER,
-        UFS_TARGET_ID,
-    };
+    use crate::node_table::layouts::messaging::{emmc, nvdimm_namespace, nvme_namespace, sd, ufs};
 
     /// A namespace of NVM Express.
     ///
@@ -180,8 +181,8 @@ pub mod build {
 
         type Tail = ();
 
-        ghost fields = { λ n. number NVME_NAMESPACE_NAMESPACE_IDENTIFIER n.namespace_identifier ∷
-            number NVME_NAMESPACE_IEEE_EXTENDED_UNIQUE_IDENTIFIER n.ieee_extended_unique_identifier ∷
+        ghost fields = { λ n. number nvme_namespace.NAMESPACE_IDENTIFIER n.namespace_identifier ∷
+            number nvme_namespace.IEEE_EXTENDED_UNIQUE_IDENTIFIER n.ieee_extended_unique_identifier ∷
             [] };
 
         fn tail(self) {}
@@ -189,12 +190,12 @@ pub mod build {
         fn put(&self, content: &mut [u8]) {
             put(
                 content,
-                NVME_NAMESPACE_NAMESPACE_IDENTIFIER,
+                nvme_namespace::NAMESPACE_IDENTIFIER,
                 self.namespace_identifier,
             );
             put(
                 content,
-                NVME_NAMESPACE_IEEE_EXTENDED_UNIQUE_IDENTIFIER,
+                nvme_namespace::IEEE_EXTENDED_UNIQUE_IDENTIFIER,
                 self.ieee_extended_unique_identifier,
             );
         }
@@ -222,14 +223,14 @@ pub mod build {
 
         type Tail = ();
 
-        ghost fields = { λ n. number UFS_TARGET_ID n.target_id ∷
-            number UFS_LOGICAL_UNIT_NUMBER n.logical_unit_number ∷ [] };
+        ghost fields = { λ n. number ufs.TARGET_ID n.target_id ∷
+            number ufs.LOGICAL_UNIT_NUMBER n.logical_unit_number ∷ [] };
 
         fn tail(self) {}
 
         fn put(&self, content: &mut [u8]) {
-            put(content, UFS_TARGET_ID, self.target_id);
-            put(content, UFS_LOGICAL_UNIT_NUMBER, self.logical_unit_number);
+            put(content, ufs::TARGET_ID, self.target_id);
+            put(content, ufs::LOGICAL_UNIT_NUMBER, self.logical_unit_number);
         }
     }
 
@@ -253,12 +254,12 @@ pub mod build {
 
         type Tail = ();
 
-        ghost fields = { λ n. number SD_SLOT_NUMBER n.slot_number ∷ [] };
+        ghost fields = { λ n. number sd.SLOT_NUMBER n.slot_number ∷ [] };
 
         fn tail(self) {}
 
         fn put(&self, content: &mut [u8]) {
-            put(content, SD_SLOT_NUMBER, self.slot_number);
+            put(content, sd::SLOT_NUMBER, self.slot_number);
         }
     }
 
@@ -282,12 +283,12 @@ pub mod build {
 
         type Tail = ();
 
-        ghost fields = { λ n. number EMMC_SLOT_NUMBER n.slot_number ∷ [] };
+        ghost fields = { λ n. number emmc.SLOT_NUMBER n.slot_number ∷ [] };
 
         fn tail(self) {}
 
         fn put(&self, content: &mut [u8]) {
-            put(content, EMMC_SLOT_NUMBER, self.slot_number);
+            put(content, emmc::SLOT_NUMBER, self.slot_number);
         }
     }
 
@@ -311,14 +312,14 @@ pub mod build {
 
         type Tail = ();
 
-        ghost fields = { λ n. bytes NVDIMM_NAMESPACE_UUID n.uuid ∷ [] };
+        ghost fields = { λ n. bytes nvdimm_namespace.UUID n.uuid ∷ [] };
 
         fn tail(self) {
             let _bytes = self.uuid.to_bytes();
         }
 
         fn put(&self, content: &mut [u8]) {
-            put_bytes(content, NVDIMM_NAMESPACE_UUID, &self.uuid.to_bytes());
+            put_bytes(content, nvdimm_namespace::UUID, &self.uuid.to_bytes());
         }
     }
 }

@@ -5,46 +5,45 @@
 ghost use Rattle.std.specs.Prelude.{◌≡◌, ◌+◌, ◌*◌, ◌/◌, ◌<◌, ◌≤◌, ◌↔◌, IfSome, IsSome, length, slice_range, ◌∷◌, [], ◌++◌, unwrap_or};
 ghost use Rattle.uefi_device_nodes.specs.TypedNodes.{bytes_from, bytes_in, end_of, number_in};
 ghost use Rattle.uefi_device_nodes.specs.NodeViews.{data_of};
-ghost use Rattle.uefi_device_nodes.specs.declared.node_table.layouts.TheConstants.{DNS_ADDRESS_TYPE, IPV4_GATEWAY_IP_ADDRESS, IPV4_IP_ADDRESS_ORIGIN, IPV4_LOCAL_IP_ADDRESS, IPV4_LOCAL_PORT, IPV4_PROTOCOL, IPV4_REMOTE_IP_ADDRESS, IPV4_REMOTE_PORT, IPV4_SUBNET_MASK, IPV6_GATEWAY_IP_ADDRESS, IPV6_IP_ADDRESS_ORIGIN, IPV6_LOCAL_IP_ADDRESS, IPV6_LOCAL_PORT, IPV6_PREFIX_LENGTH, IPV6_PROTOCOL, IPV6_REMOTE_IP_ADDRESS, IPV6_REMOTE_PORT, MAC_ADDRESS_INTERFACE_TYPE, MAC_ADDRESS_MAC_ADDRESS, REST_SERVICE_ACCESS_MODE, REST_SERVICE_SERVICE_TYPE, VLAN_VLAN_ID};
+ghost use Rattle.uefi_device_nodes.specs.declared.node_table.layouts.messaging.dns.TheConstants as dns;
+ghost use Rattle.uefi_device_nodes.specs.declared.node_table.layouts.messaging.ipv4.TheConstants as ipv4;
+ghost use Rattle.uefi_device_nodes.specs.declared.node_table.layouts.messaging.ipv6.TheConstants as ipv6;
+ghost use Rattle.uefi_device_nodes.specs.declared.node_table.layouts.messaging.mac_address.TheConstants as mac_address;
+ghost use Rattle.uefi_device_nodes.specs.declared.node_table.layouts.messaging.rest_service.TheConstants as rest_service;
+ghost use Rattle.uefi_device_nodes.specs.declared.node_table.layouts.messaging.uri.TheConstants as uri;
+ghost use Rattle.uefi_device_nodes.specs.declared.node_table.layouts.messaging.vlan.TheConstants as vlan;
 ghost use Rattle.uefi_device_nodes.specs.NodeFields.{bytes, number};
 
 use crate::field_texts::guid::Guid;
 use crate::node::DeviceSubType;
-use crate::node_table::layouts::{
-    DNS, DNS_ADDRESS, DNS_ADDRESS_TYPE, DNS_LEAST, IPV4, IPV4_GATEWAY_IP_ADDRESS,
-    IPV4_IP_ADDRESS_ORIGIN, IPV4_LEAST, IPV4_LOCAL_IP_ADDRESS, IPV4_LOCAL_PORT, IPV4_PROTOCOL,
-    IPV4_REMOTE_IP_ADDRESS, IPV4_REMOTE_PORT, IPV4_SUBNET_MASK, IPV6, IPV6_GATEWAY_IP_ADDRESS,
-    IPV6_IP_ADDRESS_ORIGIN, IPV6_LEAST, IPV6_LOCAL_IP_ADDRESS, IPV6_LOCAL_PORT, IPV6_PREFIX_LENGTH,
-    IPV6_PROTOCOL, IPV6_REMOTE_IP_ADDRESS, IPV6_REMOTE_PORT, MAC_ADDRESS,
-    MAC_ADDRESS_INTERFACE_TYPE, MAC_ADDRESS_LEAST, MAC_ADDRESS_MAC_ADDRESS, MESSAGING_TYPE,
-    REST_SERVICE, REST_SERVICE_ACCESS_MODE, REST_SERVICE_LEAST, REST_SERVICE_SERVICE_TYPE,
-    REST_SERVICE_VENDOR_DEFINED_DATA, REST_SERVICE_VENDOR_GUID, URI, URI_LEAST, URI_VALUE, VLAN,
-    VLAN_LEAST, VLAN_VLAN_ID,
+use crate::node_table::layouts::MESSAGING_TYPE;
+use crate::node_table::layouts::messaging::{
+    dns, ipv4, ipv6, mac_address, rest_service, uri, vlan,
 };
 use crate::typed_node::TypedNode;
 
 /// Sub-types of the type [`DeviceType::MESSAGING`](crate::DeviceType).
 impl DeviceSubType {
     /// A network interface.
-    pub const MESSAGING_MAC_ADDRESS: DeviceSubType = DeviceSubType(MAC_ADDRESS);
+    pub const MESSAGING_MAC_ADDRESS: DeviceSubType = DeviceSubType(mac_address::SUB_TYPE);
 
     /// A connection over IP version 4.
-    pub const MESSAGING_IPV4: DeviceSubType = DeviceSubType(IPV4);
+    pub const MESSAGING_IPV4: DeviceSubType = DeviceSubType(ipv4::SUB_TYPE);
 
     /// A connection over IP version 6.
-    pub const MESSAGING_IPV6: DeviceSubType = DeviceSubType(IPV6);
+    pub const MESSAGING_IPV6: DeviceSubType = DeviceSubType(ipv6::SUB_TYPE);
 
     /// A virtual network.
-    pub const MESSAGING_VLAN: DeviceSubType = DeviceSubType(VLAN);
+    pub const MESSAGING_VLAN: DeviceSubType = DeviceSubType(vlan::SUB_TYPE);
 
     /// A URI.
-    pub const MESSAGING_URI: DeviceSubType = DeviceSubType(URI);
+    pub const MESSAGING_URI: DeviceSubType = DeviceSubType(uri::SUB_TYPE);
 
     /// The addresses of name servers.
-    pub const MESSAGING_DNS: DeviceSubType = DeviceSubType(DNS);
+    pub const MESSAGING_DNS: DeviceSubType = DeviceSubType(dns::SUB_TYPE);
 
     /// A REST service.
-    pub const MESSAGING_REST_SERVICE: DeviceSubType = DeviceSubType(REST_SERVICE);
+    pub const MESSAGING_REST_SERVICE: DeviceSubType = DeviceSubType(rest_service::SUB_TYPE);
 }
 
 /// A network interface.
@@ -56,21 +55,26 @@ impl DeviceSubType {
 /// assert_eq!(rt; (card.mac_address()[0], card.mac_address()[5]), (0x52, 0x56));
 /// assert_eq!(rt; card.interface_type(), 1);
 /// ```
-pub type MacAddress<'a> = TypedNode<'a, MESSAGING_TYPE, MAC_ADDRESS, MAC_ADDRESS_LEAST>;
+pub type MacAddress<'a> = TypedNode<
+    'a,
+    MESSAGING_TYPE,
+    { mac_address::SUB_TYPE },
+    { mac_address::LEAST },
+>;
 
 impl<'a> MacAddress<'a> {
     /// Returns the address, padded with zeros.
     pub fn mac_address(&self) -> [u8; 32]
-        ensures { result ≡ bytes_in MAC_ADDRESS_MAC_ADDRESS (data_of self.now) }
+        ensures { result ≡ bytes_in mac_address.MAC_ADDRESS (data_of self.now) }
     {
-        self.bytes(MAC_ADDRESS_MAC_ADDRESS)
+        self.bytes(mac_address::MAC_ADDRESS)
     }
 
     /// Returns the type of the interface (RFC 3232).
     pub fn interface_type(&self) -> u8
-        ensures { result ≡ number_in MAC_ADDRESS_INTERFACE_TYPE (data_of self.now) }
+        ensures { result ≡ number_in mac_address.INTERFACE_TYPE (data_of self.now) }
     {
-        self.number(MAC_ADDRESS_INTERFACE_TYPE)
+        self.number(mac_address::INTERFACE_TYPE)
     }
 }
 
@@ -84,67 +88,67 @@ impl<'a> MacAddress<'a> {
 /// assert_eq!(rt; (ip.local_port(), ip.remote_port(), ip.protocol(), ip.ip_address_origin()), (0, 80, 6, 1));
 /// assert_eq!(rt; (ip.gateway_ip_address(), ip.subnet_mask()), (Some([10, 0, 0, 2]), Some([255, 0, 0, 0])));
 /// ```
-pub type Ipv4<'a> = TypedNode<'a, MESSAGING_TYPE, IPV4, IPV4_LEAST>;
+pub type Ipv4<'a> = TypedNode<'a, MESSAGING_TYPE, { ipv4::SUB_TYPE }, { ipv4::LEAST }>;
 
 impl<'a> Ipv4<'a> {
     /// Returns the local address.
     pub fn local_ip_address(&self) -> [u8; 4]
-        ensures { result ≡ bytes_in IPV4_LOCAL_IP_ADDRESS (data_of self.now) }
+        ensures { result ≡ bytes_in ipv4.LOCAL_IP_ADDRESS (data_of self.now) }
     {
-        self.bytes(IPV4_LOCAL_IP_ADDRESS)
+        self.bytes(ipv4::LOCAL_IP_ADDRESS)
     }
 
     /// Returns the remote address.
     pub fn remote_ip_address(&self) -> [u8; 4]
-        ensures { result ≡ bytes_in IPV4_REMOTE_IP_ADDRESS (data_of self.now) }
+        ensures { result ≡ bytes_in ipv4.REMOTE_IP_ADDRESS (data_of self.now) }
     {
-        self.bytes(IPV4_REMOTE_IP_ADDRESS)
+        self.bytes(ipv4::REMOTE_IP_ADDRESS)
     }
 
     /// Returns the local port.
     pub fn local_port(&self) -> u16
-        ensures { result ≡ number_in IPV4_LOCAL_PORT (data_of self.now) }
+        ensures { result ≡ number_in ipv4.LOCAL_PORT (data_of self.now) }
     {
-        self.number(IPV4_LOCAL_PORT)
+        self.number(ipv4::LOCAL_PORT)
     }
 
     /// Returns the remote port.
     pub fn remote_port(&self) -> u16
-        ensures { result ≡ number_in IPV4_REMOTE_PORT (data_of self.now) }
+        ensures { result ≡ number_in ipv4.REMOTE_PORT (data_of self.now) }
     {
-        self.number(IPV4_REMOTE_PORT)
+        self.number(ipv4::REMOTE_PORT)
     }
 
     /// Returns the number of the protocol over IP, such as UDP or TCP.
     pub fn protocol(&self) -> u16
-        ensures { result ≡ number_in IPV4_PROTOCOL (data_of self.now) }
+        ensures { result ≡ number_in ipv4.PROTOCOL (data_of self.now) }
     {
-        self.number(IPV4_PROTOCOL)
+        self.number(ipv4::PROTOCOL)
     }
 
     /// Returns the origin of the local address; 0 is DHCP.
     pub fn ip_address_origin(&self) -> u8
-        ensures { result ≡ number_in IPV4_IP_ADDRESS_ORIGIN (data_of self.now) }
+        ensures { result ≡ number_in ipv4.IP_ADDRESS_ORIGIN (data_of self.now) }
     {
-        self.number(IPV4_IP_ADDRESS_ORIGIN)
+        self.number(ipv4::IP_ADDRESS_ORIGIN)
     }
 
     /// Returns the address of the gateway, or `None` if the node ends before the end of this field. A node
     /// of 19 bytes, from before the standard had the field, does not contain it.
     pub fn gateway_ip_address(&self) -> Option<[u8; 4]>
-        ensures some { IsSome result ↔ (end_of IPV4_GATEWAY_IP_ADDRESS ≤ length (data_of self.now)) }
-        ensures bytes { IfSome result (λ bytes. bytes ≡ bytes_in IPV4_GATEWAY_IP_ADDRESS (data_of self.now)) }
+        ensures some { IsSome result ↔ (end_of ipv4.GATEWAY_IP_ADDRESS ≤ length (data_of self.now)) }
+        ensures bytes { IfSome result (λ bytes. bytes ≡ bytes_in ipv4.GATEWAY_IP_ADDRESS (data_of self.now)) }
     {
-        self.later_bytes(IPV4_GATEWAY_IP_ADDRESS)
+        self.later_bytes(ipv4::GATEWAY_IP_ADDRESS)
     }
 
     /// Returns the mask of the subnet, or `None` if the node ends before the end of this field, as for
     /// [`Ipv4::gateway_ip_address`].
     pub fn subnet_mask(&self) -> Option<[u8; 4]>
-        ensures some { IsSome result ↔ (end_of IPV4_SUBNET_MASK ≤ length (data_of self.now)) }
-        ensures bytes { IfSome result (λ bytes. bytes ≡ bytes_in IPV4_SUBNET_MASK (data_of self.now)) }
+        ensures some { IsSome result ↔ (end_of ipv4.SUBNET_MASK ≤ length (data_of self.now)) }
+        ensures bytes { IfSome result (λ bytes. bytes ≡ bytes_in ipv4.SUBNET_MASK (data_of self.now)) }
     {
-        self.later_bytes(IPV4_SUBNET_MASK)
+        self.later_bytes(ipv4::SUBNET_MASK)
     }
 }
 
@@ -158,63 +162,63 @@ impl<'a> Ipv4<'a> {
 /// assert_eq!(rt; (ip.local_port(), ip.remote_port(), ip.protocol(), ip.ip_address_origin()), (0, 80, 6, 2));
 /// assert_eq!(rt; (ip.prefix_length(), ip.gateway_ip_address()), (64, [0; 16]));
 /// ```
-pub type Ipv6<'a> = TypedNode<'a, MESSAGING_TYPE, IPV6, IPV6_LEAST>;
+pub type Ipv6<'a> = TypedNode<'a, MESSAGING_TYPE, { ipv6::SUB_TYPE }, { ipv6::LEAST }>;
 
 impl<'a> Ipv6<'a> {
     /// Returns the local address.
     pub fn local_ip_address(&self) -> [u8; 16]
-        ensures { result ≡ bytes_in IPV6_LOCAL_IP_ADDRESS (data_of self.now) }
+        ensures { result ≡ bytes_in ipv6.LOCAL_IP_ADDRESS (data_of self.now) }
     {
-        self.bytes(IPV6_LOCAL_IP_ADDRESS)
+        self.bytes(ipv6::LOCAL_IP_ADDRESS)
     }
 
     /// Returns the remote address.
     pub fn remote_ip_address(&self) -> [u8; 16]
-        ensures { result ≡ bytes_in IPV6_REMOTE_IP_ADDRESS (data_of self.now) }
+        ensures { result ≡ bytes_in ipv6.REMOTE_IP_ADDRESS (data_of self.now) }
     {
-        self.bytes(IPV6_REMOTE_IP_ADDRESS)
+        self.bytes(ipv6::REMOTE_IP_ADDRESS)
     }
 
     /// Returns the local port.
     pub fn local_port(&self) -> u16
-        ensures { result ≡ number_in IPV6_LOCAL_PORT (data_of self.now) }
+        ensures { result ≡ number_in ipv6.LOCAL_PORT (data_of self.now) }
     {
-        self.number(IPV6_LOCAL_PORT)
+        self.number(ipv6::LOCAL_PORT)
     }
 
     /// Returns the remote port.
     pub fn remote_port(&self) -> u16
-        ensures { result ≡ number_in IPV6_REMOTE_PORT (data_of self.now) }
+        ensures { result ≡ number_in ipv6.REMOTE_PORT (data_of self.now) }
     {
-        self.number(IPV6_REMOTE_PORT)
+        self.number(ipv6::REMOTE_PORT)
     }
 
     /// Returns the number of the protocol over IP, such as UDP or TCP.
     pub fn protocol(&self) -> u16
-        ensures { result ≡ number_in IPV6_PROTOCOL (data_of self.now) }
+        ensures { result ≡ number_in ipv6.PROTOCOL (data_of self.now) }
     {
-        self.number(IPV6_PROTOCOL)
+        self.number(ipv6::PROTOCOL)
     }
 
     /// Returns the origin of the local address: 0 is manual, 1 stateless and 2 stateful autoconfiguration.
     pub fn ip_address_origin(&self) -> u8
-        ensures { result ≡ number_in IPV6_IP_ADDRESS_ORIGIN (data_of self.now) }
+        ensures { result ≡ number_in ipv6.IP_ADDRESS_ORIGIN (data_of self.now) }
     {
-        self.number(IPV6_IP_ADDRESS_ORIGIN)
+        self.number(ipv6::IP_ADDRESS_ORIGIN)
     }
 
     /// Returns the number of bits of the prefix.
     pub fn prefix_length(&self) -> u8
-        ensures { result ≡ number_in IPV6_PREFIX_LENGTH (data_of self.now) }
+        ensures { result ≡ number_in ipv6.PREFIX_LENGTH (data_of self.now) }
     {
-        self.number(IPV6_PREFIX_LENGTH)
+        self.number(ipv6::PREFIX_LENGTH)
     }
 
     /// Returns the address of the gateway.
     pub fn gateway_ip_address(&self) -> [u8; 16]
-        ensures { result ≡ bytes_in IPV6_GATEWAY_IP_ADDRESS (data_of self.now) }
+        ensures { result ≡ bytes_in ipv6.GATEWAY_IP_ADDRESS (data_of self.now) }
     {
-        self.bytes(IPV6_GATEWAY_IP_ADDRESS)
+        self.bytes(ipv6::GATEWAY_IP_ADDRESS)
     }
 }
 
@@ -225,14 +229,14 @@ impl<'a> Ipv6<'a> {
 /// let network = messaging::Vlan::from_node(node)?;
 /// assert_eq!(rt; network.vlan_id(), 7);
 /// ```
-pub type Vlan<'a> = TypedNode<'a, MESSAGING_TYPE, VLAN, VLAN_LEAST>;
+pub type Vlan<'a> = TypedNode<'a, MESSAGING_TYPE, { vlan::SUB_TYPE }, { vlan::LEAST }>;
 
 impl<'a> Vlan<'a> {
     /// Returns the number of the network, from 0 to 4094.
     pub fn vlan_id(&self) -> u16
-        ensures { result ≡ number_in VLAN_VLAN_ID (data_of self.now) }
+        ensures { result ≡ number_in vlan.VLAN_ID (data_of self.now) }
     {
-        self.number(VLAN_VLAN_ID)
+        self.number(vlan::VLAN_ID)
     }
 }
 
@@ -243,14 +247,14 @@ impl<'a> Vlan<'a> {
 /// let uri = messaging::Uri::from_node(node)?;
 /// assert_eq!(rt; uri.value(), b"http://a/b.efi".as_slice());
 /// ```
-pub type Uri<'a> = TypedNode<'a, MESSAGING_TYPE, URI, URI_LEAST>;
+pub type Uri<'a> = TypedNode<'a, MESSAGING_TYPE, { uri::SUB_TYPE }, { uri::LEAST }>;
 
 impl<'a> Uri<'a> {
     /// Returns the bytes of the URI.
     pub fn value(&self) -> &'a [u8]
-        ensures { result.now ≡ bytes_from URI_VALUE (data_of self.now) }
+        ensures { result.now ≡ bytes_from uri.VALUE (data_of self.now) }
     {
-        self.tail(URI_VALUE)
+        self.tail(uri::VALUE)
     }
 }
 
@@ -264,31 +268,31 @@ impl<'a> Uri<'a> {
 /// assert_eq!(rt; servers.address(0).map(|it| it[0]), Some(9));
 /// assert_eq!(rt; servers.address(1), None);
 /// ```
-pub type Dns<'a> = TypedNode<'a, MESSAGING_TYPE, DNS, DNS_LEAST>;
+pub type Dns<'a> = TypedNode<'a, MESSAGING_TYPE, { dns::SUB_TYPE }, { dns::LEAST }>;
 
 impl<'a> Dns<'a> {
     /// Returns the type of the addresses: 0 is IP version 4, 1 is version 6.
     pub fn address_type(&self) -> u8
-        ensures { result ≡ number_in DNS_ADDRESS_TYPE (data_of self.now) }
+        ensures { result ≡ number_in dns.ADDRESS_TYPE (data_of self.now) }
     {
-        self.number(DNS_ADDRESS_TYPE)
+        self.number(dns::ADDRESS_TYPE)
     }
 
     /// Returns the number of addresses. Bytes after the last whole address are ignored.
     pub fn address_count(&self) -> usize
-        ensures { result ≡ length (bytes_from DNS_ADDRESS (data_of self.now)) / 16 }
+        ensures { result ≡ length (bytes_from dns.ADDRESS (data_of self.now)) / 16 }
     {
-        self.tail(DNS_ADDRESS).len() / 16
+        self.tail(dns::ADDRESS).len() / 16
     }
 
     /// Returns the bytes of the address at an index, or `None` if the index is not below the number of
     /// addresses. An IP version 4 address fills the first four.
     pub fn address(&self, index: usize) -> Option<[u8; 16]>
-        ensures some { IsSome result ↔ (index < length (bytes_from DNS_ADDRESS (data_of self.now)) / 16) }
+        ensures some { IsSome result ↔ (index < length (bytes_from dns.ADDRESS (data_of self.now)) / 16) }
         ensures bytes { IfSome result (λ bytes.
-            bytes ≡ slice_range (bytes_from DNS_ADDRESS (data_of self.now)) (16 * index) (16 * index + 16)) }
+            bytes ≡ slice_range (bytes_from dns.ADDRESS (data_of self.now)) (16 * index) (16 * index + 16)) }
     {
-        let addresses = self.tail(DNS_ADDRESS);
+        let addresses = self.tail(dns::ADDRESS);
         if addresses.len() / 16 <= index {
             return None;
         }
@@ -306,39 +310,44 @@ impl<'a> Dns<'a> {
 /// assert_eq!(rt; (service.service_type(), service.access_mode()), (0xff, 2));
 /// assert_eq!(rt; service.vendor_guid_and_data().map(|it| it.1), Some(b"data".as_slice()));
 /// ```
-pub type RestService<'a> = TypedNode<'a, MESSAGING_TYPE, REST_SERVICE, REST_SERVICE_LEAST>;
+pub type RestService<'a> = TypedNode<
+    'a,
+    MESSAGING_TYPE,
+    { rest_service::SUB_TYPE },
+    { rest_service::LEAST },
+>;
 
 impl<'a> RestService<'a> {
     /// Returns the type of the service: 1 is Redfish, 2 OData, 0xff a vendor's.
     pub fn service_type(&self) -> u8
-        ensures { result ≡ number_in REST_SERVICE_SERVICE_TYPE (data_of self.now) }
+        ensures { result ≡ number_in rest_service.SERVICE_TYPE (data_of self.now) }
     {
-        self.number(REST_SERVICE_SERVICE_TYPE)
+        self.number(rest_service::SERVICE_TYPE)
     }
 
     /// Returns the access mode: 1 is in band, 2 out of band.
     pub fn access_mode(&self) -> u8
-        ensures { result ≡ number_in REST_SERVICE_ACCESS_MODE (data_of self.now) }
+        ensures { result ≡ number_in rest_service.ACCESS_MODE (data_of self.now) }
     {
-        self.number(REST_SERVICE_ACCESS_MODE)
+        self.number(rest_service::ACCESS_MODE)
     }
 
     /// Returns the GUID of a vendor's service and the vendor's data after it, or `None` if the type of the
     /// service is not 0xff or the data ends within the GUID.
     pub fn vendor_guid_and_data(&self) -> Option<(Guid, &'a [u8])>
         ensures some { IsSome result
-            ↔ ((number_in REST_SERVICE_SERVICE_TYPE (data_of self.now) ≡ 255)
-            × (end_of REST_SERVICE_VENDOR_GUID ≤ length (data_of self.now))) }
+            ↔ ((number_in rest_service.SERVICE_TYPE (data_of self.now) ≡ 255)
+            × (end_of rest_service.VENDOR_GUID ≤ length (data_of self.now))) }
         ensures guid { IfSome result (λ vendor.
-            vendor.0 ≡ bytes_in REST_SERVICE_VENDOR_GUID (data_of self.now)) }
+            vendor.0 ≡ bytes_in rest_service.VENDOR_GUID (data_of self.now)) }
         ensures after_guid { IfSome result (λ vendor.
-            vendor.1.now ≡ bytes_from REST_SERVICE_VENDOR_DEFINED_DATA (data_of self.now)) }
+            vendor.1.now ≡ bytes_from rest_service.VENDOR_DEFINED_DATA (data_of self.now)) }
     {
         if self.service_type() != 0xff {
             return None;
         }
         let (guid, after_guid) = self
-            .tail(REST_SERVICE_VENDOR_GUID)
+            .tail(rest_service::VENDOR_GUID)
             .split_first_chunk::<16>()?;
         Some((Guid::from_bytes(*guid), after_guid))
     }
@@ -348,15 +357,8 @@ impl<'a> RestService<'a> {
 pub mod build {
     use crate::field_texts::guid::Guid;
     use crate::fields::{Fields, put, put_bytes};
-    use crate::node_table::layouts::{
-        DNS_ADDRESS_TYPE, IPV4, IPV4_GATEWAY_IP_ADDRESS, IPV4_IP_ADDRESS_ORIGIN,
-        IPV4_LOCAL_IP_ADDRESS, IPV4_LOCAL_PORT, IPV4_PROTOCOL, IPV4_REMOTE_IP_ADDRESS,
-        IPV4_REMOTE_PORT, IPV4_SUBNET_MASK, IPV4_WHOLE, IPV6_GATEWAY_IP_ADDRESS,
-        IPV6_IP_ADDRESS_ORIGIN, IPV6_LOCAL_IP_ADDRESS, IPV6_LOCAL_PORT, IPV6_PREFIX_LENGTH,
-        IPV6_PROTOCOL, IPV6_REMOTE_IP_ADDRESS, IPV6_REMOTE_PORT, MAC_ADDRESS_INTERFACE_TYPE,
-        MAC_ADDRESS_MAC_ADDRESS, MESSAGING_TYPE, REST_SERVICE_ACCESS_MODE,
-        REST_SERVICE_SERVICE_TYPE, VLAN_VLAN_ID,
-    };
+    use crate::node_table::layouts::MESSAGING_TYPE;
+    use crate::node_table::layouts::messaging::{dns, ipv4, ipv6, mac_address, rest_service, vlan};
     use crate::typed_node::TypedNode;
 
     /// A network interface.
@@ -383,14 +385,14 @@ pub mod build {
 
         type Tail = ();
 
-        ghost fields = { λ n. bytes MAC_ADDRESS_MAC_ADDRESS n.mac_address ∷
-            number MAC_ADDRESS_INTERFACE_TYPE n.interface_type ∷ [] };
+        ghost fields = { λ n. bytes mac_address.MAC_ADDRESS n.mac_address ∷
+            number mac_address.INTERFACE_TYPE n.interface_type ∷ [] };
 
         fn tail(self) {}
 
         fn put(&self, content: &mut [u8]) {
-            put_bytes(content, MAC_ADDRESS_MAC_ADDRESS, &self.mac_address);
-            put(content, MAC_ADDRESS_INTERFACE_TYPE, self.interface_type);
+            put_bytes(content, mac_address::MAC_ADDRESS, &self.mac_address);
+            put(content, mac_address::INTERFACE_TYPE, self.interface_type);
         }
     }
 
@@ -427,28 +429,28 @@ pub mod build {
 
     /// Builds the node from its fields.
     impl Fields for Ipv4 {
-        type Layout = TypedNode<'static, MESSAGING_TYPE, IPV4, IPV4_WHOLE>;
+        type Layout = TypedNode<'static, MESSAGING_TYPE, { ipv4::SUB_TYPE }, { ipv4::WHOLE }>;
 
         type Tail = ();
 
-        ghost fields = { λ n. bytes IPV4_LOCAL_IP_ADDRESS n.local_ip_address ∷
-            bytes IPV4_REMOTE_IP_ADDRESS n.remote_ip_address ∷ number IPV4_LOCAL_PORT n.local_port ∷
-            number IPV4_REMOTE_PORT n.remote_port ∷ number IPV4_PROTOCOL n.protocol ∷
-            number IPV4_IP_ADDRESS_ORIGIN n.ip_address_origin ∷
-            bytes IPV4_GATEWAY_IP_ADDRESS n.gateway_ip_address ∷ bytes IPV4_SUBNET_MASK n.subnet_mask ∷
+        ghost fields = { λ n. bytes ipv4.LOCAL_IP_ADDRESS n.local_ip_address ∷
+            bytes ipv4.REMOTE_IP_ADDRESS n.remote_ip_address ∷ number ipv4.LOCAL_PORT n.local_port ∷
+            number ipv4.REMOTE_PORT n.remote_port ∷ number ipv4.PROTOCOL n.protocol ∷
+            number ipv4.IP_ADDRESS_ORIGIN n.ip_address_origin ∷
+            bytes ipv4.GATEWAY_IP_ADDRESS n.gateway_ip_address ∷ bytes ipv4.SUBNET_MASK n.subnet_mask ∷
             [] };
 
         fn tail(self) {}
 
         fn put(&self, content: &mut [u8]) {
-            put_bytes(content, IPV4_LOCAL_IP_ADDRESS, &self.local_ip_address);
-            put_bytes(content, IPV4_REMOTE_IP_ADDRESS, &self.remote_ip_address);
-            put(content, IPV4_LOCAL_PORT, self.local_port);
-            put(content, IPV4_REMOTE_PORT, self.remote_port);
-            put(content, IPV4_PROTOCOL, self.protocol);
-            put(content, IPV4_IP_ADDRESS_ORIGIN, self.ip_address_origin);
-            put_bytes(content, IPV4_GATEWAY_IP_ADDRESS, &self.gateway_ip_address);
-            put_bytes(content, IPV4_SUBNET_MASK, &self.subnet_mask);
+            put_bytes(content, ipv4::LOCAL_IP_ADDRESS, &self.local_ip_address);
+            put_bytes(content, ipv4::REMOTE_IP_ADDRESS, &self.remote_ip_address);
+            put(content, ipv4::LOCAL_PORT, self.local_port);
+            put(content, ipv4::REMOTE_PORT, self.remote_port);
+            put(content, ipv4::PROTOCOL, self.protocol);
+            put(content, ipv4::IP_ADDRESS_ORIGIN, self.ip_address_origin);
+            put_bytes(content, ipv4::GATEWAY_IP_ADDRESS, &self.gateway_ip_address);
+            put_bytes(content, ipv4::SUBNET_MASK, &self.subnet_mask);
         }
     }
 
@@ -488,24 +490,24 @@ pub mod build {
 
         type Tail = ();
 
-        ghost fields = { λ n. bytes IPV6_LOCAL_IP_ADDRESS n.local_ip_address ∷
-            bytes IPV6_REMOTE_IP_ADDRESS n.remote_ip_address ∷ number IPV6_LOCAL_PORT n.local_port ∷
-            number IPV6_REMOTE_PORT n.remote_port ∷ number IPV6_PROTOCOL n.protocol ∷
-            number IPV6_IP_ADDRESS_ORIGIN n.ip_address_origin ∷
-            number IPV6_PREFIX_LENGTH n.prefix_length ∷
-            bytes IPV6_GATEWAY_IP_ADDRESS n.gateway_ip_address ∷ [] };
+        ghost fields = { λ n. bytes ipv6.LOCAL_IP_ADDRESS n.local_ip_address ∷
+            bytes ipv6.REMOTE_IP_ADDRESS n.remote_ip_address ∷ number ipv6.LOCAL_PORT n.local_port ∷
+            number ipv6.REMOTE_PORT n.remote_port ∷ number ipv6.PROTOCOL n.protocol ∷
+            number ipv6.IP_ADDRESS_ORIGIN n.ip_address_origin ∷
+            number ipv6.PREFIX_LENGTH n.prefix_length ∷
+            bytes ipv6.GATEWAY_IP_ADDRESS n.gateway_ip_address ∷ [] };
 
         fn tail(self) {}
 
         fn put(&self, content: &mut [u8]) {
-            put_bytes(content, IPV6_LOCAL_IP_ADDRESS, &self.local_ip_address);
-            put_bytes(content, IPV6_REMOTE_IP_ADDRESS, &self.remote_ip_address);
-            put(content, IPV6_LOCAL_PORT, self.local_port);
-            put(content, IPV6_REMOTE_PORT, self.remote_port);
-            put(content, IPV6_PROTOCOL, self.protocol);
-            put(content, IPV6_IP_ADDRESS_ORIGIN, self.ip_address_origin);
-            put(content, IPV6_PREFIX_LENGTH, self.prefix_length);
-            put_bytes(content, IPV6_GATEWAY_IP_ADDRESS, &self.gateway_ip_address);
+            put_bytes(content, ipv6::LOCAL_IP_ADDRESS, &self.local_ip_address);
+            put_bytes(content, ipv6::REMOTE_IP_ADDRESS, &self.remote_ip_address);
+            put(content, ipv6::LOCAL_PORT, self.local_port);
+            put(content, ipv6::REMOTE_PORT, self.remote_port);
+            put(content, ipv6::PROTOCOL, self.protocol);
+            put(content, ipv6::IP_ADDRESS_ORIGIN, self.ip_address_origin);
+            put(content, ipv6::PREFIX_LENGTH, self.prefix_length);
+            put_bytes(content, ipv6::GATEWAY_IP_ADDRESS, &self.gateway_ip_address);
         }
     }
 
@@ -529,12 +531,12 @@ pub mod build {
 
         type Tail = ();
 
-        ghost fields = { λ n. number VLAN_VLAN_ID n.vlan_id ∷ [] };
+        ghost fields = { λ n. number vlan.VLAN_ID n.vlan_id ∷ [] };
 
         fn tail(self) {}
 
         fn put(&self, content: &mut [u8]) {
-            put(content, VLAN_VLAN_ID, self.vlan_id);
+            put(content, vlan::VLAN_ID, self.vlan_id);
         }
     }
 
@@ -593,7 +595,7 @@ pub mod build {
 
         type Tail = &'a [u8];
 
-        ghost fields = { λ n. number DNS_ADDRESS_TYPE n.address_type ∷ [] };
+        ghost fields = { λ n. number dns.ADDRESS_TYPE n.address_type ∷ [] };
 
         ghost after = { λ n. n.addresses.now };
 
@@ -602,7 +604,7 @@ pub mod build {
         }
 
         fn put(&self, content: &mut [u8]) {
-            put(content, DNS_ADDRESS_TYPE, self.address_type);
+            put(content, dns::ADDRESS_TYPE, self.address_type);
         }
     }
 
@@ -634,8 +636,8 @@ pub mod build {
 
         type Tail = (Option<Guid>, &'a [u8]);
 
-        ghost fields = { λ n. number REST_SERVICE_SERVICE_TYPE n.service_type ∷
-            number REST_SERVICE_ACCESS_MODE n.access_mode ∷ [] };
+        ghost fields = { λ n. number rest_service.SERVICE_TYPE n.service_type ∷
+            number rest_service.ACCESS_MODE n.access_mode ∷ [] };
 
         ghost after = { λ n. unwrap_or n.vendor_guid [] ++ n.vendor_defined_data.now };
 
@@ -644,8 +646,8 @@ pub mod build {
         }
 
         fn put(&self, content: &mut [u8]) {
-            put(content, REST_SERVICE_SERVICE_TYPE, self.service_type);
-            put(content, REST_SERVICE_ACCESS_MODE, self.access_mode);
+            put(content, rest_service::SERVICE_TYPE, self.service_type);
+            put(content, rest_service::ACCESS_MODE, self.access_mode);
         }
     }
 }

@@ -5,44 +5,46 @@
 ghost use Rattle.std.specs.Prelude.{◌≡◌, ◌∷◌, []};
 ghost use Rattle.uefi_device_nodes.specs.TypedNodes.{bytes_in, number_in};
 ghost use Rattle.uefi_device_nodes.specs.NodeViews.{data_of};
-ghost use Rattle.uefi_device_nodes.specs.declared.node_table.layouts.TheConstants.{ATAPI_LOGICAL_UNIT_NUMBER, ATAPI_MASTER_SLAVE, ATAPI_PRIMARY_SECONDARY, DEVICE_LOGICAL_UNIT_LOGICAL_UNIT_NUMBER, FIBRE_CHANNEL_EX_LOGICAL_UNIT_NUMBER, FIBRE_CHANNEL_EX_WORLD_WIDE_NAME, FIBRE_CHANNEL_LOGICAL_UNIT_NUMBER, FIBRE_CHANNEL_WORLD_WIDE_NAME, SAS_EX_INFO, SAS_EX_LOGICAL_UNIT_NUMBER, SAS_EX_RELATIVE_TARGET_PORT, SAS_EX_SAS_ADDRESS, SATA_HBA_PORT_NUMBER, SATA_LOGICAL_UNIT_NUMBER, SATA_PORT_MULTIPLIER_PORT_NUMBER, SCSI_LOGICAL_UNIT_NUMBER, SCSI_TARGET_ID};
+ghost use Rattle.uefi_device_nodes.specs.declared.node_table.layouts.messaging.atapi.TheConstants as atapi;
+ghost use Rattle.uefi_device_nodes.specs.declared.node_table.layouts.messaging.device_logical_unit.TheConstants as device_logical_unit;
+ghost use Rattle.uefi_device_nodes.specs.declared.node_table.layouts.messaging.fibre_channel.TheConstants as fibre_channel;
+ghost use Rattle.uefi_device_nodes.specs.declared.node_table.layouts.messaging.fibre_channel_ex.TheConstants as fibre_channel_ex;
+ghost use Rattle.uefi_device_nodes.specs.declared.node_table.layouts.messaging.sas_ex.TheConstants as sas_ex;
+ghost use Rattle.uefi_device_nodes.specs.declared.node_table.layouts.messaging.sata.TheConstants as sata;
+ghost use Rattle.uefi_device_nodes.specs.declared.node_table.layouts.messaging.scsi.TheConstants as scsi;
 ghost use Rattle.uefi_device_nodes.specs.NodeFields.{bytes, number};
 
 use crate::node::DeviceSubType;
-use crate::node_table::layouts::{
-    ATAPI, ATAPI_LEAST, ATAPI_LOGICAL_UNIT_NUMBER, ATAPI_MASTER_SLAVE, ATAPI_PRIMARY_SECONDARY,
-    DEVICE_LOGICAL_UNIT, DEVICE_LOGICAL_UNIT_LEAST, DEVICE_LOGICAL_UNIT_LOGICAL_UNIT_NUMBER,
-    FIBRE_CHANNEL, FIBRE_CHANNEL_EX, FIBRE_CHANNEL_EX_LEAST, FIBRE_CHANNEL_EX_LOGICAL_UNIT_NUMBER,
-    FIBRE_CHANNEL_EX_WORLD_WIDE_NAME, FIBRE_CHANNEL_LEAST, FIBRE_CHANNEL_LOGICAL_UNIT_NUMBER,
-    FIBRE_CHANNEL_WORLD_WIDE_NAME, MESSAGING_TYPE, SAS_EX, SAS_EX_INFO, SAS_EX_LEAST,
-    SAS_EX_LOGICAL_UNIT_NUMBER, SAS_EX_RELATIVE_TARGET_PORT, SAS_EX_SAS_ADDRESS, SATA,
-    SATA_HBA_PORT_NUMBER, SATA_LEAST, SATA_LOGICAL_UNIT_NUMBER, SATA_PORT_MULTIPLIER_PORT_NUMBER,
-    SCSI, SCSI_LEAST, SCSI_LOGICAL_UNIT_NUMBER, SCSI_TARGET_ID,
+use crate::node_table::layouts::MESSAGING_TYPE;
+use crate::node_table::layouts::messaging::{
+    atapi, device_logical_unit, fibre_channel, fibre_channel_ex, sas_ex, sata, scsi,
 };
 use crate::typed_node::TypedNode;
 
 /// Sub-types of the type [`DeviceType::MESSAGING`](crate::DeviceType).
 impl DeviceSubType {
     /// An ATAPI drive.
-    pub const MESSAGING_ATAPI: DeviceSubType = DeviceSubType(ATAPI);
+    pub const MESSAGING_ATAPI: DeviceSubType = DeviceSubType(atapi::SUB_TYPE);
 
     /// A SCSI device.
-    pub const MESSAGING_SCSI: DeviceSubType = DeviceSubType(SCSI);
+    pub const MESSAGING_SCSI: DeviceSubType = DeviceSubType(scsi::SUB_TYPE);
 
     /// A device on Fibre Channel.
-    pub const MESSAGING_FIBRE_CHANNEL: DeviceSubType = DeviceSubType(FIBRE_CHANNEL);
+    pub const MESSAGING_FIBRE_CHANNEL: DeviceSubType = DeviceSubType(fibre_channel::SUB_TYPE);
 
     /// A logical unit.
-    pub const MESSAGING_DEVICE_LOGICAL_UNIT: DeviceSubType = DeviceSubType(DEVICE_LOGICAL_UNIT);
+    pub const MESSAGING_DEVICE_LOGICAL_UNIT: DeviceSubType = DeviceSubType(
+        device_logical_unit::SUB_TYPE,
+    );
 
     /// A device on SATA.
-    pub const MESSAGING_SATA: DeviceSubType = DeviceSubType(SATA);
+    pub const MESSAGING_SATA: DeviceSubType = DeviceSubType(sata::SUB_TYPE);
 
     /// A device on Fibre Channel, with its numbers as bytes in the order of the bus.
-    pub const MESSAGING_FIBRE_CHANNEL_EX: DeviceSubType = DeviceSubType(FIBRE_CHANNEL_EX);
+    pub const MESSAGING_FIBRE_CHANNEL_EX: DeviceSubType = DeviceSubType(fibre_channel_ex::SUB_TYPE);
 
     /// A device on SAS.
-    pub const MESSAGING_SCSI_SAS_EX: DeviceSubType = DeviceSubType(SAS_EX);
+    pub const MESSAGING_SCSI_SAS_EX: DeviceSubType = DeviceSubType(sas_ex::SUB_TYPE);
 }
 
 /// A drive on an ATA bus.
@@ -53,28 +55,28 @@ impl DeviceSubType {
 /// assert_eq!(rt; (drive.primary_secondary(), drive.master_slave()), (0, 1));
 /// assert_eq!(rt; drive.logical_unit_number(), 2);
 /// ```
-pub type Atapi<'a> = TypedNode<'a, MESSAGING_TYPE, ATAPI, ATAPI_LEAST>;
+pub type Atapi<'a> = TypedNode<'a, MESSAGING_TYPE, { atapi::SUB_TYPE }, { atapi::LEAST }>;
 
 impl<'a> Atapi<'a> {
     /// Returns the bus: 0 is primary, 1 secondary.
     pub fn primary_secondary(&self) -> u8
-        ensures { result ≡ number_in ATAPI_PRIMARY_SECONDARY (data_of self.now) }
+        ensures { result ≡ number_in atapi.PRIMARY_SECONDARY (data_of self.now) }
     {
-        self.number(ATAPI_PRIMARY_SECONDARY)
+        self.number(atapi::PRIMARY_SECONDARY)
     }
 
     /// Returns the drive on the bus: 0 is master, 1 slave.
     pub fn master_slave(&self) -> u8
-        ensures { result ≡ number_in ATAPI_MASTER_SLAVE (data_of self.now) }
+        ensures { result ≡ number_in atapi.MASTER_SLAVE (data_of self.now) }
     {
-        self.number(ATAPI_MASTER_SLAVE)
+        self.number(atapi::MASTER_SLAVE)
     }
 
     /// Returns the logical unit number.
     pub fn logical_unit_number(&self) -> u16
-        ensures { result ≡ number_in ATAPI_LOGICAL_UNIT_NUMBER (data_of self.now) }
+        ensures { result ≡ number_in atapi.LOGICAL_UNIT_NUMBER (data_of self.now) }
     {
-        self.number(ATAPI_LOGICAL_UNIT_NUMBER)
+        self.number(atapi::LOGICAL_UNIT_NUMBER)
     }
 }
 
@@ -85,21 +87,21 @@ impl<'a> Atapi<'a> {
 /// let disk = messaging::Scsi::from_node(node)?;
 /// assert_eq!(rt; (disk.target_id(), disk.logical_unit_number()), (3, 1));
 /// ```
-pub type Scsi<'a> = TypedNode<'a, MESSAGING_TYPE, SCSI, SCSI_LEAST>;
+pub type Scsi<'a> = TypedNode<'a, MESSAGING_TYPE, { scsi::SUB_TYPE }, { scsi::LEAST }>;
 
 impl<'a> Scsi<'a> {
     /// Returns the number of the target on its bus.
     pub fn target_id(&self) -> u16
-        ensures { result ≡ number_in SCSI_TARGET_ID (data_of self.now) }
+        ensures { result ≡ number_in scsi.TARGET_ID (data_of self.now) }
     {
-        self.number(SCSI_TARGET_ID)
+        self.number(scsi::TARGET_ID)
     }
 
     /// Returns the logical unit number.
     pub fn logical_unit_number(&self) -> u16
-        ensures { result ≡ number_in SCSI_LOGICAL_UNIT_NUMBER (data_of self.now) }
+        ensures { result ≡ number_in scsi.LOGICAL_UNIT_NUMBER (data_of self.now) }
     {
-        self.number(SCSI_LOGICAL_UNIT_NUMBER)
+        self.number(scsi::LOGICAL_UNIT_NUMBER)
     }
 }
 
@@ -112,21 +114,26 @@ impl<'a> Scsi<'a> {
 /// assert_eq!(rt; disk.world_wide_name(), 0x2100_0024_ff00_0001);
 /// assert_eq!(rt; disk.logical_unit_number(), 1);
 /// ```
-pub type FibreChannel<'a> = TypedNode<'a, MESSAGING_TYPE, FIBRE_CHANNEL, FIBRE_CHANNEL_LEAST>;
+pub type FibreChannel<'a> = TypedNode<
+    'a,
+    MESSAGING_TYPE,
+    { fibre_channel::SUB_TYPE },
+    { fibre_channel::LEAST },
+>;
 
 impl<'a> FibreChannel<'a> {
     /// Returns the world wide name.
     pub fn world_wide_name(&self) -> u64
-        ensures { result ≡ number_in FIBRE_CHANNEL_WORLD_WIDE_NAME (data_of self.now) }
+        ensures { result ≡ number_in fibre_channel.WORLD_WIDE_NAME (data_of self.now) }
     {
-        self.number(FIBRE_CHANNEL_WORLD_WIDE_NAME)
+        self.number(fibre_channel::WORLD_WIDE_NAME)
     }
 
     /// Returns the logical unit number.
     pub fn logical_unit_number(&self) -> u64
-        ensures { result ≡ number_in FIBRE_CHANNEL_LOGICAL_UNIT_NUMBER (data_of self.now) }
+        ensures { result ≡ number_in fibre_channel.LOGICAL_UNIT_NUMBER (data_of self.now) }
     {
-        self.number(FIBRE_CHANNEL_LOGICAL_UNIT_NUMBER)
+        self.number(fibre_channel::LOGICAL_UNIT_NUMBER)
     }
 }
 
@@ -141,23 +148,23 @@ impl<'a> FibreChannel<'a> {
 pub type FibreChannelEx<'a> = TypedNode<
     'a,
     MESSAGING_TYPE,
-    FIBRE_CHANNEL_EX,
-    FIBRE_CHANNEL_EX_LEAST,
+    { fibre_channel_ex::SUB_TYPE },
+    { fibre_channel_ex::LEAST },
 >;
 
 impl<'a> FibreChannelEx<'a> {
     /// Returns the bytes of the world wide name.
     pub fn world_wide_name(&self) -> [u8; 8]
-        ensures { result ≡ bytes_in FIBRE_CHANNEL_EX_WORLD_WIDE_NAME (data_of self.now) }
+        ensures { result ≡ bytes_in fibre_channel_ex.WORLD_WIDE_NAME (data_of self.now) }
     {
-        self.bytes(FIBRE_CHANNEL_EX_WORLD_WIDE_NAME)
+        self.bytes(fibre_channel_ex::WORLD_WIDE_NAME)
     }
 
     /// Returns the bytes of the logical unit number.
     pub fn logical_unit_number(&self) -> [u8; 8]
-        ensures { result ≡ bytes_in FIBRE_CHANNEL_EX_LOGICAL_UNIT_NUMBER (data_of self.now) }
+        ensures { result ≡ bytes_in fibre_channel_ex.LOGICAL_UNIT_NUMBER (data_of self.now) }
     {
-        self.bytes(FIBRE_CHANNEL_EX_LOGICAL_UNIT_NUMBER)
+        self.bytes(fibre_channel_ex::LOGICAL_UNIT_NUMBER)
     }
 }
 
@@ -171,16 +178,16 @@ impl<'a> FibreChannelEx<'a> {
 pub type DeviceLogicalUnit<'a> = TypedNode<
     'a,
     MESSAGING_TYPE,
-    DEVICE_LOGICAL_UNIT,
-    DEVICE_LOGICAL_UNIT_LEAST,
+    { device_logical_unit::SUB_TYPE },
+    { device_logical_unit::LEAST },
 >;
 
 impl<'a> DeviceLogicalUnit<'a> {
     /// Returns the logical unit number.
     pub fn logical_unit_number(&self) -> u8
-        ensures { result ≡ number_in DEVICE_LOGICAL_UNIT_LOGICAL_UNIT_NUMBER (data_of self.now) }
+        ensures { result ≡ number_in device_logical_unit.LOGICAL_UNIT_NUMBER (data_of self.now) }
     {
-        self.number(DEVICE_LOGICAL_UNIT_LOGICAL_UNIT_NUMBER)
+        self.number(device_logical_unit::LOGICAL_UNIT_NUMBER)
     }
 }
 
@@ -193,28 +200,28 @@ impl<'a> DeviceLogicalUnit<'a> {
 /// assert_eq!(rt; disk.port_multiplier_port_number(), 0xffff);
 /// assert_eq!(rt; disk.logical_unit_number(), 0);
 /// ```
-pub type Sata<'a> = TypedNode<'a, MESSAGING_TYPE, SATA, SATA_LEAST>;
+pub type Sata<'a> = TypedNode<'a, MESSAGING_TYPE, { sata::SUB_TYPE }, { sata::LEAST }>;
 
 impl<'a> Sata<'a> {
     /// Returns the number of the port of the host bus adapter.
     pub fn hba_port_number(&self) -> u16
-        ensures { result ≡ number_in SATA_HBA_PORT_NUMBER (data_of self.now) }
+        ensures { result ≡ number_in sata.HBA_PORT_NUMBER (data_of self.now) }
     {
-        self.number(SATA_HBA_PORT_NUMBER)
+        self.number(sata::HBA_PORT_NUMBER)
     }
 
     /// Returns the port number of the port multiplier, or 0xffff if there is none.
     pub fn port_multiplier_port_number(&self) -> u16
-        ensures { result ≡ number_in SATA_PORT_MULTIPLIER_PORT_NUMBER (data_of self.now) }
+        ensures { result ≡ number_in sata.PORT_MULTIPLIER_PORT_NUMBER (data_of self.now) }
     {
-        self.number(SATA_PORT_MULTIPLIER_PORT_NUMBER)
+        self.number(sata::PORT_MULTIPLIER_PORT_NUMBER)
     }
 
     /// Returns the logical unit number.
     pub fn logical_unit_number(&self) -> u16
-        ensures { result ≡ number_in SATA_LOGICAL_UNIT_NUMBER (data_of self.now) }
+        ensures { result ≡ number_in sata.LOGICAL_UNIT_NUMBER (data_of self.now) }
     {
-        self.number(SATA_LOGICAL_UNIT_NUMBER)
+        self.number(sata::LOGICAL_UNIT_NUMBER)
     }
 }
 
@@ -227,49 +234,43 @@ impl<'a> Sata<'a> {
 /// assert_eq!(rt; (disk.sas_address(), disk.logical_unit_number()), (*b"address!", [0; 8]));
 /// assert_eq!(rt; (disk.info(), disk.relative_target_port()), (0, 2));
 /// ```
-pub type SasEx<'a> = TypedNode<'a, MESSAGING_TYPE, SAS_EX, SAS_EX_LEAST>;
+pub type SasEx<'a> = TypedNode<'a, MESSAGING_TYPE, { sas_ex::SUB_TYPE }, { sas_ex::LEAST }>;
 
 impl<'a> SasEx<'a> {
     /// Returns the bytes of the SAS address.
     pub fn sas_address(&self) -> [u8; 8]
-        ensures { result ≡ bytes_in SAS_EX_SAS_ADDRESS (data_of self.now) }
+        ensures { result ≡ bytes_in sas_ex.SAS_ADDRESS (data_of self.now) }
     {
-        self.bytes(SAS_EX_SAS_ADDRESS)
+        self.bytes(sas_ex::SAS_ADDRESS)
     }
 
     /// Returns the bytes of the logical unit number.
     pub fn logical_unit_number(&self) -> [u8; 8]
-        ensures { result ≡ bytes_in SAS_EX_LOGICAL_UNIT_NUMBER (data_of self.now) }
+        ensures { result ≡ bytes_in sas_ex.LOGICAL_UNIT_NUMBER (data_of self.now) }
     {
-        self.bytes(SAS_EX_LOGICAL_UNIT_NUMBER)
+        self.bytes(sas_ex::LOGICAL_UNIT_NUMBER)
     }
 
     /// Returns information about the device and its topology.
     pub fn info(&self) -> u16
-        ensures { result ≡ number_in SAS_EX_INFO (data_of self.now) }
+        ensures { result ≡ number_in sas_ex.INFO (data_of self.now) }
     {
-        self.number(SAS_EX_INFO)
+        self.number(sas_ex::INFO)
     }
 
     /// Returns the relative target port.
     pub fn relative_target_port(&self) -> u16
-        ensures { result ≡ number_in SAS_EX_RELATIVE_TARGET_PORT (data_of self.now) }
+        ensures { result ≡ number_in sas_ex.RELATIVE_TARGET_PORT (data_of self.now) }
     {
-        self.number(SAS_EX_RELATIVE_TARGET_PORT)
+        self.number(sas_ex::RELATIVE_TARGET_PORT)
     }
 }
 
 /// The structs from which these nodes are built.
 pub mod build {
     use crate::fields::{Fields, put, put_bytes};
-    use crate::node_table::layouts::{
-        ATAPI_LOGICAL_UNIT_NUMBER, ATAPI_MASTER_SLAVE, ATAPI_PRIMARY_SECONDARY,
-        DEVICE_LOGICAL_UNIT_LOGICAL_UNIT_NUMBER, FIBRE_CHANNEL_EX_LOGICAL_UNIT_NUMBER,
-        FIBRE_CHANNEL_EX_WORLD_WIDE_NAME, FIBRE_CHANNEL_LOGICAL_UNIT_NUMBER,
-        FIBRE_CHANNEL_WORLD_WIDE_NAME, SAS_EX_INFO, SAS_EX_LOGICAL_UNIT_NUMBER,
-        SAS_EX_RELATIVE_TARGET_PORT, SAS_EX_SAS_ADDRESS, SATA_HBA_PORT_NUMBER,
-        SATA_LOGICAL_UNIT_NUMBER, SATA_PORT_MULTIPLIER_PORT_NUMBER, SCSI_LOGICAL_UNIT_NUMBER,
-        SCSI_TARGET_ID,
+    use crate::node_table::layouts::messaging::{
+        atapi, device_logical_unit, fibre_channel, fibre_channel_ex, sas_ex, sata, scsi,
     };
 
     /// A drive on an ATA bus.
@@ -298,16 +299,20 @@ pub mod build {
 
         type Tail = ();
 
-        ghost fields = { λ n. number ATAPI_PRIMARY_SECONDARY n.primary_secondary ∷
-            number ATAPI_MASTER_SLAVE n.master_slave ∷
-            number ATAPI_LOGICAL_UNIT_NUMBER n.logical_unit_number ∷ [] };
+        ghost fields = { λ n. number atapi.PRIMARY_SECONDARY n.primary_secondary ∷
+            number atapi.MASTER_SLAVE n.master_slave ∷
+            number atapi.LOGICAL_UNIT_NUMBER n.logical_unit_number ∷ [] };
 
         fn tail(self) {}
 
         fn put(&self, content: &mut [u8]) {
-            put(content, ATAPI_PRIMARY_SECONDARY, self.primary_secondary);
-            put(content, ATAPI_MASTER_SLAVE, self.master_slave);
-            put(content, ATAPI_LOGICAL_UNIT_NUMBER, self.logical_unit_number);
+            put(content, atapi::PRIMARY_SECONDARY, self.primary_secondary);
+            put(content, atapi::MASTER_SLAVE, self.master_slave);
+            put(
+                content,
+                atapi::LOGICAL_UNIT_NUMBER,
+                self.logical_unit_number,
+            );
         }
     }
 
@@ -333,14 +338,14 @@ pub mod build {
 
         type Tail = ();
 
-        ghost fields = { λ n. number SCSI_TARGET_ID n.target_id ∷
-            number SCSI_LOGICAL_UNIT_NUMBER n.logical_unit_number ∷ [] };
+        ghost fields = { λ n. number scsi.TARGET_ID n.target_id ∷
+            number scsi.LOGICAL_UNIT_NUMBER n.logical_unit_number ∷ [] };
 
         fn tail(self) {}
 
         fn put(&self, content: &mut [u8]) {
-            put(content, SCSI_TARGET_ID, self.target_id);
-            put(content, SCSI_LOGICAL_UNIT_NUMBER, self.logical_unit_number);
+            put(content, scsi::TARGET_ID, self.target_id);
+            put(content, scsi::LOGICAL_UNIT_NUMBER, self.logical_unit_number);
         }
     }
 
@@ -368,16 +373,20 @@ pub mod build {
 
         type Tail = ();
 
-        ghost fields = { λ n. number FIBRE_CHANNEL_WORLD_WIDE_NAME n.world_wide_name ∷
-            number FIBRE_CHANNEL_LOGICAL_UNIT_NUMBER n.logical_unit_number ∷ [] };
+        ghost fields = { λ n. number fibre_channel.WORLD_WIDE_NAME n.world_wide_name ∷
+            number fibre_channel.LOGICAL_UNIT_NUMBER n.logical_unit_number ∷ [] };
 
         fn tail(self) {}
 
         fn put(&self, content: &mut [u8]) {
-            put(content, FIBRE_CHANNEL_WORLD_WIDE_NAME, self.world_wide_name);
             put(
                 content,
-                FIBRE_CHANNEL_LOGICAL_UNIT_NUMBER,
+                fibre_channel::WORLD_WIDE_NAME,
+                self.world_wide_name,
+            );
+            put(
+                content,
+                fibre_channel::LOGICAL_UNIT_NUMBER,
                 self.logical_unit_number,
             );
         }
@@ -407,20 +416,20 @@ pub mod build {
 
         type Tail = ();
 
-        ghost fields = { λ n. bytes FIBRE_CHANNEL_EX_WORLD_WIDE_NAME n.world_wide_name ∷
-            bytes FIBRE_CHANNEL_EX_LOGICAL_UNIT_NUMBER n.logical_unit_number ∷ [] };
+        ghost fields = { λ n. bytes fibre_channel_ex.WORLD_WIDE_NAME n.world_wide_name ∷
+            bytes fibre_channel_ex.LOGICAL_UNIT_NUMBER n.logical_unit_number ∷ [] };
 
         fn tail(self) {}
 
         fn put(&self, content: &mut [u8]) {
             put_bytes(
                 content,
-                FIBRE_CHANNEL_EX_WORLD_WIDE_NAME,
+                fibre_channel_ex::WORLD_WIDE_NAME,
                 &self.world_wide_name,
             );
             put_bytes(
                 content,
-                FIBRE_CHANNEL_EX_LOGICAL_UNIT_NUMBER,
+                fibre_channel_ex::LOGICAL_UNIT_NUMBER,
                 &self.logical_unit_number,
             );
         }
@@ -446,7 +455,7 @@ pub mod build {
 
         type Tail = ();
 
-        ghost fields = { λ n. number DEVICE_LOGICAL_UNIT_LOGICAL_UNIT_NUMBER n.logical_unit_number ∷
+        ghost fields = { λ n. number device_logical_unit.LOGICAL_UNIT_NUMBER n.logical_unit_number ∷
             [] };
 
         fn tail(self) {}
@@ -454,7 +463,7 @@ pub mod build {
         fn put(&self, content: &mut [u8]) {
             put(
                 content,
-                DEVICE_LOGICAL_UNIT_LOGICAL_UNIT_NUMBER,
+                device_logical_unit::LOGICAL_UNIT_NUMBER,
                 self.logical_unit_number,
             );
         }
@@ -486,20 +495,20 @@ pub mod build {
 
         type Tail = ();
 
-        ghost fields = { λ n. number SATA_HBA_PORT_NUMBER n.hba_port_number ∷
-            number SATA_PORT_MULTIPLIER_PORT_NUMBER n.port_multiplier_port_number ∷
-            number SATA_LOGICAL_UNIT_NUMBER n.logical_unit_number ∷ [] };
+        ghost fields = { λ n. number sata.HBA_PORT_NUMBER n.hba_port_number ∷
+            number sata.PORT_MULTIPLIER_PORT_NUMBER n.port_multiplier_port_number ∷
+            number sata.LOGICAL_UNIT_NUMBER n.logical_unit_number ∷ [] };
 
         fn tail(self) {}
 
         fn put(&self, content: &mut [u8]) {
-            put(content, SATA_HBA_PORT_NUMBER, self.hba_port_number);
+            put(content, sata::HBA_PORT_NUMBER, self.hba_port_number);
             put(
                 content,
-                SATA_PORT_MULTIPLIER_PORT_NUMBER,
+                sata::PORT_MULTIPLIER_PORT_NUMBER,
                 self.port_multiplier_port_number,
             );
-            put(content, SATA_LOGICAL_UNIT_NUMBER, self.logical_unit_number);
+            put(content, sata::LOGICAL_UNIT_NUMBER, self.logical_unit_number);
         }
     }
 
@@ -531,23 +540,23 @@ pub mod build {
 
         type Tail = ();
 
-        ghost fields = { λ n. bytes SAS_EX_SAS_ADDRESS n.sas_address ∷
-            bytes SAS_EX_LOGICAL_UNIT_NUMBER n.logical_unit_number ∷ number SAS_EX_INFO n.info ∷
-            number SAS_EX_RELATIVE_TARGET_PORT n.relative_target_port ∷ [] };
+        ghost fields = { λ n. bytes sas_ex.SAS_ADDRESS n.sas_address ∷
+            bytes sas_ex.LOGICAL_UNIT_NUMBER n.logical_unit_number ∷ number sas_ex.INFO n.info ∷
+            number sas_ex.RELATIVE_TARGET_PORT n.relative_target_port ∷ [] };
 
         fn tail(self) {}
 
         fn put(&self, content: &mut [u8]) {
-            put_bytes(content, SAS_EX_SAS_ADDRESS, &self.sas_address);
+            put_bytes(content, sas_ex::SAS_ADDRESS, &self.sas_address);
             put_bytes(
                 content,
-                SAS_EX_LOGICAL_UNIT_NUMBER,
+                sas_ex::LOGICAL_UNIT_NUMBER,
                 &self.logical_unit_number,
             );
-            put(content, SAS_EX_INFO, self.info);
+            put(content, sas_ex::INFO, self.info);
             put(
                 content,
-                SAS_EX_RELATIVE_TARGET_PORT,
+                sas_ex::RELATIVE_TARGET_PORT,
                 self.relative_target_port,
             );
         }

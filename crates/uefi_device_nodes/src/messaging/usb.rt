@@ -7,29 +7,27 @@ ghost use Rattle.uefi_device_nodes.specs.TypedNodes.{bytes_from, number_in};
 ghost use Rattle.uefi_text.specs.UnitBytes.{units_of_bytes, unit_bytes};
 ghost use Rattle.uefi_text.specs.Views.{items_of};
 ghost use Rattle.uefi_device_nodes.specs.NodeViews.{data_of};
-ghost use Rattle.uefi_device_nodes.specs.declared.node_table.layouts.TheConstants.{USB_CLASS_DEVICE_CLASS, USB_CLASS_DEVICE_PROTOCOL, USB_CLASS_DEVICE_SUBCLASS, USB_CLASS_PRODUCT_ID, USB_CLASS_VENDOR_ID, USB_INTERFACE, USB_PARENT_PORT_NUMBER, USB_WWID_DEVICE_PRODUCT_ID, USB_WWID_DEVICE_VENDOR_ID, USB_WWID_INTERFACE_NUMBER};
+ghost use Rattle.uefi_device_nodes.specs.declared.node_table.layouts.messaging.usb.TheConstants as usb;
+ghost use Rattle.uefi_device_nodes.specs.declared.node_table.layouts.messaging.usb_class.TheConstants as usb_class;
+ghost use Rattle.uefi_device_nodes.specs.declared.node_table.layouts.messaging.usb_wwid.TheConstants as usb_wwid;
 ghost use Rattle.uefi_device_nodes.specs.NodeFields.{number};
 
 use crate::node::DeviceSubType;
-use crate::node_table::layouts::{
-    MESSAGING_TYPE, USB, USB_CLASS, USB_CLASS_DEVICE_CLASS, USB_CLASS_DEVICE_PROTOCOL,
-    USB_CLASS_DEVICE_SUBCLASS, USB_CLASS_LEAST, USB_CLASS_PRODUCT_ID, USB_CLASS_VENDOR_ID,
-    USB_INTERFACE, USB_LEAST, USB_PARENT_PORT_NUMBER, USB_WWID, USB_WWID_DEVICE_PRODUCT_ID,
-    USB_WWID_DEVICE_VENDOR_ID, USB_WWID_INTERFACE_NUMBER, USB_WWID_LEAST, USB_WWID_SERIAL_NUMBER,
-};
+use crate::node_table::layouts::MESSAGING_TYPE;
+use crate::node_table::layouts::messaging::{usb, usb_class, usb_wwid};
 use crate::typed_node::TypedNode;
 use uefi_text::UnalignedSlice;
 
 /// Sub-types of the type [`DeviceType::MESSAGING`](crate::DeviceType).
 impl DeviceSubType {
     /// A device on a USB bus.
-    pub const MESSAGING_USB: DeviceSubType = DeviceSubType(USB);
+    pub const MESSAGING_USB: DeviceSubType = DeviceSubType(usb::SUB_TYPE);
 
     /// A class of USB devices.
-    pub const MESSAGING_USB_CLASS: DeviceSubType = DeviceSubType(USB_CLASS);
+    pub const MESSAGING_USB_CLASS: DeviceSubType = DeviceSubType(usb_class::SUB_TYPE);
 
     /// A USB device, identified by its serial number.
-    pub const MESSAGING_USB_WWID: DeviceSubType = DeviceSubType(USB_WWID);
+    pub const MESSAGING_USB_WWID: DeviceSubType = DeviceSubType(usb_wwid::SUB_TYPE);
 }
 
 /// A device on a USB bus.
@@ -39,21 +37,21 @@ impl DeviceSubType {
 /// let device = messaging::Usb::from_node(node)?;
 /// assert_eq!(rt; (device.parent_port_number(), device.interface()), (3, 1));
 /// ```
-pub type Usb<'a> = TypedNode<'a, MESSAGING_TYPE, USB, USB_LEAST>;
+pub type Usb<'a> = TypedNode<'a, MESSAGING_TYPE, { usb::SUB_TYPE }, { usb::LEAST }>;
 
 impl<'a> Usb<'a> {
     /// Returns the number of the port on its hub.
     pub fn parent_port_number(&self) -> u8
-        ensures { result ≡ number_in USB_PARENT_PORT_NUMBER (data_of self.now) }
+        ensures { result ≡ number_in usb.PARENT_PORT_NUMBER (data_of self.now) }
     {
-        self.number(USB_PARENT_PORT_NUMBER)
+        self.number(usb::PARENT_PORT_NUMBER)
     }
 
     /// Returns the number of its interface.
     pub fn interface(&self) -> u8
-        ensures { result ≡ number_in USB_INTERFACE (data_of self.now) }
+        ensures { result ≡ number_in usb.INTERFACE (data_of self.now) }
     {
-        self.number(USB_INTERFACE)
+        self.number(usb::INTERFACE)
     }
 }
 
@@ -66,39 +64,39 @@ impl<'a> Usb<'a> {
 /// assert_eq!(rt; (device.device_vendor_id(), device.device_product_id()), (0x46d, 0x825));
 /// assert_eq!(rt; device.serial_number().map(|it| it.len()), Some(2));
 /// ```
-pub type UsbWwid<'a> = TypedNode<'a, MESSAGING_TYPE, USB_WWID, USB_WWID_LEAST>;
+pub type UsbWwid<'a> = TypedNode<'a, MESSAGING_TYPE, { usb_wwid::SUB_TYPE }, { usb_wwid::LEAST }>;
 
 impl<'a> UsbWwid<'a> {
     /// Returns the number of its interface.
     pub fn interface_number(&self) -> u16
-        ensures { result ≡ number_in USB_WWID_INTERFACE_NUMBER (data_of self.now) }
+        ensures { result ≡ number_in usb_wwid.INTERFACE_NUMBER (data_of self.now) }
     {
-        self.number(USB_WWID_INTERFACE_NUMBER)
+        self.number(usb_wwid::INTERFACE_NUMBER)
     }
 
     /// Returns the ID of its vendor.
     pub fn device_vendor_id(&self) -> u16
-        ensures { result ≡ number_in USB_WWID_DEVICE_VENDOR_ID (data_of self.now) }
+        ensures { result ≡ number_in usb_wwid.DEVICE_VENDOR_ID (data_of self.now) }
     {
-        self.number(USB_WWID_DEVICE_VENDOR_ID)
+        self.number(usb_wwid::DEVICE_VENDOR_ID)
     }
 
     /// Returns the ID of the product.
     pub fn device_product_id(&self) -> u16
-        ensures { result ≡ number_in USB_WWID_DEVICE_PRODUCT_ID (data_of self.now) }
+        ensures { result ≡ number_in usb_wwid.DEVICE_PRODUCT_ID (data_of self.now) }
     {
-        self.number(USB_WWID_DEVICE_PRODUCT_ID)
+        self.number(usb_wwid::DEVICE_PRODUCT_ID)
     }
 
     /// Returns the code units of the last 64 or fewer characters of the serial number, without a NUL, or
     /// `None` if their number of bytes is odd.
     pub fn serial_number(&self) -> Option<UnalignedSlice<'a, u16>>
         ensures some { IsSome result
-            ↔ (length (bytes_from USB_WWID_SERIAL_NUMBER (data_of self.now)) % 2 ≡ 0) }
+            ↔ (length (bytes_from usb_wwid.SERIAL_NUMBER (data_of self.now)) % 2 ≡ 0) }
         ensures units { IfSome result (λ units.
-            items_of units ≡ units_of_bytes (bytes_from USB_WWID_SERIAL_NUMBER (data_of self.now))) }
+            items_of units ≡ units_of_bytes (bytes_from usb_wwid.SERIAL_NUMBER (data_of self.now))) }
     {
-        UnalignedSlice::from_unit_bytes(self.tail(USB_WWID_SERIAL_NUMBER))
+        UnalignedSlice::from_unit_bytes(self.tail(usb_wwid::SERIAL_NUMBER))
     }
 }
 
@@ -111,53 +109,54 @@ impl<'a> UsbWwid<'a> {
 /// assert_eq!(rt; (class.device_class(), class.device_subclass()), (3, 1));
 /// assert_eq!(rt; class.device_protocol(), 2);
 /// ```
-pub type UsbClass<'a> = TypedNode<'a, MESSAGING_TYPE, USB_CLASS, USB_CLASS_LEAST>;
+pub type UsbClass<'a> = TypedNode<
+    'a,
+    MESSAGING_TYPE,
+    { usb_class::SUB_TYPE },
+    { usb_class::LEAST },
+>;
 
 impl<'a> UsbClass<'a> {
     /// Returns the ID of the vendor; 0xffff is any.
     pub fn vendor_id(&self) -> u16
-        ensures { result ≡ number_in USB_CLASS_VENDOR_ID (data_of self.now) }
+        ensures { result ≡ number_in usb_class.VENDOR_ID (data_of self.now) }
     {
-        self.number(USB_CLASS_VENDOR_ID)
+        self.number(usb_class::VENDOR_ID)
     }
 
     /// Returns the ID of the product; 0xffff is any.
     pub fn product_id(&self) -> u16
-        ensures { result ≡ number_in USB_CLASS_PRODUCT_ID (data_of self.now) }
+        ensures { result ≡ number_in usb_class.PRODUCT_ID (data_of self.now) }
     {
-        self.number(USB_CLASS_PRODUCT_ID)
+        self.number(usb_class::PRODUCT_ID)
     }
 
     /// Returns the class; 0xff is any.
     pub fn device_class(&self) -> u8
-        ensures { result ≡ number_in USB_CLASS_DEVICE_CLASS (data_of self.now) }
+        ensures { result ≡ number_in usb_class.DEVICE_CLASS (data_of self.now) }
     {
-        self.number(USB_CLASS_DEVICE_CLASS)
+        self.number(usb_class::DEVICE_CLASS)
     }
 
     /// Returns the subclass; 0xff is any.
     pub fn device_subclass(&self) -> u8
-        ensures { result ≡ number_in USB_CLASS_DEVICE_SUBCLASS (data_of self.now) }
+        ensures { result ≡ number_in usb_class.DEVICE_SUBCLASS (data_of self.now) }
     {
-        self.number(USB_CLASS_DEVICE_SUBCLASS)
+        self.number(usb_class::DEVICE_SUBCLASS)
     }
 
     /// Returns the protocol; 0xff is any.
     pub fn device_protocol(&self) -> u8
-        ensures { result ≡ number_in USB_CLASS_DEVICE_PROTOCOL (data_of self.now) }
+        ensures { result ≡ number_in usb_class.DEVICE_PROTOCOL (data_of self.now) }
     {
-        self.number(USB_CLASS_DEVICE_PROTOCOL)
+        self.number(usb_class::DEVICE_PROTOCOL)
     }
 }
 
 /// The structs from which these nodes are built.
 pub mod build {
     use crate::fields::{Fields, put};
-    use crate::node_table::layouts::{
-        USB_CLASS_DEVICE_CLASS, USB_CLASS_DEVICE_PROTOCOL, USB_CLASS_DEVICE_SUBCLASS,
-        USB_CLASS_PRODUCT_ID, USB_CLASS_VENDOR_ID, USB_INTERFACE, USB_PARENT_PORT_NUMBER,
-        USB_WWID_DEVICE_PRODUCT_ID, USB_WWID_DEVICE_VENDOR_ID, USB_WWID_INTERFACE_NUMBER,
-    };
+    use crate::node_table::layouts::messaging::{usb, usb_class, usb_wwid};
 
     /// A device on a USB bus.
     ///
@@ -181,14 +180,14 @@ pub mod build {
 
         type Tail = ();
 
-        ghost fields = { λ n. number USB_PARENT_PORT_NUMBER n.parent_port_number ∷
-            number USB_INTERFACE n.interface ∷ [] };
+        ghost fields = { λ n. number usb.PARENT_PORT_NUMBER n.parent_port_number ∷
+            number usb.INTERFACE n.interface ∷ [] };
 
         fn tail(self) {}
 
         fn put(&self, content: &mut [u8]) {
-            put(content, USB_PARENT_PORT_NUMBER, self.parent_port_number);
-            put(content, USB_INTERFACE, self.interface);
+            put(content, usb::PARENT_PORT_NUMBER, self.parent_port_number);
+            put(content, usb::INTERFACE, self.interface);
         }
     }
 
@@ -220,9 +219,9 @@ pub mod build {
 
         type Tail = &'a [u16];
 
-        ghost fields = { λ n. number USB_WWID_INTERFACE_NUMBER n.interface_number ∷
-            number USB_WWID_DEVICE_VENDOR_ID n.device_vendor_id ∷
-            number USB_WWID_DEVICE_PRODUCT_ID n.device_product_id ∷ [] };
+        ghost fields = { λ n. number usb_wwid.INTERFACE_NUMBER n.interface_number ∷
+            number usb_wwid.DEVICE_VENDOR_ID n.device_vendor_id ∷
+            number usb_wwid.DEVICE_PRODUCT_ID n.device_product_id ∷ [] };
 
         ghost after = { λ n. unit_bytes n.serial_number.now };
 
@@ -231,9 +230,9 @@ pub mod build {
         }
 
         fn put(&self, content: &mut [u8]) {
-            put(content, USB_WWID_INTERFACE_NUMBER, self.interface_number);
-            put(content, USB_WWID_DEVICE_VENDOR_ID, self.device_vendor_id);
-            put(content, USB_WWID_DEVICE_PRODUCT_ID, self.device_product_id);
+            put(content, usb_wwid::INTERFACE_NUMBER, self.interface_number);
+            put(content, usb_wwid::DEVICE_VENDOR_ID, self.device_vendor_id);
+            put(content, usb_wwid::DEVICE_PRODUCT_ID, self.device_product_id);
         }
     }
 
@@ -267,19 +266,19 @@ pub mod build {
 
         type Tail = ();
 
-        ghost fields = { λ n. number USB_CLASS_VENDOR_ID n.vendor_id ∷
-            number USB_CLASS_PRODUCT_ID n.product_id ∷ number USB_CLASS_DEVICE_CLASS n.device_class ∷
-            number USB_CLASS_DEVICE_SUBCLASS n.device_subclass ∷
-            number USB_CLASS_DEVICE_PROTOCOL n.device_protocol ∷ [] };
+        ghost fields = { λ n. number usb_class.VENDOR_ID n.vendor_id ∷
+            number usb_class.PRODUCT_ID n.product_id ∷ number usb_class.DEVICE_CLASS n.device_class ∷
+            number usb_class.DEVICE_SUBCLASS n.device_subclass ∷
+            number usb_class.DEVICE_PROTOCOL n.device_protocol ∷ [] };
 
         fn tail(self) {}
 
         fn put(&self, content: &mut [u8]) {
-            put(content, USB_CLASS_VENDOR_ID, self.vendor_id);
-            put(content, USB_CLASS_PRODUCT_ID, self.product_id);
-            put(content, USB_CLASS_DEVICE_CLASS, self.device_class);
-            put(content, USB_CLASS_DEVICE_SUBCLASS, self.device_subclass);
-            put(content, USB_CLASS_DEVICE_PROTOCOL, self.device_protocol);
+            put(content, usb_class::VENDOR_ID, self.vendor_id);
+            put(content, usb_class::PRODUCT_ID, self.product_id);
+            put(content, usb_class::DEVICE_CLASS, self.device_class);
+            put(content, usb_class::DEVICE_SUBCLASS, self.device_subclass);
+            put(content, usb_class::DEVICE_PROTOCOL, self.device_protocol);
         }
     }
 }

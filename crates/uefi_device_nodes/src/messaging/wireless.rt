@@ -5,27 +5,26 @@
 ghost use Rattle.std.specs.Prelude.{◌≡◌, ◌<◌, ◌∷◌, []};
 ghost use Rattle.uefi_device_nodes.specs.TypedNodes.{bytes_in, number_in};
 ghost use Rattle.uefi_device_nodes.specs.NodeViews.{data_of};
-ghost use Rattle.uefi_device_nodes.specs.declared.node_table.layouts.TheConstants.{BLUETOOTH_DEVICE_ADDRESS, BLUETOOTH_LE_ADDRESS_TYPE, BLUETOOTH_LE_DEVICE_ADDRESS, WIFI_SSID};
+ghost use Rattle.uefi_device_nodes.specs.declared.node_table.layouts.messaging.bluetooth.TheConstants as bluetooth;
+ghost use Rattle.uefi_device_nodes.specs.declared.node_table.layouts.messaging.bluetooth_le.TheConstants as bluetooth_le;
+ghost use Rattle.uefi_device_nodes.specs.declared.node_table.layouts.messaging.wifi.TheConstants as wifi;
 ghost use Rattle.uefi_device_nodes.specs.NodeFields.{bytes, number};
 
 use crate::node::DeviceSubType;
-use crate::node_table::layouts::{
-    BLUETOOTH, BLUETOOTH_DEVICE_ADDRESS, BLUETOOTH_LE, BLUETOOTH_LE_ADDRESS_TYPE,
-    BLUETOOTH_LE_DEVICE_ADDRESS, BLUETOOTH_LE_LEAST, BLUETOOTH_LEAST, MESSAGING_TYPE, WIFI,
-    WIFI_LEAST, WIFI_SSID,
-};
+use crate::node_table::layouts::MESSAGING_TYPE;
+use crate::node_table::layouts::messaging::{bluetooth, bluetooth_le, wifi};
 use crate::typed_node::TypedNode;
 
 /// Sub-types of the type [`DeviceType::MESSAGING`](crate::DeviceType).
 impl DeviceSubType {
     /// A Bluetooth device.
-    pub const MESSAGING_BLUETOOTH: DeviceSubType = DeviceSubType(BLUETOOTH);
+    pub const MESSAGING_BLUETOOTH: DeviceSubType = DeviceSubType(bluetooth::SUB_TYPE);
 
     /// A wireless network.
-    pub const MESSAGING_WIFI: DeviceSubType = DeviceSubType(WIFI);
+    pub const MESSAGING_WIFI: DeviceSubType = DeviceSubType(wifi::SUB_TYPE);
 
     /// A Bluetooth Low Energy device.
-    pub const MESSAGING_BLUETOOTH_LE: DeviceSubType = DeviceSubType(BLUETOOTH_LE);
+    pub const MESSAGING_BLUETOOTH_LE: DeviceSubType = DeviceSubType(bluetooth_le::SUB_TYPE);
 }
 
 /// A Bluetooth device.
@@ -35,14 +34,19 @@ impl DeviceSubType {
 /// let device = messaging::Bluetooth::from_node(node)?;
 /// assert_eq!(rt; device.device_address(), [0x01, 0x23, 0x45, 0x67, 0x89, 0xab]);
 /// ```
-pub type Bluetooth<'a> = TypedNode<'a, MESSAGING_TYPE, BLUETOOTH, BLUETOOTH_LEAST>;
+pub type Bluetooth<'a> = TypedNode<
+    'a,
+    MESSAGING_TYPE,
+    { bluetooth::SUB_TYPE },
+    { bluetooth::LEAST },
+>;
 
 impl<'a> Bluetooth<'a> {
     /// Returns the bytes of its address.
     pub fn device_address(&self) -> [u8; 6]
-        ensures { result ≡ bytes_in BLUETOOTH_DEVICE_ADDRESS (data_of self.now) }
+        ensures { result ≡ bytes_in bluetooth.DEVICE_ADDRESS (data_of self.now) }
     {
-        self.bytes(BLUETOOTH_DEVICE_ADDRESS)
+        self.bytes(bluetooth::DEVICE_ADDRESS)
     }
 }
 
@@ -54,21 +58,26 @@ impl<'a> Bluetooth<'a> {
 /// assert_eq!(rt; device.device_address(), [0x01, 0x23, 0x45, 0x67, 0x89, 0xab]);
 /// assert_eq!(rt; device.address_type(), 1);
 /// ```
-pub type BluetoothLe<'a> = TypedNode<'a, MESSAGING_TYPE, BLUETOOTH_LE, BLUETOOTH_LE_LEAST>;
+pub type BluetoothLe<'a> = TypedNode<
+    'a,
+    MESSAGING_TYPE,
+    { bluetooth_le::SUB_TYPE },
+    { bluetooth_le::LEAST },
+>;
 
 impl<'a> BluetoothLe<'a> {
     /// Returns the bytes of its address.
     pub fn device_address(&self) -> [u8; 6]
-        ensures { result ≡ bytes_in BLUETOOTH_LE_DEVICE_ADDRESS (data_of self.now) }
+        ensures { result ≡ bytes_in bluetooth_le.DEVICE_ADDRESS (data_of self.now) }
     {
-        self.bytes(BLUETOOTH_LE_DEVICE_ADDRESS)
+        self.bytes(bluetooth_le::DEVICE_ADDRESS)
     }
 
     /// Returns the type of the address: 0 is public, 1 is random.
     pub fn address_type(&self) -> u8
-        ensures { result ≡ number_in BLUETOOTH_LE_ADDRESS_TYPE (data_of self.now) }
+        ensures { result ≡ number_in bluetooth_le.ADDRESS_TYPE (data_of self.now) }
     {
-        self.number(BLUETOOTH_LE_ADDRESS_TYPE)
+        self.number(bluetooth_le::ADDRESS_TYPE)
     }
 }
 
@@ -80,23 +89,21 @@ impl<'a> BluetoothLe<'a> {
 /// let network = messaging::Wifi::from_node(node)?;
 /// assert!(rt; network.ssid().starts_with(b"home\0"));
 /// ```
-pub type Wifi<'a> = TypedNode<'a, MESSAGING_TYPE, WIFI, WIFI_LEAST>;
+pub type Wifi<'a> = TypedNode<'a, MESSAGING_TYPE, { wifi::SUB_TYPE }, { wifi::LEAST }>;
 
 impl<'a> Wifi<'a> {
     /// Returns the SSID of the network, padded with zeros.
     pub fn ssid(&self) -> [u8; 32]
-        ensures { result ≡ bytes_in WIFI_SSID (data_of self.now) }
+        ensures { result ≡ bytes_in wifi.SSID (data_of self.now) }
     {
-        self.bytes(WIFI_SSID)
+        self.bytes(wifi::SSID)
     }
 }
 
 /// The structs from which these nodes are built.
 pub mod build {
     use crate::fields::{Fields, put, put_bytes};
-    use crate::node_table::layouts::{
-        BLUETOOTH_DEVICE_ADDRESS, BLUETOOTH_LE_ADDRESS_TYPE, BLUETOOTH_LE_DEVICE_ADDRESS, WIFI_SSID,
-    };
+    use crate::node_table::layouts::messaging::{bluetooth, bluetooth_le, wifi};
 
     /// A Bluetooth device.
     ///
@@ -118,12 +125,12 @@ pub mod build {
 
         type Tail = ();
 
-        ghost fields = { λ n. bytes BLUETOOTH_DEVICE_ADDRESS n.device_address ∷ [] };
+        ghost fields = { λ n. bytes bluetooth.DEVICE_ADDRESS n.device_address ∷ [] };
 
         fn tail(self) {}
 
         fn put(&self, content: &mut [u8]) {
-            put_bytes(content, BLUETOOTH_DEVICE_ADDRESS, &self.device_address);
+            put_bytes(content, bluetooth::DEVICE_ADDRESS, &self.device_address);
         }
     }
 
@@ -151,14 +158,14 @@ pub mod build {
 
         type Tail = ();
 
-        ghost fields = { λ n. bytes BLUETOOTH_LE_DEVICE_ADDRESS n.device_address ∷
-            number BLUETOOTH_LE_ADDRESS_TYPE n.address_type ∷ [] };
+        ghost fields = { λ n. bytes bluetooth_le.DEVICE_ADDRESS n.device_address ∷
+            number bluetooth_le.ADDRESS_TYPE n.address_type ∷ [] };
 
         fn tail(self) {}
 
         fn put(&self, content: &mut [u8]) {
-            put_bytes(content, BLUETOOTH_LE_DEVICE_ADDRESS, &self.device_address);
-            put(content, BLUETOOTH_LE_ADDRESS_TYPE, self.address_type);
+            put_bytes(content, bluetooth_le::DEVICE_ADDRESS, &self.device_address);
+            put(content, bluetooth_le::ADDRESS_TYPE, self.address_type);
         }
     }
 
@@ -184,12 +191,12 @@ pub mod build {
 
         type Tail = ();
 
-        ghost fields = { λ n. bytes WIFI_SSID n.ssid ∷ [] };
+        ghost fields = { λ n. bytes wifi.SSID n.ssid ∷ [] };
 
         fn tail(self) {}
 
         fn put(&self, content: &mut [u8]) {
-            put_bytes(content, WIFI_SSID, &self.ssid);
+            put_bytes(content, wifi::SSID, &self.ssid);
         }
     }
 }

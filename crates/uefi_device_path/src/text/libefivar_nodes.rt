@@ -9,7 +9,7 @@ ghost use Rattle.uefi_device_path.specs.LibefivarTexts.{AreTurned, is_partition,
 
 use crate::text::cased_texts::{put_lowered, put_unchanged};
 use uefi_device_nodes::node::{DevicePathNode, DeviceSubType, DeviceType};
-use uefi_device_nodes::node_table::layouts::HARD_DRIVE_LEAST;
+use uefi_device_nodes::node_table::layouts::media::hard_drive;
 use uefi_device_nodes::{AllowShortcuts, DisplayOnly};
 use uefi_text::text_sink::TextSink;
 
@@ -28,7 +28,7 @@ fn is_partition(node: DevicePathNode<'_>) -> bool
 {
     node.device_type() == DeviceType::MEDIA
         && node.sub_type() == DeviceSubType::MEDIA_HARD_DRIVE
-        && HARD_DRIVE_LEAST <= node.data().len()
+        && hard_drive::LEAST <= node.data().len()
 }
 
 /// Returns the bytes of the node of an NVMe namespace with its identifier in the opposite order, or `None`

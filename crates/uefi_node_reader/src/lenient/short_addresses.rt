@@ -18,7 +18,8 @@ use crate::lenient::complete_texts::tells;
 use crate::lenient::lenient_fields::any_number;
 use crate::texts::{Text, is_empty};
 use std::net::Ipv6Addr;
-use uefi_device_nodes::node_table::layouts::{IPV6, MESSAGING_TYPE};
+use uefi_device_nodes::node_table::layouts::MESSAGING_TYPE;
+use uefi_device_nodes::node_table::layouts::messaging::ipv6;
 use uefi_device_nodes::node_table::printing::form_of;
 use uefi_device_nodes::node_table::rows::Tail;
 
@@ -276,7 +277,7 @@ pub(crate) fn short_ipv6<T: Text>(text: T) -> Option<ParsedNode<T>>
     let (fixed, len) = call_data(text)?;
     let (node, _) = ParsedNode::with_tail(
         MESSAGING_TYPE,
-        IPV6,
+        ipv6::SUB_TYPE,
         fixed,
         len,
         Tail::Nothing,
