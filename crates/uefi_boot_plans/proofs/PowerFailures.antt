@@ -39,7 +39,7 @@ keeps-order n xs before now k same other ne =
 keeps-without : (n : ℕ) (before now : Values) → KeepsOthers n before now
     → KeepsOthers n before (values_after (ordered (without n (order_in before))) now)
 keeps-without n before now k =
-    keeps-order n (without n (order_in before)) before now k (λ other ne. others_stay other n (order_in before) (λ e. ne (sym e)))
+    keeps-order n (without n (order_in before)) before now k (λ other ne. others_stay other n (order_in before) ne)
 
 -- a change that is made only where a test holds
 through_if : (Fact : Values → Type 0) (b : Bool) (c : Change) (cs : List Change) (now : Values)
@@ -64,8 +64,8 @@ at_itself n v now = itself (eqb n n) v (now (Entry n)) (eq-eqb n n refl)
 -- an order with a number at an index has each other number that it had
 placed : (index n other : ℕ) (xs : List ℕ) → other ≢ n → stands_in other (with_at index n xs) ≡ stands_in other xs
 placed index n other xs ne =
-    sym (others_stay other n (with_at index n xs) (λ e. ne (sym e))) ∙ ap (stands_in other) (others_keep_order index n xs)
-    ∙ others_stay other n xs (λ e. ne (sym e))
+    sym (others_stay other n (with_at index n xs) ne) ∙ ap (stands_in other) (others_keep_order index n xs)
+    ∙ others_stay other n xs ne
 
 pub create : CreationIsSafe
 create index n entry before =

@@ -126,35 +126,41 @@ IsNodeOf (view.BiosBootSpecBootSpecification shown) node = Shows shown node
 -- the kinds of type Hardware whose nodes have fields: the sub-type of each, and the least number of bytes of
 -- data
 abbrev pub hardware_kinds : List (ℕ × ℕ)
-hardware_kinds = (pci.SUB_TYPE, pci.LEAST) ∷ (pccard.SUB_TYPE, pccard.LEAST) ∷ (memory_mapped.SUB_TYPE, memory_mapped.LEAST) ∷
-    (hardware_vendor.SUB_TYPE, hardware_vendor.LEAST) ∷ (controller.SUB_TYPE, controller.LEAST) ∷ (bmc.SUB_TYPE, bmc.LEAST) ∷
-    []
+hardware_kinds = (pci.SUB_TYPE, pci.LEAST) ∷ (pccard.SUB_TYPE, pccard.LEAST) ∷
+    (memory_mapped.SUB_TYPE, memory_mapped.LEAST) ∷
+    (hardware_vendor.SUB_TYPE, hardware_vendor.LEAST) ∷ (controller.SUB_TYPE, controller.LEAST) ∷
+    (bmc.SUB_TYPE, bmc.LEAST) ∷ []
 
 -- the kinds of type ACPI
 abbrev pub acpi_kinds : List (ℕ × ℕ)
-acpi_kinds = (acpi.SUB_TYPE, acpi.LEAST) ∷ (expanded.SUB_TYPE, expanded.LEAST) ∷ (adr.SUB_TYPE, adr.LEAST) ∷
-    (nvdimm.SUB_TYPE, nvdimm.LEAST) ∷ []
+acpi_kinds = (acpi.SUB_TYPE, acpi.LEAST) ∷ (expanded.SUB_TYPE, expanded.LEAST) ∷
+    (adr.SUB_TYPE, adr.LEAST) ∷ (nvdimm.SUB_TYPE, nvdimm.LEAST) ∷ []
 
 -- the kinds of type Messaging for devices on buses, serial ports and vendor-defined nodes
 abbrev pub bus_kinds : List (ℕ × ℕ)
-bus_kinds = (ieee1394.SUB_TYPE, ieee1394.LEAST) ∷ (usb.SUB_TYPE, usb.LEAST) ∷ (i2o.SUB_TYPE, i2o.LEAST) ∷
-    (messaging_vendor.SUB_TYPE, messaging_vendor.LEAST) ∷ (uart.SUB_TYPE, uart.LEAST) ∷ (usb_class.SUB_TYPE, usb_class.LEAST) ∷
+bus_kinds = (ieee1394.SUB_TYPE, ieee1394.LEAST) ∷ (usb.SUB_TYPE, usb.LEAST) ∷
+    (i2o.SUB_TYPE, i2o.LEAST) ∷ (messaging_vendor.SUB_TYPE, messaging_vendor.LEAST) ∷
+    (uart.SUB_TYPE, uart.LEAST) ∷ (usb_class.SUB_TYPE, usb_class.LEAST) ∷
     (usb_wwid.SUB_TYPE, usb_wwid.LEAST) ∷ []
 
 -- the kinds of type Messaging for storage
 abbrev pub storage_kinds : List (ℕ × ℕ)
-storage_kinds = (atapi.SUB_TYPE, atapi.LEAST) ∷ (scsi.SUB_TYPE, scsi.LEAST) ∷ (fibre_channel.SUB_TYPE, fibre_channel.LEAST) ∷
+storage_kinds = (atapi.SUB_TYPE, atapi.LEAST) ∷ (scsi.SUB_TYPE, scsi.LEAST) ∷
+    (fibre_channel.SUB_TYPE, fibre_channel.LEAST) ∷
     (device_logical_unit.SUB_TYPE, device_logical_unit.LEAST) ∷ (sata.SUB_TYPE, sata.LEAST) ∷
     (fibre_channel_ex.SUB_TYPE, fibre_channel_ex.LEAST) ∷ (sas_ex.SUB_TYPE, sas_ex.LEAST) ∷
-    (nvme_namespace.SUB_TYPE, nvme_namespace.LEAST) ∷ (ufs.SUB_TYPE, ufs.LEAST) ∷ (sd.SUB_TYPE, sd.LEAST) ∷
-    (emmc.SUB_TYPE, emmc.LEAST) ∷ (nvdimm_namespace.SUB_TYPE, nvdimm_namespace.LEAST) ∷ []
+    (nvme_namespace.SUB_TYPE, nvme_namespace.LEAST) ∷ (ufs.SUB_TYPE, ufs.LEAST) ∷
+    (sd.SUB_TYPE, sd.LEAST) ∷ (emmc.SUB_TYPE, emmc.LEAST) ∷
+    (nvdimm_namespace.SUB_TYPE, nvdimm_namespace.LEAST) ∷ []
 
 -- the kinds of type Messaging for networks, and for what is reached over them
 abbrev pub network_kinds : List (ℕ × ℕ)
-network_kinds = (infiniband.SUB_TYPE, infiniband.LEAST) ∷ (mac_address.SUB_TYPE, mac_address.LEAST) ∷
-    (ipv4.SUB_TYPE, ipv4.LEAST) ∷ (ipv6.SUB_TYPE, ipv6.LEAST) ∷ (iscsi.SUB_TYPE, iscsi.LEAST) ∷ (vlan.SUB_TYPE, vlan.LEAST) ∷
-    (uri.SUB_TYPE, uri.LEAST) ∷ (bluetooth.SUB_TYPE, bluetooth.LEAST) ∷ (wifi.SUB_TYPE, wifi.LEAST) ∷
-    (bluetooth_le.SUB_TYPE, bluetooth_le.LEAST) ∷ (dns.SUB_TYPE, dns.LEAST) ∷ (rest_service.SUB_TYPE, rest_service.LEAST) ∷
+network_kinds = (infiniband.SUB_TYPE, infiniband.LEAST) ∷
+    (mac_address.SUB_TYPE, mac_address.LEAST) ∷ (ipv4.SUB_TYPE, ipv4.LEAST) ∷
+    (ipv6.SUB_TYPE, ipv6.LEAST) ∷ (iscsi.SUB_TYPE, iscsi.LEAST) ∷ (vlan.SUB_TYPE, vlan.LEAST) ∷
+    (uri.SUB_TYPE, uri.LEAST) ∷ (bluetooth.SUB_TYPE, bluetooth.LEAST) ∷
+    (wifi.SUB_TYPE, wifi.LEAST) ∷ (bluetooth_le.SUB_TYPE, bluetooth_le.LEAST) ∷
+    (dns.SUB_TYPE, dns.LEAST) ∷ (rest_service.SUB_TYPE, rest_service.LEAST) ∷
     (nvme_of_namespace.SUB_TYPE, nvme_of_namespace.LEAST) ∷ []
 
 -- all kinds of type Messaging
@@ -165,8 +171,10 @@ messaging_kinds = bus_kinds ++ (storage_kinds ++ network_kinds)
 abbrev pub media_kinds : List (ℕ × ℕ)
 media_kinds = (hard_drive.SUB_TYPE, hard_drive.LEAST) ∷ (cd_rom.SUB_TYPE, cd_rom.LEAST) ∷
     (media_vendor.SUB_TYPE, media_vendor.LEAST) ∷ (protocol.SUB_TYPE, protocol.LEAST) ∷
-    (firmware_file.SUB_TYPE, firmware_file.LEAST) ∷ (firmware_volume.SUB_TYPE, firmware_volume.LEAST) ∷
-    (relative_offset_range.SUB_TYPE, relative_offset_range.LEAST) ∷ (ram_disk.SUB_TYPE, ram_disk.LEAST) ∷ []
+    (firmware_file.SUB_TYPE, firmware_file.LEAST) ∷
+    (firmware_volume.SUB_TYPE, firmware_volume.LEAST) ∷
+    (relative_offset_range.SUB_TYPE, relative_offset_range.LEAST) ∷
+    (ram_disk.SUB_TYPE, ram_disk.LEAST) ∷ []
 
 -- the kinds of type BIOS Boot Specification
 abbrev pub bios_boot_spec_kinds : List (ℕ × ℕ)

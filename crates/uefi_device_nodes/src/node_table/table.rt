@@ -87,8 +87,8 @@ macro_rules! width {
 }
 
 /// Makes the fields of a form. A GUID is five fields, an IP address four or eight, and six or eight single
-/// bytes have a text between them. The kind comes first. A field is given by its name in the kind's module, and
-/// a part of a field by its offset in the field and its width.
+/// bytes have a text between them. The kind comes first. A field is given by its name in the kind's module,
+/// and a part of a field by its offset in the field and its width.
 macro_rules! fields {
     ($of:tt [$($done:expr),*]) => { &[$($done),*] };
     ($of:tt [$($done:expr),*] [Guid $at:tt $ending:literal] $($rest:tt)*) => {

@@ -1,8 +1,8 @@
 //! The numbers of each kind of node, and the offsets of its fields (UEFI Specification 2.10, section 10.3).
 //! Views, builders, rows of the table and the header for C take them from here. No other file contains them.
 //!
-//! A kind is a module in the file of its type. It has the sub-type, the least number of bytes of the data, and
-//! the fields in the order of their offsets: `sata::SUB_TYPE`, `sata::LEAST` and `sata::HBA_PORT_NUMBER`.
+//! A kind is a module in the file of its type. It has the sub-type, the least number of bytes of the data,
+//! and the fields in the order of their offsets: `sata::SUB_TYPE`, `sata::LEAST` and `sata::HBA_PORT_NUMBER`.
 
 /// A field in the data of a node.
 #[derive(Clone, Copy)]
