@@ -127,7 +127,9 @@ letter_read c (t ∷ ts) =
 -- letters
 abbrev pub letters_read : List ℕ → List ℕ → Read (List ℕ)
 letters_read [] text = Ok ([], text)
-letters_read (c ∷ cs) text = letter_read c (past_blanks text) >>= λ v. letters_read cs v.1
+letters_read (c ∷ cs) text = do
+  v ← letter_read c (past_blanks text)
+  letters_read cs v.1
 
 -- the first letter of a text, or 0 if it is empty
 abbrev pub first_of : List ℕ → ℕ
@@ -258,8 +260,10 @@ many_text leaf (v ∷ vs) = leaf.text v ++ many_text leaf vs
 -- this many values
 abbrev pub repeat_read : {V : Type 0} → Leaf V → ℕ → List ℕ → Read (List V)
 repeat_read leaf zero text = Ok ([], text)
-repeat_read leaf (suc count) text =
-    leaf.read text >>= λ v. repeat_read leaf count v.1 >>= λ vs. Ok (v.0 ∷ vs.0, vs.1)
+repeat_read leaf (suc count) text = do
+  v ← leaf.read text
+  vs ← repeat_read leaf count v.1
+  Ok (v.0 ∷ vs.0, vs.1)
 
 abbrev pub repeat : {V : Type 0} → ℕ → Leaf V → Leaf (List V)
 repeat count leaf = record { text = many_text leaf; read = repeat_read leaf count }

@@ -4,10 +4,10 @@
 ghost use Rattle.std.specs.Prelude.{◌≡◌, ◌+◌, ◌^◌, ◌<◌, ◌≤◌, ◌∷◌, [], IsTrue, codes, length, map};
 ghost use Rattle.std.specs.Option.{option_map};
 ghost use Rattle.std.specs.Result.{result_map_both};
-ghost use Rattle.uefi_node_steps.specs.Leaves.{after, decimal, eisa_read, in_bytes, ipv4, ipv6, low_bytes, pair, pairs, repeat_read, word_read, zero_read};
+ghost use Rattle.uefi_node_steps.specs.Leaves.{after, apart, backwards, behind_each, dashed, decimal, eisa_read, guid, in_bytes, ipv4, ipv6, low_bytes, pair, pairs, repeat_read, word_read, zero_read};
 ghost use Rattle.uefi_node_steps.specs.Steps.{fits_shape, shape_leaf, word_by};
-ghost use Rattle.uefi_node_steps.specs.declared.steps.Shape.TheVariants.{Back, Next};
-ghost use Rattle.uefi_node_steps.specs.Views.{filled_with, is_read_shape, number_view};
+ghost use Rattle.uefi_node_steps.specs.declared.steps.Shape.TheVariants.{Next};
+ghost use Rattle.uefi_node_steps.specs.Views.{filled_with, number_view};
 
 use crate::leaves::{
     any_number, at_digits, id_letters, letters, pair, past_blanks, stop_at, two_digits,
@@ -99,16 +99,6 @@ fn or_default<T: Text>(last: u64, text: T) -> Option<(u64, T)>
     any_number(last, past_blanks(text))
 }
 
-/// Fills a buffer with bytes of two digits each, the last byte first.
-fn fill_back<T: Text>(found: &mut [u8], text: T) -> Result<T, Stop>
-    ensures { filled_with T.codes found.new result
-        ≡ (shape_leaf Back (length found.old)).read (T.codes text) }
-{
-    let rest = fill(found, at_digits(text))?;
-    found.reverse();
-    Ok(rest)
-}
-
 /// Reads a byte in decimal.
 fn octet<T: Text>(text: T) -> Result<(u8, T), Stop>
     ensures { result_map_both (λ read. (read.0 ∷ [], T.codes read.1)) (λ stop. stop) result
@@ -144,6 +134,73 @@ fn fill_ipv4<T: Text>(found: &mut [u8], text: T) -> Result<T, Stop>
     Ok(rest)
 }
 
+/// Reads a byte of two digits.
+fn one_byte<T: Text>(text: T) -> Result<(u8, T), Stop>
+    ensures { result_map_both (λ read. (read.0 ∷ [], T.codes read.1)) (λ stop. stop) result
+        ≡ (pairs 1).read (T.codes text) }
+{
+    let (byte, rest) = pair(text)?;
+    Ok((byte, rest))
+}
+
+/// Reads a byte of two digits after a letter.
+fn next_byte<T: Text>(letter: u8, text: T) -> Result<(u8, T), Stop>
+    ensures { result_map_both (λ read. (read.0 ∷ [], T.codes read.1)) (λ stop. stop) result
+        ≡ (after (letter ∷ []) (pairs 1)).read (T.codes text) }
+{
+    match letters(&[letter], text) {
+        Ok(rest) => one_byte(rest),
+        Err(stop) => Err(stop),
+    }
+}
+
+/// Fills a buffer with bytes of two digits each, with a letter before each.
+fn fill_behind<T: Text>(letter: u8, found: &mut [u8], text: T) -> Result<T, Stop>
+    ensures { filled_with T.codes found.new result
+        ≡ (behind_each (letter ∷ []) 1 (pairs 1) (length found.old)).read (T.codes text) }
+{
+    let mut rest = text;
+    for place in 0..found.len() {
+        let (byte, after) = next_byte(letter, rest)?;
+        found[place] = byte;
+        rest = after;
+    }
+    Ok(rest)
+}
+
+/// Fills a buffer with bytes of two digits each, with a letter between each two.
+fn fill_apart<T: Text>(letter: u8, found: &mut [u8], text: T) -> Result<T, Stop>
+    ensures { filled_with T.codes found.new result
+        ≡ (apart (letter ∷ []) (length found.old)).read (T.codes text) }
+{
+    if found.is_empty() {
+        return Ok(text);
+    }
+    let (byte, rest) = one_byte(at_digits(text))?;
+    let (first, others) = found.split_at_mut(1);
+    first.copy_from_slice(&[byte]);
+    fill_behind(letter, others, rest)
+}
+
+/// Fills a buffer with bytes of two digits each, the last byte first, with dashes between them.
+fn fill_dashed<T: Text>(found: &mut [u8], text: T) -> Result<T, Stop>
+    ensures { filled_with T.codes found.new result ≡ (dashed (length found.old)).read (T.codes text) }
+{
+    let rest = fill_apart(b'-', found, text)?;
+    found.reverse();
+    Ok(rest)
+}
+
+/// Fills a buffer with bytes of two digits each, the last byte first.
+fn fill_reversed<T: Text>(found: &mut [u8], text: T) -> Result<T, Stop>
+    ensures { filled_with T.codes found.new result
+        ≡ (backwards (length found.old)).read (T.codes text) }
+{
+    let rest = fill(found, text)?;
+    found.reverse();
+    Ok(rest)
+}
+
 /// Reads two bytes.
 fn two_bytes<T: Text>(text: T) -> Result<((u8, u8), T), Stop>
     ensures { result_map_both (λ read. (read.0.0 ∷ read.0.1 ∷ [], T.codes read.1)) (λ stop. stop) result
@@ -163,6 +220,86 @@ fn next_two<T: Text>(letter: u8, text: T) -> Result<((u8, u8), T), Stop>
         Ok(rest) => two_bytes(rest),
         Err(stop) => Err(stop),
     }
+}
+
+/// Reads two bytes, the last one first.
+fn two_reversed<T: Text>(text: T) -> Result<((u8, u8), T), Stop>
+    ensures { result_map_both (λ read. (read.0.0 ∷ read.0.1 ∷ [], T.codes read.1)) (λ stop. stop) result
+        ≡ (backwards 2).read (T.codes text) }
+{
+    let (first, rest) = pair(text)?;
+    let (second, rest) = pair(rest)?;
+    Ok(((second, first), rest))
+}
+
+/// Reads two bytes after a dash, the last one first.
+fn next_reversed<T: Text>(text: T) -> Result<((u8, u8), T), Stop>
+    ensures { result_map_both (λ read. (read.0.0 ∷ read.0.1 ∷ [], T.codes read.1)) (λ stop. stop) result
+        ≡ (after (codes "-") (backwards 2)).read (T.codes text) }
+{
+    match letters(b"-", text) {
+        Ok(rest) => two_reversed(rest),
+        Err(stop) => Err(stop),
+    }
+}
+
+/// Reads four bytes, the last one first.
+fn four_reversed<T: Text>(text: T) -> Result<((u8, u8, u8, u8), T), Stop>
+    ensures { result_map_both (λ read. (read.0.0 ∷ read.0.1 ∷ read.0.2 ∷ read.0.3 ∷ [], T.codes read.1))
+        (λ stop. stop) result ≡ (backwards 4).read (T.codes text) }
+{
+    let (a, rest) = pair(text)?;
+    let (b, rest) = pair(rest)?;
+    let (c, rest) = pair(rest)?;
+    let (d, rest) = pair(rest)?;
+    Ok(((d, c, b, a), rest))
+}
+
+/// Reads six bytes.
+fn six_bytes<T: Text>(text: T) -> Result<((u8, u8, u8, u8, u8, u8), T), Stop>
+    ensures { result_map_both (λ read. (
+      read.0.0 ∷ read.0.1 ∷ read.0.2 ∷ read.0.3 ∷ read.0.4 ∷ read.0.5
+          ∷ [],
+      T.codes read.1,
+    )) (λ stop. stop) result ≡ (pairs 6).read (T.codes text) }
+{
+    let (a, rest) = pair(text)?;
+    let (b, rest) = pair(rest)?;
+    let (c, rest) = pair(rest)?;
+    let (d, rest) = pair(rest)?;
+    let (e, rest) = pair(rest)?;
+    let (f, rest) = pair(rest)?;
+    Ok(((a, b, c, d, e, f), rest))
+}
+
+/// Reads six bytes after a dash.
+fn next_six<T: Text>(text: T) -> Result<((u8, u8, u8, u8, u8, u8), T), Stop>
+    ensures { result_map_both (λ read. (
+      read.0.0 ∷ read.0.1 ∷ read.0.2 ∷ read.0.3 ∷ read.0.4 ∷ read.0.5
+          ∷ [],
+      T.codes read.1,
+    )) (λ stop. stop) result ≡ (after (codes "-") (pairs 6)).read (T.codes text) }
+{
+    match letters(b"-", text) {
+        Ok(rest) => six_bytes(rest),
+        Err(stop) => Err(stop),
+    }
+}
+
+/// Fills a buffer with a GUID.
+fn fill_guid<T: Text>(found: &mut [u8], text: T) -> Result<T, Stop>
+    requires { length found.old ≡ 16 }
+    ensures { filled_with T.codes found.new result ≡ guid.read (T.codes text) }
+{
+    let (a, rest) = four_reversed(at_digits(text))?;
+    let (b, rest) = next_reversed(rest)?;
+    let (c, rest) = next_reversed(rest)?;
+    let (d, rest) = next_two(b'-', rest)?;
+    let (e, rest) = next_six(rest)?;
+    found.copy_from_slice(&[
+        a.0, a.1, a.2, a.3, b.0, b.1, c.0, c.1, d.0, d.1, e.0, e.1, e.2, e.3, e.4, e.5,
+    ]);
+    Ok(rest)
 }
 
 /// Fills a buffer with an address of IP version 6.
@@ -218,8 +355,7 @@ fn eisa_id<T: Text>(text: T) -> Option<(u64, T)>
 
 /// Fills a buffer with the bytes of a field.
 pub(crate) fn read_shape<T: Text>(shape: Shape, found: &mut [u8], text: T) -> Result<T, Stop>
-    requires fits { IsTrue (fits_shape shape (length found.old)) }
-    requires read { IsTrue (is_read_shape shape) }
+    requires { IsTrue (fits_shape shape (length found.old)) }
     ensures { filled_with T.codes found.new result
         ≡ (shape_leaf shape (length found.old)).read (T.codes text) }
 {
@@ -253,9 +389,12 @@ pub(crate) fn read_shape<T: Text>(shape: Shape, found: &mut [u8], text: T) -> Re
         }
         Shape::Next => fill_next(found, text),
         Shape::Forth => fill(found, at_digits(text)),
-        Shape::Back => fill_back(found, text),
+        Shape::Back => fill_reversed(found, at_digits(text)),
         Shape::BaseForth => fill(found, at_digits(text)),
-        Shape::BaseBack => fill_back(found, text),
+        Shape::BaseBack => fill_reversed(found, at_digits(text)),
+        Shape::Apart(letter) => fill_apart(letter, found, text),
+        Shape::Dashed => fill_dashed(found, text),
+        Shape::Guid => fill_guid(found, text),
         Shape::Ipv4 => fill_ipv4(found, text),
         Shape::Ipv6 => fill_ipv6(found, text),
         Shape::Eisa => number_into(found, Expected::Id, eisa_id(text), text),
@@ -263,6 +402,5 @@ pub(crate) fn read_shape<T: Text>(shape: Shape, found: &mut [u8], text: T) -> Re
             let read = word(words_of(words), text);
             number_into(found, Expected::Word(words), read, text)
         }
-        _ => Ok(text),
     }
 }

@@ -8,7 +8,7 @@ ghost use Rattle.uefi_node_steps.specs.Nodes.{parts_in};
 ghost use Rattle.uefi_node_steps.specs.Printing.{form_by, is_laid_step, step_by};
 ghost use Rattle.uefi_node_steps.specs.Steps.{are_apart, blank, is_sound_step};
 ghost use Rattle.uefi_node_steps.specs.Table.{form_leaf};
-ghost use Rattle.uefi_node_steps.specs.Views.{filled_with, is_read_step};
+ghost use Rattle.uefi_node_steps.specs.Views.{filled_with};
 
 use crate::printing::put_steps;
 use crate::reading::read_steps;
@@ -45,8 +45,6 @@ pub fn read_form<T: Text, S: Sink>(
     requires sound { IsTrue (list_all (is_sound_step (length fixed.old)) (form_by (λ s. map
         (step_by (λ l. l.now)) s.now) (λ b. b.now) form.now).laid.steps) }
     requires apart { IsTrue (are_apart (form_by (λ s. map (step_by (λ l. l.now)) s.now)
-        (λ b. b.now) form.now).laid.steps) }
-    requires read { IsTrue (list_all is_read_step (form_by (λ s. map (step_by (λ l. l.now)) s.now)
         (λ b. b.now) form.now).laid.steps) }
     ensures { filled_with T.codes (fixed.new, S.content tail.new) result
         ≡ (form_leaf (form_by (λ s. map (step_by (λ l. l.now)) s.now) (λ b. b.now) form.now)).read

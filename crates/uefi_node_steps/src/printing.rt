@@ -8,11 +8,11 @@ ghost use Rattle.uefi_text.specs.Packed.{little_endian};
 ghost use Rattle.uefi_device_nodes.specs.FieldTexts.{eisa_text, shown_bytes, until_nul};
 ghost use Rattle.uefi_device_nodes.specs.Guids.{guid_text};
 ghost use Rattle.uefi_node_steps.specs.Leaves.{decimal, ipv4, ipv6, suits, word_text, zero_text};
-ghost use Rattle.uefi_node_steps.specs.Steps.{chunks, data_leaf, fits_shape, item_of, lists, no_list, shape_leaf, word_by};
+ghost use Rattle.uefi_node_steps.specs.Steps.{chunks, data_leaf, fits_shape, lists, no_list, shape_leaf, word_by};
 ghost use Rattle.uefi_node_steps.specs.declared.steps.Shape.TheVariants.{Next};
 ghost use Rattle.uefi_node_steps.specs.Printing.{is_item_step, items_text, is_laid_step, is_printed_shape, step_by, step_text, steps_text};
 
-use crate::items::{IPV4_ADDRESSES, IPV6_ADDRESSES, NUMBERS};
+use crate::items::item_of;
 use crate::steps::{Encoding, Items, Layout, Shape, Step, StepOf};
 use crate::words::{Word, words_of};
 use uefi_device_nodes::field_texts::hexadecimal::{
@@ -203,21 +203,6 @@ fn put_item<S: TextSink>(sink: &mut S, steps: &[Step], fixed: &[u8])
 {
     for step in steps {
         put_item_step(sink, step, fixed);
-    }
-}
-
-/// Returns the items of a list.
-fn item_of(items: Items) -> Layout
-    ensures size { result.size ≡ (item_of items).size }
-    ensures steps { map (step_by (λ l. l.now)) result.steps.now ≡ (item_of items).steps }
-    ensures some { 0 < result.size }
-    ensures laid { IsTrue (list_all (is_item_step result.size) (map (step_by
-        (λ l. l.now)) result.steps.now)) }
-{
-    match items {
-        Items::Numbers => NUMBERS,
-        Items::Ipv4 => IPV4_ADDRESSES,
-        Items::Ipv6 => IPV6_ADDRESSES,
     }
 }
 

@@ -2,19 +2,20 @@
 #![tactic(auto)]
 
 ghost use Rattle.std.specs.List.{list_all};
-ghost use Rattle.std.specs.Prelude.{◌≡◌, ◌++◌, IsTrue, length, map};
+ghost use Rattle.std.specs.Prelude.{◌≡◌, ◌++◌, [], IsTrue, length, map};
 ghost use Rattle.std.proofs.Math.ListN.{replicate};
 ghost use Rattle.uefi_text.specs.UnitBytes.{unit_bytes};
-ghost use Rattle.uefi_node_steps.specs.Leaves.{after_first, bytes_after_comma, clear_run, has_pair, is_clear, many, pair};
+ghost use Rattle.uefi_node_steps.specs.Leaves.{after_first, bytes_after_comma, clear_run, has_pair, ids_text, is_clear, many, padded_text, pair};
 ghost use Rattle.uefi_node_steps.specs.Printing.{step_by};
-ghost use Rattle.uefi_node_steps.specs.Steps.{data_leaf, field_leaf, fits_shape, is_sound_step};
-ghost use Rattle.uefi_node_steps.specs.Views.{after_these, filled_with, is_read_data, is_read_shape, is_read_step, step_in, steps_in};
+ghost use Rattle.uefi_node_steps.specs.Steps.{data_leaf, field_leaf, fits_shape, is_flat, is_sound_step, item_leaf, item_of, lists, no_list};
+ghost use Rattle.uefi_node_steps.specs.Views.{after_these, filled_with, step_in, steps_in};
 
 use crate::fields::read_shape;
+use crate::items::item_of;
 use crate::leaves::{
-    at_digits, has_comma, has_digit, is_spare, literal, pair, past_blanks, stop_at,
+    at_digits, has_comma, has_digit, is_spare, letters, literal, pair, past_blanks, stop_at,
 };
-use crate::steps::{Encoding, Expected, Field, Step, StepOf, Stop};
+use crate::steps::{Encoding, Expected, Field, Items, Step, StepOf, Stop};
 use crate::texts::{Sink, Text};
 
 /// Fills a buffer with copies of a byte.
@@ -27,7 +28,6 @@ fn put_spare(found: &mut [u8], spare: u8)
 /// Fills a buffer with the bytes of a field, or with its spare byte where people leave it out.
 fn read_field<T: Text>(field: &Field, found: &mut [u8], text: T) -> Result<T, Stop>
     requires fits { IsTrue (fits_shape field.now.shape (length found.old)) }
-    requires read { IsTrue (is_read_shape field.now.shape) }
     requires width { length found.old ≡ field.now.width }
     ensures { filled_with T.codes found.new result ≡ (field_leaf field.now).read (T.codes text) }
 {
@@ -123,9 +123,67 @@ fn read_bytes<T: Text, S: Sink>(tail: &mut S, text: T) -> Result<T, Stop>
     read_pairs(tail, digits)
 }
 
+/// Puts this many zeros.
+fn put_zeros<S: Sink>(tail: &mut S, count: usize)
+    ensures { S.content tail.new ≡ S.content tail.old ++ replicate count 0 }
+{
+    'zeros: for _ in 0..count {
+        tail.put(0);
+    }
+}
+
+/// Puts the letters before the first that is `stop` or not printable, and zeros up to 32 bytes.
+fn read_padded<T: Text, S: Sink>(stop: u8, tail: &mut S, text: T) -> Result<T, Stop>
+    ensures { filled_with T.codes (S.content tail.new) result
+        ≡ after_these (S.content tail.old) ((padded_text stop).read (T.codes text)) }
+{
+    let rest = read_clear(stop, tail, text);
+    let count = text.len() - rest.len();
+    if 32 < count {
+        return Err(stop_at(text, Expected::Letters(32)));
+    }
+    put_zeros(tail, 32 - count);
+    Ok(rest)
+}
+
+/// Returns a text from the first letter on that is `stop` or not printable.
+fn past_clear<T: Text>(stop: u8, text: T) -> T
+    ensures { T.codes result ≡ (clear_run stop (T.codes text)).1 }
+{
+    let mut rest = text;
+    'letters: while let Some((first, others)) = rest.split_first() {
+        if !is_clear(stop, first) {
+            return rest;
+        }
+        rest = others;
+    }
+    rest
+}
+
+/// Puts the three strings of an ACPI device, which the data contains in another order than the text.
+fn read_ids<T: Text, S: Sink>(stop: u8, tail: &mut S, text: T) -> Result<T, Stop>
+    ensures { filled_with T.codes (S.content tail.new) result
+        ≡ after_these (S.content tail.old) ((ids_text stop).read (T.codes text)) }
+{
+    let after_hid = read_clear(b',', tail, text);
+    tail.put(0);
+    let cid = match letters(b",", after_hid) {
+        Ok(cid) => cid,
+        Err(stop) => return Err(stop),
+    };
+    let uid = match letters(b",", past_clear(b',', cid)) {
+        Ok(uid) => uid,
+        Err(stop) => return Err(stop),
+    };
+    let rest = read_clear(stop, tail, uid);
+    tail.put(0);
+    let _after_cid = read_clear(b',', tail, cid);
+    tail.put(0);
+    Ok(rest)
+}
+
 /// Puts the data after the fixed part.
 fn read_data<T: Text, S: Sink>(encoding: Encoding, tail: &mut S, text: T) -> Result<T, Stop>
-    requires { IsTrue (is_read_data encoding) }
     ensures { filled_with T.codes (S.content tail.new) result
         ≡ after_these (S.content tail.old) ((data_leaf encoding).read (T.codes text)) }
 {
@@ -138,8 +196,81 @@ fn read_data<T: Text, S: Sink>(encoding: Encoding, tail: &mut S, text: T) -> Res
             tail.put(0);
             Ok(rest)
         }
+        Encoding::Padded(stop) => read_padded(stop, tail, text),
+        Encoding::Ids(stop) => read_ids(stop, tail, text),
+    }
+}
+
+/// Reads a literal or a field of an item.
+fn read_item_step<T: Text>(step: &Step, fixed: &mut [u8], text: T) -> Result<T, Stop>
+    requires sound { IsTrue (is_sound_step (length fixed.old) (step_by (λ l. l.now) step.now)) }
+    requires flat { IsTrue (is_flat (step_by (λ l. l.now) step.now)) }
+    ensures { filled_with T.codes (fixed.new, []) result
+        ≡ step_in no_list (step_by (λ l. l.now) step.now) (fixed.old, []) (T.codes text) }
+{
+    match step {
+        StepOf::Literal(letters) => literal(letters.as_bytes(), text),
+        StepOf::Field(field) => {
+            let end = field.place + field.width;
+            read_field(field, &mut fixed[field.place..end], text)
+        }
         _ => Ok(text),
     }
+}
+
+/// Reads the steps of an item into its data.
+fn read_item<T: Text>(steps: &[Step], fixed: &mut [u8], text: T) -> Result<T, Stop>
+    requires sound { IsTrue (list_all (is_sound_step (length fixed.old)) (map (step_by
+        (λ l. l.now)) steps.now)) }
+    requires flat { IsTrue (list_all is_flat (map (step_by (λ l. l.now)) steps.now)) }
+    ensures { filled_with T.codes (fixed.new, []) result
+        ≡ steps_in no_list (map (step_by (λ l. l.now)) steps.now) (fixed.old, []) (T.codes text) }
+{
+    let mut rest = text;
+    for step in steps {
+        rest = read_item_step(step, fixed, rest)?;
+    }
+    Ok(rest)
+}
+
+/// Puts bytes.
+fn put_all<S: Sink>(tail: &mut S, bytes: &[u8])
+    ensures { S.content tail.new ≡ S.content tail.old ++ bytes.now }
+{
+    for byte in bytes {
+        tail.put(*byte);
+    }
+}
+
+/// The number of bytes of the longest item.
+const LONGEST_ITEM: usize = 16;
+
+/// Reads an item of a list, and puts its data.
+fn read_next<T: Text, S: Sink>(items: Items, tail: &mut S, text: T) -> Result<T, Stop>
+    ensures { filled_with T.codes (S.content tail.new) result
+        ≡ after_these (S.content tail.old) ((item_leaf (item_of items)).read (T.codes text)) }
+{
+    let layout = item_of(items);
+    let mut fixed = [0; LONGEST_ITEM];
+    let item = &mut fixed[..layout.size];
+    let rest = read_item(layout.steps, item, text)?;
+    put_all(tail, item);
+    Ok(rest)
+}
+
+/// Reads the items of a list, and puts their data.
+fn read_items<T: Text, S: Sink>(items: Items, tail: &mut S, text: T) -> Result<T, Stop>
+    ensures { filled_with T.codes (S.content tail.new) result
+        ≡ after_these (S.content tail.old) ((lists items).read (T.codes text)) }
+{
+    let mut rest = text;
+    'items: for _ in 0..text.len() {
+        if !has_comma(rest) {
+            return Ok(rest);
+        }
+        rest = read_next(items, tail, rest)?;
+    }
+    Ok(rest)
 }
 
 /// Reads a step into data: the fixed part, and what follows it.
@@ -149,10 +280,9 @@ fn read_step<T: Text, S: Sink>(
     tail: &mut S,
     text: T,
 ) -> Result<T, Stop>
-    requires sound { IsTrue (is_sound_step (length fixed.old) (step_by (λ l. l.now) step.now)) }
-    requires read { IsTrue (is_read_step (step_by (λ l. l.now) step.now)) }
+    requires { IsTrue (is_sound_step (length fixed.old) (step_by (λ l. l.now) step.now)) }
     ensures { filled_with T.codes (fixed.new, S.content tail.new) result
-        ≡ step_in (step_by (λ l. l.now) step.now) (fixed.old, S.content tail.old) (T.codes text) }
+        ≡ step_in lists (step_by (λ l. l.now) step.now) (fixed.old, S.content tail.old) (T.codes text) }
 {
     match step {
         StepOf::Literal(letters) => literal(letters.as_bytes(), text),
@@ -161,7 +291,7 @@ fn read_step<T: Text, S: Sink>(
             read_field(field, &mut fixed[field.place..end], text)
         }
         StepOf::Data(encoding) => read_data(*encoding, tail, text),
-        StepOf::Many(_) => Ok(text),
+        StepOf::Many(items) => read_items(*items, tail, text),
     }
 }
 
@@ -172,11 +302,11 @@ pub fn read_steps<T: Text, S: Sink>(
     tail: &mut S,
     text: T,
 ) -> Result<T, Stop>
-    requires sound { IsTrue (list_all (is_sound_step (length fixed.old)) (map (step_by
+    requires { IsTrue (list_all (is_sound_step (length fixed.old)) (map (step_by
         (λ l. l.now)) steps.now)) }
-    requires read { IsTrue (list_all is_read_step (map (step_by (λ l. l.now)) steps.now)) }
     ensures { filled_with T.codes (fixed.new, S.content tail.new) result
-        ≡ steps_in (map (step_by (λ l. l.now)) steps.now) (fixed.old, S.content tail.old) (T.codes text) }
+        ≡ steps_in lists (map (step_by (λ l. l.now)) steps.now) (fixed.old, S.content tail.old)
+        (T.codes text) }
 {
     let mut rest = text;
     for step in steps {
