@@ -17,7 +17,8 @@ abbrev pub filled_with : {V T : Type 0} → (T → List ℕ) → V → Option T 
 filled_with bytes found result = option_map (λ rest. (found, bytes rest)) result
 
 -- a value in this view, or why nothing is read
-abbrev pub read_or_err : {V W T E : Type 0} → (V → W) → (T → List ℕ) → Result (V × T) E → Result (W × List ℕ) E
+abbrev pub read_or_err : {V W T E : Type 0} → (V → W) → (T → List ℕ) → Result (V × T) E
+    → Result (W × List ℕ) E
 read_or_err view bytes result = result_map_both (λ x. (view x.0, bytes x.1)) (λ e. e) result
 
 -- only the rest of the text, or why nothing is read

@@ -104,7 +104,8 @@ module _ (test : List ℕ → Bool) (leaf : ByteLeaf) where
       → listed front (many_read test leaf (n - place) text) ≡ listed new (many_read test leaf (n - (place + 1)) rest)
   listed_ok front new n place text rest l t e = first_listed front n place text l t ∙ by (leaf.read text) e
     where
-      by : (r : Read (List ℕ)) → Ok (new, rest) ≡ after_these front r → (r >>= λ v. listed (front ++ v.0) (many_read test leaf (n - (place + 1)) v.1)) ≡ listed new (many_read test leaf (n - (place + 1)) rest)
+      by : (r : Read (List ℕ)) → Ok (new, rest) ≡ after_these front r
+          → (r >>= λ v. listed (front ++ v.0) (many_read test leaf (n - (place + 1)) v.1)) ≡ listed new (many_read test leaf (n - (place + 1)) rest)
       by (Err stop) e = cc
       by (Ok v) e = let same : (front ++ v.0, v.1) ≡ (new, rest) = cc in ap (λ (x : List ℕ × List ℕ). listed x.0 (many_read test leaf (n - (place + 1)) x.1)) same
 

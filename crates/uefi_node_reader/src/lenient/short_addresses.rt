@@ -217,7 +217,8 @@ fn connection(
 
 /// Reads the end of a call after the protocol. Returns the data of the connection as [`connection`] does.
 fn origin_on<T: Text>(remote: Ipv6Addr, protocol: u16, text: T) -> Option<([u8; 56], usize)>
-    ensures data { option_map (λ x. take x.1 x.0) result ≡ origin_on (ipv6_octets remote) protocol (T.bytes text) }
+    ensures data { option_map (λ x. take x.1 x.0) result
+        ≡ origin_on (ipv6_octets remote) protocol (T.bytes text) }
     ensures few { IfSome result (λ x. x.1 ≤ 56) }
 {
     if closes_call(text) {

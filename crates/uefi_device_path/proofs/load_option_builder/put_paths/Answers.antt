@@ -21,7 +21,7 @@ loop-place-preserved c =
     let more = long_more paths c.loop-place.place c.index-paths-place.result c.as_bytes-path.result.now c.loop-place-test.true c.index-paths-place.is c.as_bytes-path.ensures.bytes in
     let all = front_within paths c.loop-place.place in
     let path = c.copy_from_slice.new.self in
-    let same : path ≡ c.as_bytes-path.result.now = c.copy_from_slice.ensures in
+    let same : path ≡ c.as_bytes-path.result.now = c.copy_from_slice.ensures.after in
     let long : length path ≡ length c.as_bytes-path.result.now = ap length same in
     let taken = take-put_mid c.loop-place.start _ c.loop-place.bytes path (c.loop-place.start + length c.as_bytes-path.result.now)
     (omega (arith, long)) (omega (arith, all, c.loop-place.invariant.0, c.requires, c.loop-place.auto.bytes)) in (

@@ -9,7 +9,8 @@ use Rattle.uefi_node_steps.proofs.fields.fill_behind.Goals as goal
 pub returns-in_err-byte : goal.returns-in_err-byte
 returns-in_err-byte g c =
     let none = sym (rw c.in_err-byte.was at c.next_byte.ensures) in
-    let e = behind_err (c.args.letter ∷ []) (take c.loop-place.place c.loop-place.found) (length c.args.found.now) c.loop-place.place (g.T.Text.codes c.loop-place.rest) _ c.loop-place-test.true none in
+    let e = behind_err (c.args.letter ∷ []) (take c.loop-place.place c.loop-place.found) (length c.args.found.now) c.loop-place.place
+    (g.T.Text.codes c.loop-place.rest) _ c.loop-place-test.true none in
     let p = err_from_is_err_and c.from_residual.result c.from_residual.ensures.1 in rw (p.1, p.2) (sym e ∙ c.loop-place.invariant)
 
 pub loop-place-preserved : goal.loop-place-preserved

@@ -54,4 +54,5 @@ returns g c =
     let c' = sym (rw c.in_ok-c.was at c.next_reversed-2.ensures) in
     let d = sym (rw c.in_ok-d.was at c.next_two.ensures) in
     let f = sym (rw c.in_ok-e.was at c.next_six.ensures) in
-    ap (λ (l : List ℕ). Ok (l, g.T.Text.codes c.in_ok-e.rest)) c.copy_from_slice.ensures.after ∙ sym (all_five first second second fourth last (at_digits (g.T.Text.codes c.args.text)) _ _ _ _ _ a b c' d f)
+    ap (λ (l : List ℕ). Ok (l, g.T.Text.codes c.in_ok-e.rest)) c.copy_from_slice.ensures.after
+    ∙ sym (all_five first second second fourth last (at_digits (g.T.Text.codes c.args.text)) _ _ _ _ _ a b c' d f)
