@@ -44,7 +44,7 @@ at_width : (leaf : ByteLeaf) (count width : ℕ) (ends : List ℕ → Bool) → 
 at_width leaf count width ends e keeps = subst (λ (n : ℕ). Keeps leaf (IsBytes n) ends) (sym (eqb-true width count e)) keeps
 
 shape_keeps : (shape : Shape) (width : ℕ) → fits_shape shape width ≡ true → Keeps (shape_leaf shape width) (FitsShape shape width) (ends_at (class_of_shape shape))
-shape_keeps Hexadecimal width e = let l = limits width e in number_keeps width _ (hexadecimal_keeps (256 ^ width) l.0 l.1)
+shape_keeps Hexadecimal width e = let l = limits width e in number_keeps width _ (hexadecimal_keeps (256 ^ width) l.0 l.1 _)
 shape_keeps Decimal width e = let l = limits width e in number_keeps width _ (decimal_keeps (256 ^ width) l.0 l.1)
 shape_keeps OrDefault width e = let l = limits width e in number_keeps width _ (zero_keeps 68 (codes "EFAULT") refl not_default (256 ^ width) l.0 l.1)
 shape_keeps Next width e = number_keeps width (next_number (256 ^ width)) (subst (λ (n : ℕ). Keeps (next_number (256 ^ n)) (λ k. k < 256 ^ n) (ends_at Number)) (sym (eqb-true width 1 e))

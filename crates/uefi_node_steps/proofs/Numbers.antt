@@ -7,7 +7,8 @@ use Rattle.std.specs.Char.{to_ascii_uppercase}
 use Rattle.std.specs.Fmt.{digits, digit_glyph}
 use Rattle.std.proofs.lemmas.Bool.{cases_lt, cond-true, cond-false}
 use Rattle.std.proofs.lemmas.Bool.Decides.{nat_tests}
-use Rattle.uefi_node_steps.specs.Leaves.{Number, after_base, any_number, by_base, decimal, digit_of, digits_read, ends_at, has_digit, hexadecimal, next_number, number_read, only, past_blanks}
+use Rattle.uefi_node_steps.specs.Leaves.{Number, after_base, any_number, by_base, decimal, digit_of, digits_read, ends_at, has_digit, hexadecimal_or, next_number, number_read, only, past_blanks}
+use Rattle.uefi_node_steps.specs.declared.steps.Expected.{Expected}
 use Rattle.uefi_node_steps.specs.declared.steps.Expected.TheVariants as expected
 use Rattle.uefi_node_steps.proofs.LeafLaws.{IsDigit, blanks_shorter, no_blank, upper_digit}
 use Rattle.uefi_node_steps.proofs.Combinations.{Keeps, OptionGoes, Reads, expect_keeps, if_case, mapped_keeps, no_is, only_keeps, option_longer}
@@ -161,13 +162,14 @@ module _ (limit : ℕ) (fits : limit ≤ 2 ^ 64) (some : 0 < limit) where
   pub decimal_keeps : Keeps (decimal limit) (λ n. n < limit) (ends_at Number)
   decimal_keeps = expect_keeps _ _ _ _ _ decimal_reads
 
-  pub hexadecimal_keeps : Keeps (hexadecimal limit) (λ n. n < limit) (ends_at Number)
-  hexadecimal_keeps = expect_keeps _ _ _ _ _ hexadecimal_reads
+  pub hexadecimal_keeps : (what : Expected) → Keeps (hexadecimal_or what limit) (λ n. n < limit) (ends_at Number)
+  hexadecimal_keeps what = expect_keeps _ _ _ _ _ hexadecimal_reads
 
 -- one more than a number
 pub next_keeps : (limit : ℕ) → limit < 2 ^ 64 → Keeps (next_number limit) (λ n. n < limit) (ends_at Number)
-next_keeps limit fits = mapped_keeps (λ n. n - 1) (λ n. n + 1) (only (λ n. ltb 0 n) (expected.NumberFromOne limit) (hexadecimal (limit + 1)))
+next_keeps limit fits = mapped_keeps (λ n. n - 1) (λ n. n + 1) (only (λ n. ltb 0 n) (expected.NumberFromOne limit) (hexadecimal_or (expected.NumberFromOne limit) (limit + 1)))
     (λ n. (n < limit + 1) × (ltb 0 n ≡ true)) (λ n. n < limit) (ends_at Number)
-    (only_keeps (λ n. ltb 0 n) (expected.NumberFromOne limit) (hexadecimal (limit + 1)) (λ n. n < limit + 1) (ends_at Number) (hexadecimal_keeps (limit + 1) (omega arith) (omega arith)))
+    (only_keeps (λ n. ltb 0 n) (expected.NumberFromOne limit) (hexadecimal_or (expected.NumberFromOne limit) (limit + 1)) (λ n. n < limit + 1)
+    (ends_at Number) (hexadecimal_keeps (limit + 1) (omega arith) (omega arith) (expected.NumberFromOne limit)))
     (λ n f. let some = ltb-true 0 n f.1 in (omega (arith, f.0, some), omega (arith, some)))
     (λ n f. ((omega (arith, f), lt-ltb 0 (n + 1) (omega arith)), omega arith))

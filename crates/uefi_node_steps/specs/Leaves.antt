@@ -221,11 +221,14 @@ abbrev pub any_number : ℕ → List ℕ → Option (ℕ × List ℕ)
 any_number limit text = by_base limit text (after_base text)
 
 -- a number in hexadecimal, and in decimal
-abbrev pub hexadecimal : ℕ → Leaf ℕ
-hexadecimal limit = record {
+abbrev pub hexadecimal_or : Expected → ℕ → Leaf ℕ
+hexadecimal_or what limit = record {
   text = λ n. codes "0x" ++ hex n;
-  read = λ text. expect (expected.Number (limit - 1)) text (any_number limit (past_blanks text));
+  read = λ text. expect what text (any_number limit (past_blanks text));
 }
+
+abbrev pub hexadecimal : ℕ → Leaf ℕ
+hexadecimal limit = hexadecimal_or (expected.Number (limit - 1)) limit
 
 abbrev pub decimal : ℕ → Leaf ℕ
 decimal limit = record {
@@ -236,7 +239,8 @@ decimal limit = record {
 -- one more than a number, in hexadecimal
 abbrev pub next_number : ℕ → Leaf ℕ
 next_number limit = mapped (λ n. n - 1) (λ n. n + 1)
-    (only (λ n. nat_lt 0 n) (expected.NumberFromOne limit) (hexadecimal (limit + 1)))
+    (only (λ n. nat_lt 0 n) (expected.NumberFromOne limit)
+    (hexadecimal_or (expected.NumberFromOne limit) (limit + 1)))
 
 -- a byte of two digits
 abbrev pub pair_read : List ℕ → Option (ℕ × List ℕ)

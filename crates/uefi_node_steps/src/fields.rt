@@ -326,14 +326,13 @@ fn fill_next<T: Text>(found: &mut [u8], text: T) -> Result<T, Stop>
     requires { length found.old ≡ 1 }
     ensures { filled_with T.codes found.new result ≡ (shape_leaf Next 1).read (T.codes text) }
 {
-    let Some((number, rest)) = any_number(256, past_blanks(text)) else {
-        return Err(stop_at(text, Expected::Number(256)));
-    };
-    if number == 0 {
-        return Err(stop_at(text, Expected::NumberFromOne(256)));
+    match any_number(256, past_blanks(text)) {
+        Some((number, rest)) if number > 0 => {
+            put_low(found, number - 1);
+            Ok(rest)
+        }
+        _ => Err(stop_at(text, Expected::NumberFromOne(256))),
     }
-    put_low(found, number - 1);
-    Ok(rest)
 }
 
 /// Reads an EISA ID, or 0.
