@@ -1,9 +1,8 @@
 -- The bytes that have room stand after those before them.
-use Rattle.std.proofs.Common.{◌≡◌, ◌-◌, ◌∙◌, ap, arith, drop, length-append, length-drop, length-take}
+use Rattle.std.proofs.Common.{◌≡◌, ◌-◌, ◌∙◌, ap, arith, length-append}
 use borrow.Rule.Slice.PartMut.{put_mid}
 use Rattle.std.proofs.lemmas.Grind.{common_steps}
-use Rattle.std.specs.List.{slice_range}
-use Rattle.std.specs.Prelude.{length, take}
+use Rattle.std.specs.Prelude.{take}
 use Rattle.uefi_text.proofs.SunkUnits.{part_more}
 use Rattle.nardcorbel.proofs.utf8_buffers.sink_bytes.Goals as goal
 
@@ -13,8 +12,6 @@ returns c = λ before old sunk.
     let buffer = c.args.buffer.now in
     let start = c.places_of_part-start.result.0 in
     let end = c.places_of_part-start.result.1 in
-    let fits : length (slice_range buffer start end) ≡ end - start =
-    omega (arith, length-take (end - start) (drop start buffer), length-drop start buffer, c.places_of_part-start.ensures.end) in
     let copied : c.copy_from_slice.new.self ≡ take (end - start) bytes = c.copy_from_slice.ensures.after in
     record {
       count = omega (arith, c.saturating_add.ensures, sunk.count, length-append before bytes);
