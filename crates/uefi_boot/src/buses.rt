@@ -1,7 +1,9 @@
 //! The whole device path of a disk or a network card, from the directories of sysfs that lead to it.
 use crate::files::program_ends::{End, WRONG_ARGUMENTS, refuse};
-use crate::files::variables::unreadable;
+use crate::files::variables::{path_below, real_path};
+use crate::output::growing_texts::{Growing, joined};
 use crate::partitions::described;
+use std::fmt::Display;
 use std::fs;
 use uefi_device_path::{DevicePathBuf, PathTextError};
 
@@ -11,14 +13,14 @@ struct Buses<'a> {
     rt: &'a HostRuntime,
     /// How the user named the device.
     given: &'a str,
-    nodes: String,
+    nodes: Growing,
     /// Whether the node of the device itself is there.
     is_whole: bool,
 }
 
 /// Returns the content of a file of sysfs, or an empty text if there is none.
 fn text_in(rt: &HostRuntime, directory: &str, file: &str) -> Result<String, End> {
-    let path = format!(in rt.alloc(); "{directory}/{file}")?;
+    let path = path_below(rt.alloc(), directory, file)?;
     let Ok(bytes) = fs::read(rt, path.as_str()) else {
         return Ok(String::new(rt.alloc()));
     };
@@ -64,20 +66,23 @@ fn is_namespace(above: &str, name: &str) -> bool {
 }
 
 impl<'a> Buses<'a> {
-    fn add_node(&mut self, node: &str) -> Result<(), End> {
-        if !self.nodes.is_empty() {
-            self.nodes.push('/')?;
-        }
-        self.nodes.push_str(node)?;
-        Ok(())
+    fn add_node<D: Display>(&mut self, node: &D) {
+        self.nodes.add(&["/"]);
+        self.nodes.show(node);
     }
 
     fn refuse(&self, what: &str) -> End {
         let given = self.given;
-        let message = format_args!(
-            "{given}: cannot describe {what} in a device path (pass the whole path with --path)"
-        );
-        refuse(self.rt, WRONG_ARGUMENTS, message)
+        refuse(
+            self.rt,
+            WRONG_ARGUMENTS,
+            &[
+                given,
+                ": cannot describe ",
+                what,
+                " in a device path (pass the whole path with --path)",
+            ],
+        )
     }
 
     /// Adds the node of a PCI root bridge. Firmware numbers them as ACPI does, and calls each of them
@@ -87,25 +92,23 @@ impl<'a> Buses<'a> {
         let Ok(number) = identifier.as_str().parse::<u32>() else {
             return Err(self.refuse("a PCI root bridge without a number of ACPI"));
         };
-        let node = format!(in self.rt.alloc(); "PciRoot(0x{number:X})")?;
-        self.add_node(node.as_str())
+        self.add_node(&format_args!("PciRoot(0x{number:X})"));
+        Ok(())
     }
 
     /// Adds the node of a disk of an ATA port, which sysfs counts from 1 on.
     fn add_port(&mut self, directory: &str, name: &str) -> Result<(), End> {
-        let ports = format!(in self.rt.alloc(); "{directory}/ata_port/{name}")?;
+        let ports = joined(self.rt.alloc(), &[directory, "/ata_port/", name])?;
         let port = text_in(self.rt, ports.as_str(), "port_no")?;
-        let Some(port) = port
-            .as_str()
-            .parse::<u16>()
-            .ok()
-            .and_then(|it| it.checked_sub(1))
-        else {
-            return Err(self.refuse("an ATA port without a number"));
-        };
-        self.is_whole = true;
-        let node = format!(in self.rt.alloc(); "Sata(0x{port:X},0xFFFF,0x0)")?;
-        self.add_node(node.as_str())
+        match port.as_str().parse::<u16>() {
+            Ok(port) if port != 0 => {
+                self.is_whole = true;
+                let port = port - 1;
+                self.add_node(&format_args!("Sata(0x{port:X},0xFFFF,0x0)"));
+                Ok(())
+            }
+            _ => Err(self.refuse("an ATA port without a number")),
+        }
     }
 
     /// Adds the node of a namespace of an NVMe disk.
@@ -115,22 +118,22 @@ impl<'a> Buses<'a> {
             return Err(self.refuse("an NVMe namespace without a number"));
         };
         let identifier = text_in(self.rt, directory, "eui")?;
-        let mut bytes = String::new(self.rt.alloc());
+        let mut reversed = Growing::new(self.rt.alloc());
         // The text of a node has the bytes in the other order.
-        for byte in identifier.as_str().split(' ') {
-            bytes = if bytes.is_empty() {
-                String::from_str(self.rt.alloc(), byte)?
-            } else {
-                format!(in self.rt.alloc(); "{byte}-{bytes}")?
-            };
+        for (place, byte) in identifier.as_str().rsplit(' ').enumerate() {
+            reversed.add(&[if place == 0 { "" } else { "-" }]);
+            reversed.add(&[byte]);
         }
+        let reversed = reversed.finish()?;
         // Firmware writes zeros for a namespace without an identifier.
-        if bytes.len() != 23 {
-            bytes = String::from_str(self.rt.alloc(), "00-00-00-00-00-00-00-00")?;
-        }
+        let bytes = if reversed.len() == 23 {
+            reversed.as_str()
+        } else {
+            "00-00-00-00-00-00-00-00"
+        };
         self.is_whole = true;
-        let node = format!(in self.rt.alloc(); "NVMe(0x{number:X},{bytes})")?;
-        self.add_node(node.as_str())
+        self.add_node(&format_args!("NVMe(0x{number:X},{bytes})"));
+        Ok(())
     }
 
     /// Adds the node of a network card, and one for IPv4 with an address from a DHCP server.
@@ -142,8 +145,8 @@ impl<'a> Buses<'a> {
         };
         let digits = address.as_str().replace(self.rt.alloc(), ":", "")?;
         self.is_whole = true;
-        let node = format!(in self.rt.alloc(); "MAC({digits},0x{kind:X})/IPv4(0.0.0.0)")?;
-        self.add_node(node.as_str())
+        self.add_node(&format_args!("MAC({digits},0x{kind:X})/IPv4(0.0.0.0)"));
+        Ok(())
     }
 
     /// Adds the node of a directory, if it stands for a node.
@@ -153,8 +156,8 @@ impl<'a> Buses<'a> {
             return self.add_root(directory);
         }
         if let Some((device, function)) = pci_address(name) {
-            let node = format!(in self.rt.alloc(); "Pci(0x{device:X},0x{function:X})")?;
-            return self.add_node(node.as_str());
+            self.add_node(&format_args!("Pci(0x{device:X},0x{function:X})"));
+            return Ok(());
         }
         if name.starts_with("ata") {
             return self.add_port(directory, name);
@@ -170,8 +173,8 @@ impl<'a> Buses<'a> {
         }
         if let (Some((target, unit)), false) = (scsi_address(name), self.is_whole) {
             self.is_whole = true;
-            let node = format!(in self.rt.alloc(); "Scsi(0x{target:X},0x{unit:X})")?;
-            return self.add_node(node.as_str());
+            self.add_node(&format_args!("Scsi(0x{target:X},0x{unit:X})"));
+            return Ok(());
         }
         // A virtual disk has no node but that of its PCI device.
         self.is_whole = self.is_whole || above.starts_with("virtio") && name == "block";
@@ -181,14 +184,11 @@ impl<'a> Buses<'a> {
 
 /// Returns the device path of the device with a name in `/sys/class/block` or `/sys/class/net`.
 fn path_in(rt: &HostRuntime, given: &str, link: &str) -> Result<DevicePathBuf, End> {
-    let real = match fs::canonicalize(rt, link) {
-        Ok(real) => real,
-        Err(error) => return Err(unreadable(rt, link, &error)),
-    };
+    let real = real_path(rt, link)?;
     let mut buses = Buses {
         rt,
         given,
-        nodes: String::new(rt.alloc()),
+        nodes: Growing::new(rt.alloc()),
         is_whole: false,
     };
     let mut end = 0;
@@ -199,10 +199,12 @@ fn path_in(rt: &HostRuntime, given: &str, link: &str) -> Result<DevicePathBuf, E
         }
         end = end.saturating_add(1);
     }
-    if buses.nodes.is_empty() || !buses.is_whole {
-        return Err(buses.refuse("this device"));
-    }
-    match DevicePathBuf::from_lenient_text(rt.alloc(), buses.nodes.as_str()) {
+    // Each node has a slash before it, and the text of a path begins with its first node.
+    let nodes = match buses.nodes.so_far()?.strip_prefix("/") {
+        Some(nodes) if buses.is_whole => nodes,
+        _ => return Err(buses.refuse("this device")),
+    };
+    match DevicePathBuf::from_lenient_text(rt.alloc(), nodes) {
         Ok(path) => Ok(path),
         Err(PathTextError::OutOfMemory) => Err(End::OutOfMemory),
         Err(_) => Err(buses.refuse("this device")),
@@ -216,11 +218,17 @@ pub(crate) fn of_disk(rt: &HostRuntime, given: &str, disk: &str) -> Result<Devic
 
 /// Returns the device path from which the machine boots over a network interface with IPv4.
 pub(crate) fn of_interface(rt: &HostRuntime, name: &str) -> Result<DevicePathBuf, End> {
-    let given = format!(in rt.alloc(); "--interface {name}")?;
-    let link = format!(in rt.alloc(); "/sys/class/net/{name}")?;
+    let given = joined(rt.alloc(), &["--interface ", name])?;
+    let link = path_below(rt.alloc(), "/sys/class/net", name)?;
     if name.contains('/') || fs::metadata(rt, link.as_str()).is_err() {
-        let message = format_args!("{given}: no such network interface (ip link lists them)");
-        return Err(refuse(rt, WRONG_ARGUMENTS, message));
+        return Err(refuse(
+            rt,
+            WRONG_ARGUMENTS,
+            &[
+                given.as_str(),
+                ": no such network interface (ip link lists them)",
+            ],
+        ));
     }
     path_in(rt, given.as_str(), link.as_str())
 }

@@ -2,12 +2,14 @@
 use crate::files::mounts::is_efivarfs;
 use crate::files::program_ends::{End, Output, UNREADABLE, UNWRITTEN, refuse};
 use crate::files::variables::{
-    Content, MOST_READ, VARIABLE_ATTRIBUTES, Variable, Variables, attributes_len, file_in,
+    Content, MOST_READ, Source, VARIABLE_ATTRIBUTES, Variable, Variables, attributes_len, file_in,
 };
-use crate::output::boot_manager::{write_order, write_timeout};
+use crate::output::boot_manager::{
+    numbers_of, write_named, write_order, write_timeout, write_variable,
+};
 use crate::output::entry::Shown;
+use crate::output::growing_texts::{Growing, text_shown};
 use std::alloc::{AllocError, Global};
-use std::fmt::Write as _;
 use std::fs::{self, File, OpenFile, OpenOptions};
 use std::io::{self, Write};
 use std::os::unix::fs::{MetadataExt, OpenOptionsExt, fchown};
@@ -31,8 +33,7 @@ pub(crate) struct Machine<'a> {
 #[derive(Drop)]
 struct Target {
     path: String,
-    attributes: &'static [u8],
-    kept: Vec<u8>,
+    start: Vec<u8>,
     is_new: bool,
 }
 
@@ -74,33 +75,33 @@ fn changed(kind: LoadOptionKind, variable: Changed) -> Variable {
 
 /// Writes a variable and its value in words, and a line end.
 fn write_value(
-    out: &mut String,
+    out: &mut Growing,
     alloc: Global,
     kind: LoadOptionKind,
     variable: Variable,
     value: &[u8],
-) -> Result<(), End> {
+) -> Result<(), AllocError> {
     if variable.option().is_some() {
-        writeln!(out, "{variable}")?;
-        Shown::of_entry(alloc, value)?.write(out)?;
+        write_variable(out, "", variable, "\n");
+        Shown::of_entry(alloc, value)?.write(out);
         return Ok(());
     }
-    if variable == Variable::order_of(kind) {
-        if let Ok(order) = LoadOrder::from_bytes(value) {
-            let mut numbers = Vec::with_capacity(alloc, order.len())?;
-            for number in order.iter() {
-                numbers.push(number)?;
-            }
-            write_order(out, variable, kind, &numbers)?;
-            return Ok(());
+    match LoadOrder::from_bytes(value) {
+        Ok(order) if variable == Variable::order_of(kind) => {
+            write_order(out, variable, kind, &numbers_of(alloc, order)?);
         }
-    }
-    match read_number(value) {
-        Ok(seconds) if variable == Variable::Timeout => write_timeout(out, seconds)?,
-        Ok(number) => writeln!(out, "{variable}: {}", Variable::Boot(number))?,
-        Err(_) => writeln!(out, "{variable}")?,
+        _ => write_number(out, variable, value),
     }
     Ok(())
+}
+
+/// Writes the line of a variable whose value is a number.
+fn write_number(out: &mut Growing, variable: Variable, value: &[u8]) {
+    match read_number(value) {
+        Ok(seconds) if variable == Variable::Timeout => write_timeout(out, seconds),
+        Ok(number) => write_named(out, variable, number),
+        Err(_) => write_variable(out, "", variable, "\n"),
+    }
 }
 
 /// Replaces a file by writing a new file next to it and renaming that file, so that any failure
@@ -108,7 +109,7 @@ fn write_value(
 fn replace_file(rt: &HostRuntime, path: &str, bytes: &[u8], is_new: bool) -> io::Result<()> {
     let mode = if is_new { 0o666 } else { 0o600 };
     for number in 0..=u16::MAX {
-        let made = format!(in rt.alloc(); "{path}.new{number}")?;
+        let made = text_shown(rt.alloc(), &format_args!("{path}.new{number}"))?;
         let made = made.as_str();
         // Only a file that this call creates is written and renamed, never one that a link names.
         let mut options = OpenOptions::new();
@@ -153,6 +154,20 @@ fn write_and_rename(
     fs::rename(rt, made, path)
 }
 
+/// Returns the bytes before the value in the bytes of a file, or those that belong there if the file ends within
+/// them.
+fn start_in<'b>(source: &Source, bytes: &'b [u8]) -> &'b [u8] {
+    match attributes_len(source.variable, source.has_guid, bytes) {
+        Some(len) => bytes.get(..len).unwrap_or(&[]),
+        None => &VARIABLE_ATTRIBUTES,
+    }
+}
+
+/// Reports that a file can't be read.
+fn refuse_unread(rt: &HostRuntime, path: &str, cause: &str) -> End {
+    refuse(rt, UNREADABLE, &["cannot read ", path, ": ", cause])
+}
+
 /// Waits until the names of a directory's files are on the disk.
 fn sync_directory(rt: &HostRuntime, path: &str) -> io::Result<()> {
     fs::open(rt, path)?.sync_all()
@@ -175,70 +190,69 @@ fn write_at_once(rt: &HostRuntime, path: &str, bytes: &[u8], is_new: bool) -> io
 
 impl<'a> Machine<'a> {
     /// Adds the line of a step, and the value of the variable after the step.
-    fn describe(&self, out: &mut String, step: &Step) -> Result<(), End> {
-        let (alloc, variable) = (self.rt.alloc(), changed(self.kind, step.variable));
-        match &step.value {
-            Some(value) => {
-                let verb = if self.is_dry_run {
-                    "would write "
-                } else {
-                    "wrote "
-                };
-                out.push_str(verb)?;
-                write_value(out, alloc, self.kind, variable, value)
-            }
-            None => {
-                let verb = if self.is_dry_run {
-                    "would delete"
-                } else {
-                    "deleted"
-                };
-                writeln!(out, "{verb} {variable}")?;
-                Ok(())
-            }
-        }
+    fn describe(&self, out: &mut Growing, step: &Step) -> Result<(), AllocError> {
+        let variable = changed(self.kind, step.variable);
+        let Some(value) = &step.value else {
+            let verb = if self.is_dry_run {
+                "would delete "
+            } else {
+                "deleted "
+            };
+            write_variable(out, verb, variable, "\n");
+            return Ok(());
+        };
+        out.add(&[if self.is_dry_run {
+            "would write "
+        } else {
+            "wrote "
+        }]);
+        write_value(out, self.rt.alloc(), self.kind, variable, value)
     }
 
     /// Returns the file to write a variable to.
     fn target(&self, variable: Variable) -> Result<Target, End> {
-        let alloc = self.rt.alloc();
-        let Some(source) = self.variables.find(variable) else {
-            // A folder without variables is treated as a folder of Linux.
-            let has_guid = match self.variables.sources.first() {
-                Some(source) => source.has_guid,
-                None => true,
-            };
-            return Ok(Target {
-                path: file_in(alloc, self.folder, variable, has_guid)?,
-                attributes: if has_guid { &VARIABLE_ATTRIBUTES } else { &[] },
-                kept: Vec::new(alloc),
-                is_new: true,
-            });
+        match self.variables.find(variable) {
+            Some(source) => self.present_target(&source),
+            None => Ok(self.new_target(variable)?),
+        }
+    }
+
+    /// Returns the file to write a new variable to.
+    fn new_target(&self, variable: Variable) -> Result<Target, AllocError> {
+        // A folder without variables is treated as a folder of Linux.
+        let has_guid = match self.variables.sources.first() {
+            Some(source) => source.has_guid,
+            None => true,
         };
-        let path = self.variables.path_of(&source)?;
-        let mut buffer = [0; MOST_READ];
-        let bytes = match self.variables.read_all(&source, &mut buffer)? {
-            Content::Unreadable(cause) => {
-                let message = format_args!("cannot read {path}: {cause}");
-                return Err(refuse(self.rt, UNREADABLE, message));
-            }
-            Content::Bytes(bytes) => bytes,
-            Content::TooShort(_) => &[],
-        };
-        let (attributes, kept): (&'static [u8], &[u8]) = match attributes_len(
-            variable,
-            source.has_guid,
-            bytes,
-        ) {
-            Some(len) => (&[], bytes.get(..len).unwrap_or(&[])),
-            None => (&VARIABLE_ATTRIBUTES, &[]),
-        };
+        let start: &[u8] = if has_guid { &VARIABLE_ATTRIBUTES } else { &[] };
+        Ok(Target {
+            path: file_in(self.rt.alloc(), self.folder, variable, has_guid)?,
+            start: Vec::from_slice(self.rt.alloc(), start)?,
+            is_new: true,
+        })
+    }
+
+    /// Returns the file of a variable that is set.
+    fn present_target(&self, source: &Source) -> Result<Target, End> {
+        let path = self.variables.path_of(source)?;
+        let start = self.kept_start(source, path.as_str())?;
         Ok(Target {
             path,
-            attributes,
-            kept: Vec::from_slice(alloc, kept)?,
+            start,
             is_new: false,
         })
+    }
+
+    /// Returns the bytes before the value in a file.
+    fn kept_start(&self, source: &Source, path: &str) -> Result<Vec<u8>, End> {
+        let mut buffer = [0; MOST_READ];
+        match self.variables.read_all(source, &mut buffer)? {
+            Content::Unreadable(cause) => Err(refuse_unread(self.rt, path, cause.as_str())),
+            Content::Bytes(bytes) => {
+                Ok(Vec::from_slice(self.rt.alloc(), start_in(source, bytes))?)
+            }
+            Content::TooShort(_) => Ok(Vec::from_slice(self.rt.alloc(), start_in(source, &[]))?),
+        }
     }
 
     /// Takes a step.
@@ -247,11 +261,9 @@ impl<'a> Machine<'a> {
         let Some(value) = &step.value else {
             return fs::remove_file(self.rt, path);
         };
-        let len = target.attributes.len().saturating_add(target.kept.len());
-        let len = len.saturating_add(value.len());
+        let len = target.start.len().saturating_add(value.len());
         let mut bytes = Vec::with_capacity(self.rt.alloc(), len)?;
-        bytes.extend_from_slice(target.attributes)?;
-        bytes.extend_from_slice(&target.kept)?;
+        bytes.extend_from_slice(&target.start)?;
         bytes.extend_from_slice(value)?;
         if is_efivarfs {
             write_at_once(self.rt, path, &bytes, target.is_new)
@@ -363,34 +375,37 @@ impl<'a> Machine<'a> {
         }
     }
 
-    /// Reports the failed step and its error, the steps before it, and the steps that were skipped.
-    fn fail(&self, failure: &Failure, plan: &[Step], is_efivarfs: bool) -> Result<End, End> {
-        let Failure { path, error, .. } = failure;
-        let mut message = String::new(self.rt.alloc());
-        write!(message, "cannot change {path}: {error}")?;
-        match error.raw_os_error() {
+    /// Adds what to do about an error.
+    fn add_advice(&self, message: &mut Growing, failure: &Failure, is_efivarfs: bool) {
+        match failure.error.raw_os_error() {
             Some(EPERM) if is_efivarfs => {
-                write!(message, "\nLinux protects the file: type chattr -i {path}")?;
+                let what = "\nLinux protects the file: type chattr -i ";
+                message.add(&[what, failure.path.as_str()]);
             }
-            Some(EACCES) => message.push_str(" (run as root?)")?,
-            Some(EROFS) => {
-                let folder = self.folder;
-                write!(message, " (type mount -o remount,rw {folder})")?;
-            }
+            Some(EACCES) => message.add(&[" (run as root?)"]),
+            Some(EROFS) => message.add(&[" (type mount -o remount,rw ", self.folder, ")"]),
             _ => {}
         }
         if failure.is_for_room() && is_efivarfs {
-            write!(message, "\n{FREED_AT_BOOT}")?;
+            message.add(&["\n", FREED_AT_BOOT]);
         }
+    }
+
+    /// Reports the failed step and its error, the steps before it, and the steps that were skipped.
+    fn fail(&self, failure: &Failure, plan: &[Step], is_efivarfs: bool) -> Result<End, AllocError> {
+        let mut message = Growing::new(self.rt.alloc());
+        message.add(&["cannot change ", failure.path.as_str(), ": "]);
+        message.show(&failure.error);
+        self.add_advice(&mut message, failure, is_efivarfs);
         for (place, step) in plan.iter().enumerate() {
-            let variable = changed(self.kind, step.variable);
-            let what = if place < failure.place {
-                "changed"
+            let is_changed = place < failure.place;
+            let what = if is_changed {
+                "\nchanged: "
             } else {
-                "not changed"
+                "\nnot changed: "
             };
-            write!(message, "\n{what}: {variable}")?;
+            write_variable(&mut message, what, changed(self.kind, step.variable), "");
         }
-        Ok(refuse(self.rt, UNWRITTEN, format_args!("{message}")))
+        Ok(refuse(self.rt, UNWRITTEN, &[message.so_far()?]))
     }
 }

@@ -1,16 +1,17 @@
 //! Reports faults that would make firmware or the machine fail.
 use crate::command_line::arguments::Words;
-use crate::files::program_ends::{End, MALFORMED, Output, UNREADABLE};
+use crate::files::program_ends::{End, Output, status_of_listing};
 use crate::files::variables::{
-    Content, MOST_READ, OWN, PassedOver, Source, Variable, Variables, unreadable,
+    Content, MOST_READ, OWN, PassedOver, Source, Variable, Variables, path_below, unreadable,
 };
 use crate::output::boot_manager::Head;
-use crate::output::entry::{File, Shown};
+use crate::output::entry::{File, Shown, list_start};
+use crate::output::growing_texts::{Growing, joined, text_shown};
 use crate::partitions::DISKS;
 use crate::{Form, to_json};
 use serde::Serialize;
+use std::alloc::{AllocError, Global};
 use std::collections::BTreeMap;
-use std::fmt::Write;
 use std::{fs, io};
 use uefi_boot_variables::LoadOptionKind;
 use uefi_device_path::media::HardDrive;
@@ -34,6 +35,22 @@ struct Fault<'a> {
     offset: Option<usize>,
     unreadable: bool,
     reason: &'a str,
+}
+
+impl<'a> Fault<'a> {
+    /// Writes the line of the fault.
+    fn write(&self, out: &mut Growing) {
+        out.add(&[self.name.as_str(), ": "]);
+        match self.offset {
+            Some(offset) => {
+                out.add(&["offset "]);
+                out.show(&offset);
+            }
+            None if self.unreadable => out.add(&["cannot be read"]),
+            None => out.add(&["passed over"]),
+        }
+        out.add(&[": ", self.reason, "\n"]);
+    }
 }
 
 /// The report so far.
@@ -60,77 +77,72 @@ fn is_control(unit: u16) -> bool {
 }
 
 impl<'a> Check<'a> {
-    /// Adds a fault to the list in JSON, one on a line.
+    /// Adds a fault to the list in JSON, one on a line, or writes its line.
     fn list(&mut self, fault: &Fault<'_>) -> Result<(), End> {
-        let text = to_json(self.rt.alloc(), fault)?;
-        self.out
-            .text
-            .push_str(if self.is_first { "\n" } else { ",\n" })?;
-        self.is_first = false;
-        self.out.text.push_str(text.as_str())?;
+        if self.form == Form::Json {
+            let text = to_json(self.rt.alloc(), fault)?;
+            let between = if self.is_first { "\n" } else { ",\n" };
+            self.is_first = false;
+            self.out.text.add(&[between]);
+            self.out.text.add(&[text.as_str()]);
+        } else {
+            fault.write(&mut self.out.text);
+        }
         self.out.flush()
     }
 
-    /// Reports a fault of a variable at an offset.
-    fn report(&mut self, variable: Variable, offset: usize, sentence: &str) -> Result<(), End> {
+    /// Reports a fault of a variable at an offset, in a sentence in parts.
+    fn report(&mut self, variable: Variable, offset: usize, sentence: &[&str]) -> Result<(), End> {
         self.is_well = false;
-        if self.form == Form::Json {
-            let name = format!(in self.rt.alloc(); "{variable}")?;
-            let fault = Fault {
-                name,
-                offset: Some(offset),
-                unreadable: false,
-                reason: sentence,
-            };
-            return self.list(&fault);
-        }
-        writeln!(self.out.text, "{variable}: offset {offset}: {sentence}")?;
-        self.out.flush()
+        let reason = joined(self.rt.alloc(), sentence)?;
+        self.list(&Fault {
+            name: text_shown(self.rt.alloc(), &variable)?,
+            offset: Some(offset),
+            unreadable: false,
+            reason: reason.as_str(),
+        })
+    }
+
+    /// Reports a fault of a variable in a sentence that names another variable.
+    fn report_other(
+        &mut self,
+        variable: Variable,
+        offset: usize,
+        before: &str,
+        other: Variable,
+        after: &str,
+    ) -> Result<(), End> {
+        let other = text_shown(self.rt.alloc(), &other)?;
+        self.report(variable, offset, &[before, other.as_str(), after])
     }
 
     /// Reports a variable that can't be read.
     fn report_unreadable(&mut self, variable: Variable, cause: &String) -> Result<(), End> {
         self.is_read = false;
-        if self.form == Form::Json {
-            let name = format!(in self.rt.alloc(); "{variable}")?;
-            let fault = Fault {
-                name,
-                offset: None,
-                unreadable: true,
-                reason: cause.as_str(),
-            };
-            return self.list(&fault);
-        }
-        writeln!(self.out.text, "{variable}: cannot be read: {cause}")?;
-        self.out.flush()
+        self.list(&Fault {
+            name: text_shown(self.rt.alloc(), &variable)?,
+            offset: None,
+            unreadable: true,
+            reason: cause.as_str(),
+        })
     }
 
     /// Reports a file that is not read.
     fn report_skipped(&mut self, skipped: &PassedOver) -> Result<(), End> {
         self.is_well = false;
-        if self.form == Form::Json {
-            let name = skipped.file.clone()?;
-            let fault = Fault {
-                name,
-                offset: None,
-                unreadable: false,
-                reason: skipped.reason,
-            };
-            return self.list(&fault);
-        }
-        writeln!(
-            self.out.text,
-            "{}: passed over: {}",
-            skipped.file, skipped.reason
-        )?;
-        self.out.flush()
+        self.list(&Fault {
+            name: skipped.file.clone()?,
+            offset: None,
+            unreadable: false,
+            reason: skipped.reason,
+        })
     }
 
     /// Checks the variables that are not entries.
     fn check_head(&mut self, head: &Head) -> Result<(), End> {
         for it in &head.silent {
             if it.is_malformed {
-                self.report(it.variable, it.offset, it.reason.as_str())?;
+                self.report(it.variable, it.offset, &[it.reason.as_str()])?;
             } else {
                 self.report_unreadable(it.variable, &it.reason)?;
             }
@@ -142,8 +154,7 @@ impl<'a> Check<'a> {
         if let Some(number) = head.boot_next {
             let variable = Variable::Boot(number);
             if self.variables.find(variable).is_none() {
-                let sentence = format!(in self.rt.alloc(); "{variable} is not set")?;
-                self.report(Variable::BootNext, 0, sentence.as_str())?;
+                self.report_other(Variable::BootNext, 0, "", variable, " is not set")?;
             }
         }
         Ok(())
@@ -164,15 +175,14 @@ impl<'a> Check<'a> {
             let variable = Variable::of_kind(kind, *number);
             let offset = place.saturating_mul(2);
             let what = if is_seen[usize::from(*number)] {
-                "stands twice"
+                " stands twice"
             } else if self.variables.find(variable).is_none() {
-                "is not set"
+                " is not set"
             } else {
                 ""
             };
             if !what.is_empty() {
-                let sentence = format!(in self.rt.alloc(); "{variable} {what}")?;
-                self.report(order, offset, sentence.as_str())?;
+                self.report_other(order, offset, "", variable, what)?;
             }
             is_seen[usize::from(*number)] = true;
         }
@@ -189,10 +199,9 @@ impl<'a> Check<'a> {
         for (place, unit) in units.iter().enumerate() {
             if is_control(unit) && place.saturating_add(1) < units.len() {
                 let offset = place.saturating_mul(2).saturating_add(6);
-                let sentence = format!(in self.rt.alloc();
-                    "the description has the control character U+{unit:04X}"
-                )?;
-                self.report(variable, offset, sentence.as_str())?;
+                let digits = text_shown(self.rt.alloc(), &format_args!("{unit:04X}"))?;
+                let what = "the description has the control character U+";
+                self.report(variable, offset, &[what, digits.as_str()])?;
             }
         }
         Ok(())
@@ -210,16 +219,12 @@ impl<'a> Check<'a> {
         key.extend_from_slice(paths)?;
         key.extend_from_slice(option.optional_data())?;
         if let Some(other) = self.seen.get(&key) {
-            let other = Variable::Boot(*other);
-            let offset = option
-                .description_units()
-                .len()
-                .saturating_mul(2)
-                .saturating_add(6);
-            let sentence = format!(in self.rt.alloc();
-                "it has the device paths and the data of {other}"
-            )?;
-            return self.report(variable, offset, sentence.as_str());
+            let (offset, other) = (
+                list_start(option.description_units()),
+                Variable::Boot(*other),
+            );
+            let what = "it has the device paths and the data of ";
+            return self.report_other(variable, offset, what, other, "");
         }
         self.seen.insert(key, number)?;
         Ok(())
@@ -242,63 +247,70 @@ impl<'a> Check<'a> {
         let Ok(drive) = HardDrive::from_node(node) else {
             return Ok(());
         };
-        let link = match drive.partition_guid() {
-            Some(guid) => format!(in self.rt.alloc(); "{guid}")?.to_ascii_lowercase(
-                self.rt.alloc(),
-            )?,
-            None => {
-                let [a, b, c, d, ..] = drive.partition_signature();
-                let signature = u32::from_le_bytes([a, b, c, d]);
-                let number = drive.partition_number();
-                format!(in self.rt.alloc(); "{signature:08x}-{number:02x}")?
-            }
-        };
-        let path = format!(in self.rt.alloc(); "{disks}/{link}")?;
+        let link = link_of(self.rt.alloc(), drive)?;
+        let path = path_below(self.rt.alloc(), disks, link.as_str())?;
         if fs::metadata(self.rt, path.as_str()).is_ok() {
             return Ok(());
         }
-        let offset = option
-            .description_units()
-            .len()
-            .saturating_mul(2)
-            .saturating_add(6);
-        let sentence = format!(in self.rt.alloc(); "no disk here has the partition {link}")?;
-        self.report(variable, offset, sentence.as_str())
+        let offset = list_start(option.description_units());
+        self.report(
+            variable,
+            offset,
+            &["no disk here has the partition ", link.as_str()],
+        )
     }
 
     /// Checks a file that an entry names.
     fn check_file(&mut self, variable: Variable, file: &File) -> Result<(), End> {
         let path = &file.path;
         if let Some(reason) = &file.refused {
-            let sentence = format!(in self.rt.alloc(); "{path}: {reason}")?;
-            return self.report(variable, file.offset, sentence.as_str());
+            let sentence = [path.as_str(), ": ", reason.as_str()];
+            return self.report(variable, file.offset, &sentence);
         }
         let Some(esp) = self.esp else {
             return Ok(());
         };
         let relative = path.replace(self.rt.alloc(), "\\", "/")?;
-        let there = format!(in self.rt.alloc(); "{esp}/{relative}")?;
+        let there = path_below(self.rt.alloc(), esp, relative.as_str())?;
         if fs::metadata(self.rt, there.as_str()).is_ok() {
             return Ok(());
         }
-        let sentence = format!(in self.rt.alloc(); "{path} is not in {esp}")?;
-        self.report(variable, file.offset, sentence.as_str())
+        self.report_absent(variable, file.offset, path.as_str(), esp)
+    }
+
+    /// Reports a file that is not in a directory.
+    fn report_absent(
+        &mut self,
+        variable: Variable,
+        offset: usize,
+        path: &str,
+        directory: &str,
+    ) -> Result<(), End> {
+        self.report(variable, offset, &[path, " is not in ", directory])
+    }
+
+    /// Checks that firmware with the common limit keeps an entry.
+    fn check_size(&mut self, variable: Variable, len: usize) -> Result<(), End> {
+        let limit = common_limit(text_shown(self.rt.alloc(), &variable)?.as_str());
+        if len <= limit {
+            return Ok(());
+        }
+        let sentence = text_shown(
+            self.rt.alloc(),
+            &format_args!(
+                "the entry has {len} bytes, and some firmware keeps no more than {limit}"
+            ),
+        )?;
+        self.report(variable, limit, &[sentence.as_str()])
     }
 
     /// Checks an entry.
     fn check_entry(&mut self, variable: Variable, bytes: &[u8]) -> Result<(), End> {
         let shown = Shown::of_entry(self.rt.alloc(), bytes)?;
         if let Some(fault) = &shown.malformed {
-            self.report(variable, fault.offset, fault.reason.as_str())?;
+            self.report(variable, fault.offset, &[fault.reason.as_str()])?;
         }
-        let len = bytes.len();
-        let limit = common_limit(format!(in self.rt.alloc(); "{variable}")?.as_str());
-        if limit < len {
-            let sentence = format!(in self.rt.alloc();
-                "the entry has {len} bytes, and some firmware keeps no more than {limit}"
-            )?;
-            self.report(variable, limit, sentence.as_str())?;
-        }
+        self.check_size(variable, bytes.len())?;
         for file in &shown.files {
             self.check_file(variable, file)?;
         }
@@ -319,16 +331,55 @@ impl<'a> Check<'a> {
         }
         match self.variables.read(source, buffer)? {
             Content::Bytes(bytes) => self.check_entry(variable, bytes),
-            Content::TooShort(reason) => self.report(variable, 0, reason),
+            Content::TooShort(reason) => self.report(variable, 0, &[reason]),
             Content::Unreadable(cause) => self.report_unreadable(variable, &cause),
         }
     }
+
+    /// Checks all variables and files.
+    fn check_all(&mut self) -> Result<(), End> {
+        if self.form == Form::Json {
+            self.out.text.add(&["{\"faults\":["]);
+        }
+        let variables = self.variables;
+        let mut buffer = [0; MOST_READ];
+        let head = Head::of(self.rt.alloc(), variables, &mut buffer)?;
+        self.check_head(&head)?;
+        for source in &variables.sources {
+            self.check_source(source, &mut buffer)?;
+        }
+        for it in &variables.passed_over {
+            self.report_skipped(it)?;
+        }
+        if self.form == Form::Json {
+            self.out.text.add(&["\n]}\n"]);
+        }
+        self.out.flush()
+    }
 }
 
-/// Returns a path if it is that of a directory, and rejects it otherwise.
-fn directory<'a>(rt: &HostRuntime, path: &'a str) -> Result<&'a str, End> {
+/// Returns the name of the link to the partition of a node.
+fn link_of(alloc: Global, drive: HardDrive<'_>) -> Result<String, AllocError> {
+    if let Some(guid) = drive.partition_guid() {
+        return text_shown(alloc, &guid)?.to_ascii_lowercase(alloc);
+    }
+    let [a, b, c, d, ..] = drive.partition_signature();
+    let signature = u32::from_le_bytes([a, b, c, d]);
+    let number = drive.partition_number();
+    format!(in alloc; "{signature:08x}-{number:02x}")
+}
+
+/// Returns the value of an option if it is given, and rejects it if it is not a directory.
+fn directory<'a>(
+    rt: &HostRuntime,
+    words: &Words<'a>,
+    option: &str,
+) -> Result<Option<&'a str>, End> {
+    let Some(path) = words.value(option) else {
+        return Ok(None);
+    };
     match fs::metadata(rt, path) {
-        Ok(found) if found.is_dir() => Ok(path),
+        Ok(found) if found.is_dir() => Ok(Some(path)),
         Ok(_) => {
             let error = io::Error::from(io::ErrorKind::NotADirectory);
             Err(unreadable(rt, path, &error))
@@ -344,15 +395,11 @@ pub(crate) fn run<'a>(
     folder: &str,
     variables: &'a Variables<'a>,
 ) -> Result<u8, End> {
-    let disks = match words.value("--disks") {
-        Some(disks) => Some(directory(rt, disks)?),
-        None if folder == OWN && fs::metadata(rt, DISKS).is_ok() => Some(DISKS),
-        None => None,
-    };
-    let esp = match words.value("--esp") {
-        Some(esp) => Some(directory(rt, esp)?),
-        None => None,
-    };
+    let mut disks = directory(rt, words, "--disks")?;
+    if disks.is_none() && folder == OWN && fs::metadata(rt, DISKS).is_ok() {
+        disks = Some(DISKS);
+    }
+    let esp = directory(rt, words, "--esp")?;
     let mut check = Check {
         rt,
         out: Output::new(rt),
@@ -369,27 +416,6 @@ pub(crate) fn run<'a>(
         is_well: true,
         is_read: true,
     };
-    if check.form == Form::Json {
-        check.out.text.push_str("{\"faults\":[")?;
-    }
-    let mut buffer = [0; MOST_READ];
-    let head = Head::of(rt.alloc(), variables, &mut buffer)?;
-    check.check_head(&head)?;
-    for source in &variables.sources {
-        check.check_source(source, &mut buffer)?;
-    }
-    for it in &variables.passed_over {
-        check.report_skipped(it)?;
-    }
-    if check.form == Form::Json {
-        check.out.text.push_str("\n]}\n")?;
-    }
-    check.out.flush()?;
-    Ok(if !check.is_read {
-        UNREADABLE
-    } else if !check.is_well {
-        MALFORMED
-    } else {
-        0
-    })
+    check.check_all()?;
+    Ok(status_of_listing(check.is_read, check.is_well))
 }

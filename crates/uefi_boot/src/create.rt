@@ -1,12 +1,13 @@
 //! Creates the load option of a new entry from the words of `create`.
 use crate::command_line::arguments::Words;
 use crate::files::mounts::{find_mounted, mount_point_above};
-use crate::files::program_ends::{End, WRONG_ARGUMENTS, refuse};
+use crate::files::program_ends::{End, WRONG_ARGUMENTS, refuse, refuse_for, refuse_with};
 use crate::files::variables::{MOST_BYTES, MOST_READ, unreadable};
 use crate::output::entry::Shown;
+use crate::output::growing_texts::joined;
 use crate::partitions::{GPT, Located, by_guid, by_number, on_disk};
 use crate::{buses, fill};
-use std::alloc::Global;
+use std::alloc::{AllocError, Global};
 use std::fs;
 use uefi_device_path::build::media::HardDrive;
 use uefi_device_path::{DevicePathBuf, Guid, LoadOptionBuilder, OptionBuildError, PathTextError};
@@ -15,8 +16,7 @@ use uefi_text::{CString16, FromStrError};
 
 /// Refuses the value of an option.
 fn refuse_value(rt: &HostRuntime, option: &str, value: &str, wanted: &str) -> End {
-    let message = format_args!("{option} {value}: not {wanted}");
-    refuse(rt, WRONG_ARGUMENTS, message)
+    refuse(rt, WRONG_ARGUMENTS, &[option, " ", value, ": not ", wanted])
 }
 
 /// Converts a text to a string of firmware.
@@ -24,10 +24,7 @@ pub(crate) fn string(rt: &HostRuntime, option: &str, text: &str) -> Result<CStri
     match CString16::try_from_str(rt.alloc(), text) {
         Ok(string) => Ok(string),
         Err(FromStrError::OutOfMemory) => Err(End::OutOfMemory),
-        Err(error) => {
-            let message = format_args!("{option} {text}: {error}");
-            Err(refuse(rt, WRONG_ARGUMENTS, message))
-        }
+        Err(error) => { Err(refuse_for(rt, WRONG_ARGUMENTS, &[option, " ", text], error)) }
     }
 }
 
@@ -59,10 +56,19 @@ fn check_mount_point(rt: &HostRuntime, loader: &str) -> Result<(), End> {
         return Ok(());
     };
     let rest = loader.strip_prefix(point).unwrap_or("");
-    let message = format_args!(
-        "--loader {loader}: the path includes the mount point {point} (type --loader {rest})"
-    );
-    Err(refuse(rt, WRONG_ARGUMENTS, message))
+    Err(refuse(
+        rt,
+        WRONG_ARGUMENTS,
+        &[
+            "--loader ",
+            loader,
+            ": the path includes the mount point ",
+            point,
+            " (type --loader ",
+            rest,
+            ")",
+        ],
+    ))
 }
 
 /// Rejects the path of a loader from which a shell has removed the backslashes.
@@ -71,11 +77,15 @@ fn check_separators(rt: &HostRuntime, loader: &str) -> Result<(), End> {
     if !is_joined || loader == "EFI" {
         return Ok(());
     }
-    let message = format_args!(
-        "--loader {loader}: the path has no separator \
-         (the shell removes backslashes: type slashes, such as /EFI/debian/shimx64.efi)"
-    );
-    Err(refuse(rt, WRONG_ARGUMENTS, message))
+    Err(refuse(
+        rt,
+        WRONG_ARGUMENTS,
+        &[
+            "--loader ",
+            loader,
+            ": the path has no separator (the shell removes backslashes: type slashes, such as /EFI/debian/shimx64.efi)",
+        ],
+    ))
 }
 
 /// Returns the path of a file on a partition, after the path of the disk if that is requested.
@@ -100,11 +110,7 @@ fn path_to(
     }
     match path.push_file(Path::new(name.as_cstr16())) {
         Ok(()) => Ok(path),
-        Err(error) => Err(refuse(
-            rt,
-            WRONG_ARGUMENTS,
-            format_args!("--loader {loader}: {error}"),
-        )),
+        Err(error) => Err(refuse_for(rt, WRONG_ARGUMENTS, &["--loader ", loader], error)),
     }
 }
 
@@ -112,10 +118,11 @@ fn path_to(
 fn partition_number(rt: &HostRuntime, words: &Words<'_>) -> Result<u32, End> {
     match u32::try_from(number(rt, words, "--partition")?) {
         Ok(0) => {
-            let message = format_args!(
-                "create needs --partition, the number of the partition, from 1 on"
-            );
-            Err(refuse(rt, WRONG_ARGUMENTS, message))
+            Err(refuse(
+                rt,
+                WRONG_ARGUMENTS,
+                &["create needs --partition, the number of the partition, from 1 on"],
+            ))
         }
         Ok(number) => Ok(number),
         Err(_) => {
@@ -149,21 +156,28 @@ fn given_partition(rt: &HostRuntime, words: &Words<'_>, guid: &str) -> Result<Lo
     })
 }
 
+/// Reports that firmware can't read the file system of a loader.
+fn refuse_kind(rt: &HostRuntime, loader: &str, kind: &str) -> End {
+    let kind = if kind.is_empty() {
+        "its file system"
+    } else {
+        kind
+    };
+    let what = " (copy the loader to the EFI system partition, or add --force)";
+    refuse(
+        rt,
+        WRONG_ARGUMENTS,
+        &["--loader ", loader, ": firmware cannot read ", kind, what],
+    )
+}
+
 /// Returns the path of a file on the partition on which it is mounted.
 fn path_of_file(rt: &HostRuntime, words: &Words<'_>, loader: &str) -> Result<DevicePathBuf, End> {
     let file = find_mounted(rt, loader)?;
     if file.kind.as_str() != "vfat" && !words.has("--force") {
-        let kind = match file.kind.as_str() {
-            "" => "its file system",
-            kind => kind,
-        };
-        let message = format_args!(
-            "--loader {loader}: firmware cannot read {kind} \
-             (copy the loader to the EFI system partition, or add --force)"
-        );
-        return Err(refuse(rt, WRONG_ARGUMENTS, message));
+        return Err(refuse_kind(rt, loader, file.kind.as_str()));
     }
-    let given = format!(in rt.alloc(); "--loader {loader}")?;
+    let given = joined(rt.alloc(), &["--loader ", loader])?;
     let partition = by_number(rt, given.as_str(), file.device.as_str())?;
     path_to(rt, words, &partition, file.path.as_str())
 }
@@ -171,8 +185,11 @@ fn path_of_file(rt: &HostRuntime, words: &Words<'_>, loader: &str) -> Result<Dev
 /// Returns the device path of the loader that the words name.
 fn path_of_loader(rt: &HostRuntime, words: &Words<'_>) -> Result<DevicePathBuf, End> {
     let Some(loader) = words.value("--loader") else {
-        let message = format_args!("create needs --loader FILE or --path PATH");
-        return Err(refuse(rt, WRONG_ARGUMENTS, message));
+        return Err(refuse(
+            rt,
+            WRONG_ARGUMENTS,
+            &["create needs --loader FILE or --path PATH"],
+        ));
     };
     let partition = match (words.value("--partuuid"), words.value("--disk")) {
         (None, None) => return path_of_file(rt, words, loader),
@@ -205,7 +222,7 @@ fn check_options(rt: &HostRuntime, words: &Words<'_>) -> Result<(), End> {
     ] {
         let is_given = words.has(option) || words.value(option).is_some();
         if !is_used && is_given {
-            return Err(refuse(rt, WRONG_ARGUMENTS, format_args!("{option} needs {wanted}")));
+            return Err(refuse(rt, WRONG_ARGUMENTS, &[option, " needs ", wanted]));
         }
     }
     Ok(())
@@ -227,12 +244,12 @@ fn path_of(rt: &HostRuntime, words: &Words<'_>) -> Result<DevicePathBuf, End> {
     match DevicePathBuf::from_lenient_text(rt.alloc(), text) {
         Ok(path) => Ok(path),
         Err(PathTextError::OutOfMemory) => Err(End::OutOfMemory),
-        Err(error) => Err(refuse(rt, WRONG_ARGUMENTS, format_args!("--path {text}: {error}"))),
+        Err(error) => Err(refuse_for(rt, WRONG_ARGUMENTS, &["--path ", text], error)),
     }
 }
 
 /// Reads bytes from pairs of hexadecimal digits.
-fn read_bytes(alloc: Global, text: &str) -> Result<Option<Vec<u8>>, End> {
+fn read_bytes(alloc: Global, text: &str) -> Result<Option<Vec<u8>>, AllocError> {
     let digits = text.as_bytes();
     let mut bytes = Vec::new(alloc);
     if digits.len() % 2 != 0 {
@@ -274,7 +291,7 @@ fn file_bytes(rt: &HostRuntime, file: &str) -> Result<Vec<u8>, End> {
         let message = format_args!(
             "--data-file {file}: more than {MOST_BYTES} bytes, which no variable holds"
         );
-        return Err(refuse(rt, WRONG_ARGUMENTS, message));
+        return Err(refuse_with(rt, WRONG_ARGUMENTS, message));
     }
     Ok(Vec::from_slice(rt.alloc(), &buffer[..count])?)
 }
@@ -293,27 +310,42 @@ pub(crate) fn index_of(rt: &HostRuntime, words: &Words<'_>) -> Result<Option<usi
     Ok(Some(usize::try_from(index).unwrap_or(usize::MAX)))
 }
 
+/// Returns bytes in UTF-16.
+fn utf16_bytes(alloc: Global, text: &str) -> Result<Vec<u8>, AllocError> {
+    let mut bytes = Vec::new(alloc);
+    for unit in text.encode_utf16() {
+        bytes.extend_from_slice(&unit.to_le_bytes())?;
+    }
+    Ok(bytes)
+}
+
+/// Returns the bytes of an option in ASCII.
+fn ascii_bytes(rt: &HostRuntime, text: &str) -> Result<Vec<u8>, End> {
+    if !text.is_ascii() {
+        return Err(refuse_value(rt, "--data-ascii", text, "ASCII"));
+    }
+    Ok(Vec::from_slice(rt.alloc(), text.as_bytes())?)
+}
+
+/// Returns the bytes of an option in hexadecimal.
+fn hexadecimal_bytes(rt: &HostRuntime, text: &str) -> Result<Vec<u8>, End> {
+    match read_bytes(rt.alloc(), text)? {
+        Some(bytes) => Ok(bytes),
+        None => Err(refuse_value(rt, "--data-hex", text, "bytes in hexadecimal")),
+    }
+}
+
 /// Returns the optional data of the new entry.
 fn data_of(rt: &HostRuntime, words: &Words<'_>) -> Result<Vec<u8>, End> {
-    let alloc = rt.alloc();
-    let mut data = Vec::new(alloc);
+    let mut data = Vec::new(rt.alloc());
     if let Some(text) = words.value("--data") {
-        for unit in text.encode_utf16() {
-            data.push((unit % 256) as u8)?;
-            data.push((unit / 256) as u8)?;
-        }
+        data.extend_from_slice(&utf16_bytes(rt.alloc(), text)?)?;
     }
     if let Some(text) = words.value("--data-ascii") {
-        if !text.is_ascii() {
-            return Err(refuse_value(rt, "--data-ascii", text, "ASCII"));
-        }
-        data.extend_from_slice(text.as_bytes())?;
+        data.extend_from_slice(&ascii_bytes(rt, text)?)?;
     }
     if let Some(text) = words.value("--data-hex") {
-        match read_bytes(alloc, text)? {
-            Some(bytes) => data.extend_from_slice(&bytes)?,
-            None => return Err(refuse_value(rt, "--data-hex", text, "bytes in hexadecimal")),
-        }
+        data.extend_from_slice(&hexadecimal_bytes(rt, text)?)?;
     }
     if let Some(file) = words.value("--data-file") {
         data.extend_from_slice(&file_bytes(rt, file)?)?;
@@ -322,8 +354,16 @@ fn data_of(rt: &HostRuntime, words: &Words<'_>) -> Result<Vec<u8>, End> {
 }
 
 fn refuse_path(rt: &HostRuntime, path: &str, reason: &String) -> End {
-    let message = format_args!("{path}: {reason} (to create the entry anyway, add --force)");
-    refuse(rt, WRONG_ARGUMENTS, message)
+    refuse(
+        rt,
+        WRONG_ARGUMENTS,
+        &[
+            path,
+            ": ",
+            reason.as_str(),
+            " (to create the entry anyway, add --force)",
+        ],
+    )
 }
 
 /// Rejects an entry with a path that firmware rejects.
@@ -343,8 +383,11 @@ fn check_paths(rt: &HostRuntime, words: &Words<'_>, option: &[u8]) -> Result<(),
 /// Returns the bytes of the new entry.
 pub(crate) fn option_of(rt: &HostRuntime, words: &Words<'_>) -> Result<Vec<u8>, End> {
     let Some(text) = words.value("--description") else {
-        let message = format_args!("create needs --description, the name to show in the boot menu");
-        return Err(refuse(rt, WRONG_ARGUMENTS, message));
+        return Err(refuse(
+            rt,
+            WRONG_ARGUMENTS,
+            &["create needs --description, the name to show in the boot menu"],
+        ));
     };
     let description = string(rt, "--description", text)?;
     let path = path_of(rt, words)?;
@@ -360,6 +403,6 @@ pub(crate) fn option_of(rt: &HostRuntime, words: &Words<'_>) -> Result<Vec<u8>, 
             Ok(bytes)
         }
         Err(OptionBuildError::OutOfMemory) => Err(End::OutOfMemory),
-        Err(error) => Err(refuse(rt, WRONG_ARGUMENTS, format_args!("create: {error}"))),
+        Err(error) => Err(refuse_for(rt, WRONG_ARGUMENTS, &["create"], error)),
     }
 }

@@ -1,13 +1,16 @@
 //! Takes the options of efibootmgr 17 and prints what it prints, for scripts that call it by its name. Each
 //! change is made by the command of this program that does the same.
 use crate::command_line::arguments::{Verb, is_option};
-use crate::files::program_ends::{End, Output, WRONG_ARGUMENTS, refuse};
+use crate::files::program_ends::{
+    End, Output, WRONG_ARGUMENTS, complain, print, refuse, refuse_with,
+};
 use crate::files::variables::{Content, MOST_READ, OWN, Variable, Variables, find_all, find_own};
-use crate::output::boot_manager::Head;
+use crate::output::boot_manager::{Head, write_variable};
 use crate::output::entry::Shown;
+use crate::output::growing_texts::{Growing, joined};
 use crate::verbs;
+use std::alloc::AllocError;
 use std::env;
-use std::fmt::Write;
 use uefi_boot_variables::LoadOptionKind;
 use uefi_device_path::LoadOption;
 
@@ -55,21 +58,48 @@ List or change the boot entries of this machine with the options of efibootmgr 1
 uefi_boot --help describes the program behind it. -e, -E, -m and -M are not available.
 ";
 
+/// The options that change an entry, the command that does it, and what to call it.
+const CHANGES_OF_ENTRIES: &[(char, Verb, &str)] = &[
+    ('B', Verb::Delete, "delete"),
+    ('a', Verb::Activate, "activate"),
+    ('A', Verb::Deactivate, "deactivate"),
+];
+
+/// The options that change other variables, the command that does it, and its word if that is not the option's
+/// value.
+const CHANGES: &[(char, Verb, &str)] = &[
+    ('O', Verb::Order, "none"),
+    ('o', Verb::Order, ""),
+    ('D', Verb::Order, "--unique"),
+    ('N', Verb::Next, "none"),
+    ('T', Verb::Timeout, "none"),
+    ('n', Verb::Next, ""),
+    ('t', Verb::Timeout, ""),
+];
+
 /// The options of a command line.
 #[derive(Drop)]
 struct Given<'a> {
     rt: &'a HostRuntime,
     flags: Vec<char>,
     values: Vec<(char, &'a str)>,
-    /// The words that are not options, joined by blanks.
-    text: String,
-    folder: String,
+    /// The words that are not options.
+    plain: Vec<&'a str>,
+    /// The directory of the variables.
+    folder: &'a str,
 }
 
 /// Reports an option that is not available.
 fn refuse_option(rt: &HostRuntime, option: &str) -> End {
-    let message = format_args!("efibootmgr: invalid option '{option}' (efibootmgr --help)");
-    refuse(rt, WRONG_ARGUMENTS, message)
+    refuse(
+        rt,
+        WRONG_ARGUMENTS,
+        &[
+            "efibootmgr: invalid option '",
+            option,
+            "' (efibootmgr --help)",
+        ],
+    )
 }
 
 /// Returns the letter of a long name.
@@ -128,18 +158,18 @@ impl<'a> Given<'a> {
     }
 
     /// Reads all words.
-    fn read(&mut self, words: &'a [String]) -> Result<(), End> {
+    fn read(&mut self, words: &'a [&'a str]) -> Result<(), End> {
         let (mut pending, mut are_plain) = (None, false);
         for word in words {
-            let word = word.as_str();
+            let word = *word;
             if let Some(letter) = pending {
                 self.values.push((letter, word))?;
                 pending = None;
             } else if are_plain || !is_option(word) {
-                if !self.text.is_empty() {
-                    self.text.push(' ')?;
+                // Empty words before the others add no blanks.
+                if !self.plain.is_empty() || !word.is_empty() {
+                    self.plain.push(word)?;
                 }
-                self.text.push_str(word)?;
             } else if word == "--" {
                 are_plain = true;
             } else if word.starts_with("--") {
@@ -149,11 +179,10 @@ impl<'a> Given<'a> {
             }
         }
         match pending {
-            Some(letter) => Err(refuse(
-                self.rt,
-                WRONG_ARGUMENTS,
-                format_args!("efibootmgr: option '-{letter}' needs a value"),
-            )),
+            Some(letter) => {
+                let message = format_args!("efibootmgr: option '-{letter}' needs a value");
+                Err(refuse_with(self.rt, WRONG_ARGUMENTS, message))
+            }
             None => Ok(()),
         }
     }
@@ -188,8 +217,11 @@ impl<'a> Given<'a> {
         match self.value('b') {
             Some(number) => Ok(number),
             None => {
-                let message = format_args!("efibootmgr: pass the entry to {action} with -b");
-                Err(refuse(self.rt, WRONG_ARGUMENTS, message))
+                Err(refuse(
+                    self.rt,
+                    WRONG_ARGUMENTS,
+                    &["efibootmgr: pass the entry to ", action, " with -b"],
+                ))
             }
         }
     }
@@ -197,16 +229,17 @@ impl<'a> Given<'a> {
     /// Carries out a command of this program, with the variables and the kind of entries that are given.
     fn carry_out(&self, verb: Verb, mut words: Vec<String>) -> Result<(), End> {
         let alloc = self.rt.alloc();
-        words.push(format!(in alloc; "--variables={}", self.folder)?)?;
-        let kind = match (verb, self.kind()) {
-            (Verb::Next | Verb::Timeout, _) | (_, LoadOptionKind::Boot) => None,
-            (_, LoadOptionKind::Driver) => Some("--driver"),
-            _ => Some("--sysprep"),
-        };
-        if let Some(kind) = kind {
-            words.push(String::from_str(alloc, kind)?)?;
+        words.push(joined(alloc, &["--variables=", self.folder])?)?;
+        match (verb, self.kind()) {
+            (Verb::Next | Verb::Timeout, _) | (_, LoadOptionKind::Boot) => {}
+            (_, LoadOptionKind::Driver) => words.push(String::from_str(alloc, "--driver")?)?,
+            _ => words.push(String::from_str(alloc, "--sysprep")?)?,
         }
-        verbs::run(self.rt, verb, &words, true)?;
+        let mut texts = Vec::with_capacity(alloc, words.len())?;
+        for word in &words {
+            texts.push(word.as_str())?;
+        }
+        verbs::run(self.rt, verb, &texts, true)?;
         Ok(())
     }
 
@@ -217,141 +250,175 @@ impl<'a> Given<'a> {
         self.carry_out(verb, words)
     }
 
+    /// Adds an option of `create` and its value to words, if the value is given.
+    fn add_option(
+        &self,
+        words: &mut Vec<String>,
+        option: &str,
+        value: Option<&str>,
+    ) -> Result<(), AllocError> {
+        if let Some(value) = value {
+            words.push(joined(self.rt.alloc(), &[option, value])?)?;
+        }
+        Ok(())
+    }
+
+    /// Adds what the new entry boots.
+    fn add_loader(&self, words: &mut Vec<String>) -> Result<(), AllocError> {
+        if let Some(name) = self.value('i') {
+            return self.add_option(words, "--interface=", Some(name));
+        }
+        let loader = self.value('l').unwrap_or("\\EFI\\debian\\grub.efi");
+        self.add_option(
+            words,
+            "--disk=",
+            Some(self.value('d').unwrap_or("/dev/sda")),
+        )?;
+        self.add_option(words, "--partition=", Some(self.value('p').unwrap_or("1")))?;
+        self.add_option(words, "--loader=", Some(loader))
+    }
+
+    /// Adds the optional data of the new entry.
+    fn add_data(&self, words: &mut Vec<String>) -> Result<(), AllocError> {
+        if !self.plain.is_empty() {
+            let text = self.plain.join(self.rt.alloc(), " ")?;
+            let option = if self.has('u') {
+                "--data="
+            } else {
+                "--data-ascii="
+            };
+            self.add_option(words, option, Some(text.as_str()))?;
+        }
+        self.add_option(words, "--data-file=", self.value('@'))
+    }
+
     /// Creates an entry.
     fn create(&self) -> Result<(), End> {
-        let alloc = self.rt.alloc();
-        let mut words = Vec::new(alloc);
+        let mut words = Vec::new(self.rt.alloc());
         let label = self.value('L').unwrap_or("Linux");
-        words.push(format!(in alloc; "--description={label}")?)?;
-        if let Some(name) = self.value('i') {
-            words.push(format!(in alloc; "--interface={name}")?)?;
-        } else {
-            let disk = self.value('d').unwrap_or("/dev/sda");
-            let partition = self.value('p').unwrap_or("1");
-            let loader = self.value('l').unwrap_or("\\EFI\\debian\\grub.efi");
-            words.push(format!(in alloc; "--disk={disk}")?)?;
-            words.push(format!(in alloc; "--partition={partition}")?)?;
-            words.push(format!(in alloc; "--loader={loader}")?)?;
-        }
-        if let Some(number) = self.value('b') {
-            words.push(format!(in alloc; "--number={number}")?)?;
-        }
-        if !self.text.is_empty() {
-            let option = if self.has('u') {
-                "--data"
-            } else {
-                "--data-ascii"
-            };
-            words.push(format!(in alloc; "{option}={}", self.text)?)?;
-        }
-        if let Some(file) = self.value('@') {
-            words.push(format!(in alloc; "--data-file={file}")?)?;
-        }
-        if self.has('C') {
-            words.push(String::from_str(alloc, "--no-order")?)?;
-        }
-        words.push(String::from_str(alloc, "--force")?)?;
+        self.add_option(&mut words, "--description=", Some(label))?;
+        self.add_loader(&mut words)?;
+        self.add_option(&mut words, "--number=", self.value('b'))?;
+        self.add_data(&mut words)?;
+        let no_order = if self.has('C') { Some("") } else { None };
+        self.add_option(&mut words, "--no-order", no_order)?;
+        self.add_option(&mut words, "--force", Some(""))?;
         self.carry_out(Verb::Create, words)
     }
 
     /// Makes all changes, in the order of efibootmgr.
     fn change(&self) -> Result<(), End> {
-        if self.has('B') {
-            self.carry(Verb::Delete, self.number("delete")?)?;
-        }
-        if self.has('a') {
-            self.carry(Verb::Activate, self.number("activate")?)?;
-        }
-        if self.has('A') {
-            self.carry(Verb::Deactivate, self.number("deactivate")?)?;
+        for (letter, verb, action) in CHANGES_OF_ENTRIES {
+            if self.has(*letter) {
+                self.carry(*verb, self.number(action)?)?;
+            }
         }
         if self.has('c') || self.has('C') {
             self.create()?;
         }
-        if self.has('O') {
-            self.carry(Verb::Order, "none")?;
-        }
-        if let Some(order) = self.value('o') {
-            self.carry(Verb::Order, order)?;
-        }
-        if self.has('D') {
-            self.carry(Verb::Order, "--unique")?;
-        }
-        if self.has('N') {
-            self.carry(Verb::Next, "none")?;
-        }
-        if self.has('T') {
-            self.carry(Verb::Timeout, "none")?;
-        }
-        if let Some(number) = self.value('n') {
-            self.carry(Verb::Next, number)?;
-        }
-        if let Some(seconds) = self.value('t') {
-            self.carry(Verb::Timeout, seconds)?;
+        for (letter, verb, word) in CHANGES {
+            let word = if word.is_empty() {
+                self.value(*letter)
+            } else if self.has(*letter) {
+                Some(*word)
+            } else {
+                None
+            };
+            if let Some(word) = word {
+                self.carry(*verb, word)?;
+            }
         }
         Ok(())
+    }
+
+    /// Adds the lines of the variables that name an entry or a time, if they are set.
+    fn add_settings(&self, out: &mut Growing, head: &Head) {
+        if let Some(number) = head.boot_next {
+            add_number(out, "BootNext: ", number, "\n");
+        }
+        if let Some(number) = head.boot_current {
+            add_number(out, "BootCurrent: ", number, "\n");
+        }
+        if let Some(seconds) = head.timeout {
+            out.add(&["Timeout: "]);
+            out.show(&seconds);
+            out.add(&[" seconds\n"]);
+        }
+    }
+
+    /// Adds the line of an order, if it is set.
+    fn add_order(&self, out: &mut Growing, order: Variable, numbers: &Option<Vec<u16>>) {
+        let Some(numbers) = numbers else {
+            let is_boot = order == Variable::BootOrder;
+            let what = if is_boot {
+                "; firmware will attempt recovery\n"
+            } else {
+                "\n"
+            };
+            write_variable(out, "No ", order, " is set");
+            out.add(&[what]);
+            return;
+        };
+        write_variable(out, "", order, ": ");
+        for (place, number) in numbers.iter().enumerate() {
+            add_number(out, if place == 0 { "" } else { "," }, *number, "");
+        }
+        out.add(&["\n"]);
     }
 
     /// Adds the lines before the entries.
-    fn add_head(&self, out: &mut String, head: &Head) -> Result<(), End> {
-        let kind = self.kind();
-        let order = Variable::order_of(kind);
-        let numbers = match kind {
-            LoadOptionKind::Driver => &head.driver_order,
-            LoadOptionKind::SysPrep => &head.sysprep_order,
-            _ => {
-                if let Some(number) = head.boot_next {
-                    writeln!(out, "BootNext: {number:04X}")?;
-                }
-                if let Some(number) = head.boot_current {
-                    writeln!(out, "BootCurrent: {number:04X}")?;
-                }
-                if let Some(seconds) = head.timeout {
-                    writeln!(out, "Timeout: {seconds} seconds")?;
-                }
-                &head.boot_order
+    fn add_head(&self, out: &mut Growing, head: &Head) {
+        match self.kind() {
+            LoadOptionKind::Driver => {
+                self.add_order(out, Variable::DriverOrder, &head.driver_order);
             }
-        };
-        let Some(numbers) = numbers else {
-            let what = if kind == LoadOptionKind::Boot {
-                "; firmware will attempt recovery"
-            } else {
-                ""
-            };
-            writeln!(out, "No {order} is set{what}")?;
-            return Ok(());
-        };
-        write!(out, "{order}: ")?;
-        for (place, number) in numbers.iter().enumerate() {
-            let comma = if place == 0 { "" } else { "," };
-            write!(out, "{comma}{number:04X}")?;
+            LoadOptionKind::SysPrep => {
+                self.add_order(out, Variable::SysPrepOrder, &head.sysprep_order);
+            }
+            _ => {
+                self.add_settings(out, head);
+                self.add_order(out, Variable::BootOrder, &head.boot_order);
+            }
         }
-        out.push('\n')?;
-        Ok(())
+    }
+
+    /// Adds the device path and the optional data of an entry.
+    fn add_contents(&self, out: &mut Growing, option: &LoadOption<'_>) {
+        out.add_char('\t');
+        if let Some(path) = option.device_paths().next() {
+            out.show(&path.display_libefivar());
+        }
+        for byte in option.optional_data() {
+            let is_shown = matches!(*byte, 0x20..=0x7f);
+            out.add_char(if is_shown { char::from(*byte) } else { '.' });
+        }
     }
 
     /// Adds the line of an entry.
-    fn add_entry(&self, out: &mut String, variable: Variable, bytes: &[u8]) -> Result<(), End> {
+    fn add_entry(
+        &self,
+        out: &mut Growing,
+        variable: Variable,
+        bytes: &[u8],
+    ) -> Result<(), AllocError> {
         let shown = Shown::of_entry(self.rt.alloc(), bytes)?;
-        let star = if shown.active == Some(true) { '*' } else { ' ' };
-        let description = shown.description.as_ref().map_or("", |it| it.as_str());
-        write!(out, "{variable}{star} {description}")?;
-        if let (true, Ok(option)) = (self.has('v'), LoadOption::from_bytes(bytes)) {
-            out.push('\t')?;
-            if let Some(path) = option.device_paths().next() {
-                write!(out, "{}", path.display_libefivar())?;
-            }
-            for byte in option.optional_data() {
-                let is_shown = matches!(*byte, 0x20..=0x7f);
-                out.push(if is_shown { char::from(*byte) } else { '.' })?;
-            }
+        let star = if shown.active == Some(true) {
+            "* "
+        } else {
+            "  "
+        };
+        write_variable(out, "", variable, star);
+        if let Some(description) = &shown.description {
+            out.add(&[description.as_str()]);
         }
-        out.push('\n')?;
+        if let (true, Ok(option)) = (self.has('v'), LoadOption::from_bytes(bytes)) {
+            self.add_contents(out, &option);
+        }
+        out.add(&["\n"]);
         if let Some(fault) = &shown.malformed {
             let (offset, reason) = (fault.offset, &fault.reason);
             let message = format_args!("{variable}: malformed at offset {offset}: {reason}");
-            // There is nothing to do if standard error can't be written.
-            let _ = self.rt.eprintln(message);
+            complain(self.rt, message);
         }
         Ok(())
     }
@@ -359,11 +426,11 @@ impl<'a> Given<'a> {
     /// Adds the lines of the entries that are among others, or of those that are not.
     fn add_entries(
         &self,
-        out: &mut String,
+        out: &mut Growing,
         variables: &Variables<'_>,
         others: &[Variable],
         are_among: bool,
-    ) -> Result<(), End> {
+    ) -> Result<(), AllocError> {
         let mut buffer = [0; MOST_READ];
         for source in &variables.sources {
             let is_of_kind = match source.variable.option() {
@@ -385,52 +452,68 @@ impl<'a> Given<'a> {
         let mut out = Output::new(self.rt);
         let mut buffer = [0; MOST_READ];
         let head = Head::of(self.rt.alloc(), variables, &mut buffer)?;
-        self.add_head(&mut out.text, &head)?;
+        self.add_head(&mut out.text, &head);
         self.add_entries(&mut out.text, variables, before, true)?;
         self.add_entries(&mut out.text, variables, before, false)?;
         out.flush()
     }
+
+    /// Makes all changes, and prints the variables.
+    fn change_and_print(&self) -> Result<(), End> {
+        let folder = [self.folder];
+        let mut before = Vec::new(self.rt.alloc());
+        for source in &find(self.rt, &folder)?.sources {
+            before.push(source.variable)?;
+        }
+        self.change()?;
+        if self.has('q') {
+            return Ok(());
+        }
+        self.print(&find(self.rt, &folder)?, &before)
+    }
+}
+
+/// Adds a number of four hexadecimal digits between two texts.
+fn add_number(out: &mut Growing, before: &str, number: u16, after: &str) {
+    out.add(&[before]);
+    out.show(&format_args!("{number:04X}"));
+    out.add(&[after]);
 }
 
 /// Finds the variables of a directory.
-fn find<'a>(rt: &'a HostRuntime, arguments: &'a [String]) -> Result<Variables<'a>, End> {
-    match arguments.first() {
-        Some(folder) if folder.as_str() == OWN => find_own(rt, arguments),
-        _ => find_all(rt, arguments),
+fn find<'a>(rt: &'a HostRuntime, folder: &'a [&'a str; 1]) -> Result<Variables<'a>, End> {
+    if folder[0] == OWN {
+        find_own(rt, folder)
+    } else {
+        find_all(rt, folder)
     }
 }
 
 /// Runs a command line of efibootmgr, and returns the exit status.
-pub(crate) fn run<'a>(rt: &'a HostRuntime, words: &'a [String]) -> Result<u8, End> {
-    let alloc = rt.alloc();
+pub(crate) fn run(rt: &HostRuntime, words: &[&str]) -> Result<u8, End> {
     // The variable that libefivar reads.
-    let folder = match env::var(rt, "EFIVARFS_PATH") {
-        Ok(folder) => folder,
-        Err(_) => String::from_str(alloc, OWN)?,
-    };
+    match env::var(rt, "EFIVARFS_PATH") {
+        Ok(folder) => run_in(rt, folder.as_str(), words),
+        Err(_) => run_in(rt, OWN, words),
+    }
+}
+
+/// Runs a command line of efibootmgr on the variables of a directory.
+fn run_in<'a>(rt: &'a HostRuntime, folder: &'a str, words: &'a [&'a str]) -> Result<u8, End> {
     let mut given = Given {
         rt,
-        flags: Vec::new(alloc),
-        values: Vec::new(alloc),
-        text: String::new(alloc),
+        flags: Vec::new(rt.alloc()),
+        values: Vec::new(rt.alloc()),
+        plain: Vec::new(rt.alloc()),
         folder,
     };
     given.read(words)?;
-    if given.has('h') || given.has('V') {
-        let mut out = Output::new(rt);
-        out.text
-            .push_str(if given.has('h') { HELP } else { "version 17\n" })?;
-        out.flush()?;
-        return Ok(0);
-    }
-    let arguments = [given.folder.clone()?];
-    let mut before = Vec::new(alloc);
-    for source in &find(rt, &arguments)?.sources {
-        before.push(source.variable)?;
-    }
-    given.change()?;
-    if !given.has('q') {
-        given.print(&find(rt, &arguments)?, &before)?;
+    if given.has('h') {
+        print(rt, &[HELP])?;
+    } else if given.has('V') {
+        print(rt, &["version 17\n"])?;
+    } else {
+        given.change_and_print()?;
     }
     Ok(0)
 }

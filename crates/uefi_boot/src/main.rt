@@ -45,17 +45,17 @@ mod verbs;
 
 use command_line::arguments::{Verb, first_plain, is_option, meant_verb, refuse_option};
 use command_line::{help, hints};
-use files::program_ends::{End, MALFORMED, Output, WRONG_ARGUMENTS, refuse, status_of};
+use files::program_ends::{End, MALFORMED, Output, WRONG_ARGUMENTS, print, refuse, status_of};
 use files::variables::{
     Content, MOST_READ, OWN, file_name, find_all, find_own, without_attributes,
 };
 use output::entry::{Exact, Shown};
 use output::listing;
 use serde::Serialize;
-use std::alloc::Global;
+use std::alloc::{AllocError, Global};
 use std::io::{self, IsTerminal, Read};
 use std::process::ExitCode;
-use std::{env, fmt, fs};
+use std::{env, fs};
 
 const VERSION: &str = "uefi_boot 0.8.0-dev\n";
 
@@ -88,10 +88,10 @@ pub(crate) enum Form {
 
 /// Returns a value as JSON, on one line. Every value here has a JSON form, so it fails only if
 /// memory runs out.
-pub(crate) fn to_json<T: Serialize>(alloc: Global, value: &T) -> Result<String, fmt::Error> {
+pub(crate) fn to_json<T: Serialize>(alloc: Global, value: &T) -> Result<String, AllocError> {
     match serde_json::to_string(alloc, value) {
         Ok(text) => Ok(text),
-        Err(_) => Err(fmt::Error),
+        Err(_) => Err(AllocError),
     }
 }
 
@@ -106,9 +106,7 @@ struct Alone {
 
 /// Prints a text.
 fn print_text(rt: &HostRuntime, text: &str) -> Result<u8, End> {
-    let mut out = Output::new(rt);
-    out.text.push_str(text)?;
-    out.flush()?;
+    print(rt, &[text])?;
     Ok(0)
 }
 
@@ -124,12 +122,11 @@ fn print_entry(rt: &HostRuntime, form: Form) -> Result<u8, End> {
     let status = if entry.is_well() { 0 } else { MALFORMED };
     let mut out = Output::new(rt);
     match form {
-        Form::Lines => entry.write(&mut out.text)?,
+        Form::Lines => entry.write(&mut out.text),
         Form::Json => {
             let exact = Exact::of(alloc, &Content::Bytes(bytes))?;
             let json = to_json(alloc, &Alone { entry, exact })?;
-            out.text.push_str(json.as_str())?;
-            out.text.push('\n')?;
+            out.text.add(&[json.as_str(), "\n"]);
         }
     }
     out.flush()?;
@@ -142,30 +139,41 @@ fn print_own(rt: &HostRuntime, form: Form) -> Result<u8, End> {
     if !rt.stdin().is_terminal() {
         return print_entry(rt, form);
     }
-    let own = [String::from_str(rt.alloc(), OWN)?];
-    listing::print(rt, &find_own(rt, &own)?, form)
+    listing::print(rt, &find_own(rt, &[OWN])?, form)
 }
 
 /// Reports that a word is neither a command nor a file, and what to type instead, if that is known.
 fn refuse_command(rt: &HostRuntime, name: &str) -> Result<(), End> {
     if let Some(hint) = hints::of_command(name) {
-        let message = format_args!("unknown command or file '{name}' (type {hint})");
-        return Err(refuse(rt, WRONG_ARGUMENTS, message));
+        return Err(refuse(
+            rt,
+            WRONG_ARGUMENTS,
+            &["unknown command or file '", name, "' (type ", hint, ")"],
+        ));
     }
     if Verb::of_word(name).is_some() {
         return Ok(());
     }
     if let Some(verb) = meant_verb(rt.alloc(), name)? {
-        let message = format_args!("unknown command or file '{name}' (did you mean '{verb}'?)");
-        return Err(refuse(rt, WRONG_ARGUMENTS, message));
+        return Err(refuse(
+            rt,
+            WRONG_ARGUMENTS,
+            &[
+                "unknown command or file '",
+                name,
+                "' (did you mean '",
+                verb,
+                "'?)",
+            ],
+        ));
     }
     Ok(())
 }
 
 /// Prints the variables of files and folders.
-fn print_files(rt: &HostRuntime, names: &[String], form: Form) -> Result<u8, End> {
+fn print_files(rt: &HostRuntime, names: &[&str], form: Form) -> Result<u8, End> {
     if let [name, ..] = names {
-        let name = name.as_str();
+        let name = *name;
         if !name.contains("/") && fs::metadata(rt, name).is_err() {
             refuse_command(rt, name)?;
         }
@@ -174,13 +182,13 @@ fn print_files(rt: &HostRuntime, names: &[String], form: Form) -> Result<u8, End
 }
 
 /// Runs a command line whose first word is not a verb.
-fn show(rt: &HostRuntime, words: Vec<String>) -> Result<u8, End> {
+fn show(rt: &HostRuntime, words: &[&str]) -> Result<u8, End> {
     let mut names = Vec::new(rt.alloc());
     let mut form = Form::Lines;
     let mut are_names = false;
     for word in words {
-        match word.as_str() {
-            option if are_names || !is_option(option) => names.push(word)?,
+        match *word {
+            name if are_names || !is_option(name) => names.push(name)?,
             "--" => are_names = true,
             "-h" | "--help" => return print_text(rt, help::PROGRAM),
             "--version" => return print_text(rt, VERSION),
@@ -190,50 +198,72 @@ fn show(rt: &HostRuntime, words: Vec<String>) -> Result<u8, End> {
     }
     match names.as_slice() {
         [] => print_own(rt, form),
-        [name] if name.as_str() == "-" => print_entry(rt, form),
+        [name] if *name == "-" => print_entry(rt, form),
         _ => print_files(rt, &names, form),
     }
 }
 
-fn run(rt: &HostRuntime) -> Result<u8, End> {
+/// Returns the name by which the program was called, and the words after it.
+fn read_arguments(rt: &HostRuntime) -> Result<Vec<String>, End> {
     let arguments = match env::args(rt) {
         Ok(arguments) => arguments,
         Err(error) if matches!(error.kind(), io::ErrorKind::InvalidData) => {
-            return Err(refuse(rt, WRONG_ARGUMENTS, format_args!("{NOT_UTF_8}")));
+            return Err(refuse(rt, WRONG_ARGUMENTS, &[NOT_UTF_8]));
         }
         Err(_) => return Err(End::OutOfMemory),
     };
-    let (mut words, mut is_efibootmgr) = (Vec::new(rt.alloc()), false);
-    for (place, word) in arguments.enumerate() {
-        if place == 0 {
-            is_efibootmgr = file_name(word.as_str()) == "efibootmgr";
-        } else {
-            words.push(word)?;
+    let mut read = Vec::new(rt.alloc());
+    for argument in arguments {
+        read.push(argument)?;
+    }
+    Ok(read)
+}
+
+/// Prints the help of the program, or of a command.
+fn print_help(rt: &HostRuntime, word: Option<&&str>) -> Result<u8, End> {
+    if let Some(word) = word {
+        if let Some(verb) = Verb::of_word(word) {
+            return print_text(rt, verb.help());
         }
     }
-    if is_efibootmgr {
-        return efibootmgr::run(rt, &words);
-    }
-    let Some(place) = first_plain(&words) else {
+    print_text(rt, help::PROGRAM)
+}
+
+/// Runs the command of the first word that is neither an option nor the value of one, if it is a command.
+fn run_words(rt: &HostRuntime, words: &[&str]) -> Result<u8, End> {
+    let Some(place) = first_plain(words) else {
         return show(rt, words);
     };
-    let word = words.get(place).map_or("", |it| it.as_str());
+    let word = match words.get(place) {
+        Some(word) => *word,
+        None => "",
+    };
     if word == "help" {
-        let verb = words
-            .get(place.saturating_add(1))
-            .and_then(|it| Verb::of_word(it.as_str()));
-        return print_text(rt, verb.map_or(help::PROGRAM, Verb::help));
+        return print_help(rt, words.get(place.saturating_add(1)));
     }
     let Some(verb) = Verb::of_word(word) else {
         return show(rt, words);
     };
     let mut others = Vec::new(rt.alloc());
-    for (index, word) in words.into_iter().enumerate() {
+    for (index, word) in words.iter().enumerate() {
         if index != place {
-            others.push(word)?;
+            others.push(*word)?;
         }
     }
     verbs::run(rt, verb, &others, false)
+}
+
+fn run(rt: &HostRuntime) -> Result<u8, End> {
+    let arguments = read_arguments(rt)?;
+    let mut words = Vec::new(rt.alloc());
+    for argument in &arguments {
+        words.push(argument.as_str())?;
+    }
+    match words.as_slice() {
+        [name, words @ ..] if file_name(name) == "efibootmgr" => efibootmgr::run(rt, words),
+        [_, words @ ..] => run_words(rt, words),
+        [] => run_words(rt, &[]),
+    }
 }
 
 fn main(rt: HostRuntime) -> ExitCode {

@@ -1,10 +1,12 @@
 //! Finds partitions of the machine. Linux describes each block device in sysfs, and udev links each partition
 //! by its GUID. Without udev, the partition table has the GUID.
-use crate::files::program_ends::{End, WRONG_ARGUMENTS, refuse};
-use crate::files::variables::{file_name, unreadable};
+use crate::files::program_ends::{End, WRONG_ARGUMENTS, refuse, refuse_with};
+use crate::files::variables::{file_name, path_below, real_path, unreadable};
 use crate::fill;
+use crate::output::growing_texts::{joined, text_shown};
 use std::alloc::AllocError;
 use std::io::{Seek, SeekFrom};
+use std::path::PathBuf;
 use std::{fs, io};
 use uefi_device_path::Guid;
 use uefi_device_path::build::media::HardDrive;
@@ -30,7 +32,7 @@ fn is_missing(error: &io::Error) -> bool {
 
 /// Returns the number in a file of sysfs, or `None` if there is no such file or it contains something else.
 fn number_in(rt: &HostRuntime, directory: &str, file: &str) -> Result<Option<u64>, End> {
-    let path = format!(in rt.alloc(); "{directory}/{file}")?;
+    let path = path_below(rt.alloc(), directory, file)?;
     let bytes = match fs::read(rt, path.as_str()) {
         Ok(bytes) => bytes,
         Err(error) if is_missing(&error) => return Ok(None),
@@ -53,7 +55,7 @@ fn link_to(rt: &HostRuntime, device: &str) -> Result<Option<String>, End> {
         let Ok(link) = link else {
             continue;
         };
-        let path = format!(in rt.alloc(); "{DISKS}/{}", link.file_name())?;
+        let path = path_below(rt.alloc(), DISKS, link.file_name())?;
         let Ok(target) = fs::read_link(rt, path.as_str()) else {
             continue;
         };
@@ -126,7 +128,7 @@ fn from_table(
     block: u64,
     number: u32,
 ) -> Result<Option<HardDrive>, End> {
-    let path = format!(in rt.alloc(); "/dev/{disk}")?;
+    let path = path_below(rt.alloc(), "/dev", disk)?;
     let Ok(mut file) = fs::open(rt, path.as_str()) else {
         return Ok(None);
     };
@@ -147,7 +149,7 @@ fn from_table(
 
 /// Returns the number of bytes of a block of the disk that a directory of sysfs describes.
 fn block_in(rt: &HostRuntime, directory: &str) -> Result<u64, End> {
-    let queue = format!(in rt.alloc(); "{directory}/queue")?;
+    let queue = path_below(rt.alloc(), directory, "queue")?;
     Ok(number_in(rt, queue.as_str(), "logical_block_size")?.unwrap_or(SECTOR))
 }
 
@@ -158,94 +160,117 @@ pub(crate) struct Located {
     pub(crate) disk: String,
 }
 
+/// Returns the number of the partition that a directory of sysfs describes. `given` says how the user named it.
+fn partition_number(rt: &HostRuntime, given: &str, directory: &str) -> Result<u32, End> {
+    if let Some(number) = number_in(rt, directory, "partition")? {
+        if let Ok(number) = u32::try_from(number) {
+            return Ok(number);
+        }
+    }
+    Err(refuse(rt, WRONG_ARGUMENTS, &[given, ": not a partition of a disk"]))
+}
+
+/// Returns the signature of a partition, from the name of the link to its device, if there is one.
+fn linked(rt: &HostRuntime, device: &str) -> Result<Option<([u8; 16], u8)>, End> {
+    match link_to(rt, device)? {
+        Some(link) => Ok(signature_of(link.as_str())),
+        None => Ok(None),
+    }
+}
+
+/// Returns a place or a size in a directory of sysfs, in blocks.
+fn blocks_in(rt: &HostRuntime, directory: &str, file: &str, block: u64) -> Result<u64, End> {
+    let sectors = number_in(rt, directory, file)?.unwrap_or(0);
+    Ok(sectors / (block / SECTOR).max(1))
+}
+
+/// Returns the partition with a number and a signature that a directory of sysfs describes.
+fn drive_in(
+    rt: &HostRuntime,
+    directory: &str,
+    number: u32,
+    block: u64,
+    found: ([u8; 16], u8),
+) -> Result<HardDrive, End> {
+    let signature = found.0;
+    let format = found.1;
+    Ok(HardDrive {
+        partition_number: number,
+        partition_start: blocks_in(rt, directory, "start", block)?,
+        partition_size: blocks_in(rt, directory, "size", block)?,
+        partition_signature: signature,
+        partition_format: format,
+        signature_type: format,
+    })
+}
+
 /// Returns the partition that a directory of sysfs describes. `given` says how the user named it.
 fn partition_in(rt: &HostRuntime, given: &str, directory: &str) -> Result<Located, End> {
-    let number = number_in(rt, directory, "partition")?.and_then(|number| u32::try_from(
-        number,
-    ).ok());
-    let Some(number) = number else {
-        let message = format_args!("{given}: not a partition of a disk");
-        return Err(refuse(rt, WRONG_ARGUMENTS, message));
-    };
-    let real = match fs::canonicalize(rt, directory) {
-        Ok(real) => real,
-        Err(error) => return Err(unreadable(rt, directory, &error)),
-    };
+    let number = partition_number(rt, given, directory)?;
+    let real = real_path(rt, directory)?;
     // The directory of the disk is the one above.
     let (above, device) = real
         .as_str()
         .rsplit_once('/')
         .unwrap_or(("", real.as_str()));
     let block = block_in(rt, above)?;
-    let link = link_to(rt, device)?;
-    let found = match &link {
-        Some(link) => signature_of(link.as_str()),
-        None => None,
+    let disk = file_name(above);
+    let drive = match linked(rt, device)? {
+        Some(found) => drive_in(rt, directory, number, block, found)?,
+        None => match from_table(rt, disk, block, number)? {
+            Some(drive) => drive,
+            None => return Err(refuse_table(rt, given, disk)),
+        },
     };
-    let disk = String::from_str(rt.alloc(), file_name(above))?;
-    let Some(found) = found else {
-        let Some(drive) = from_table(rt, disk.as_str(), block, number)? else {
-            let message = format!(in rt.alloc();
-                "{given}: no link in {DISKS}, and /dev/{disk} has no readable partition table (run as root?)"
-            )?;
-            return Err(refuse(rt, WRONG_ARGUMENTS, message));
-        };
-        return Ok(Located { drive, disk });
-    };
-    let signature = found.0;
-    let format = found.1;
-    let sectors = (block / SECTOR).max(1);
-    let drive = HardDrive {
-        partition_number: number,
-        partition_start: number_in(rt, directory, "start")?.unwrap_or(0) / sectors,
-        partition_size: number_in(rt, directory, "size")?.unwrap_or(0) / sectors,
-        partition_signature: signature,
-        partition_format: format,
-        signature_type: format,
-    };
-    Ok(Located { drive, disk })
+    Ok(Located {
+        drive,
+        disk: String::from_str(rt.alloc(), disk)?,
+    })
+}
+
+/// Reports that no table describes a partition.
+fn refuse_table(rt: &HostRuntime, given: &str, disk: &str) -> End {
+    let what = " has no readable partition table (run as root?)";
+    refuse(
+        rt,
+        WRONG_ARGUMENTS,
+        &[given, ": no link in ", DISKS, ", and /dev/", disk, what],
+    )
 }
 
 /// Returns the partition with a device number, which Linux writes as `major:minor`.
 pub(crate) fn by_number(rt: &HostRuntime, given: &str, number: &str) -> Result<Located, End> {
-    let directory = format!(in rt.alloc(); "/sys/dev/block/{number}")?;
+    let directory = path_below(rt.alloc(), "/sys/dev/block", number)?;
     partition_in(rt, given, directory.as_str())
 }
 
 /// Returns the directory in which sysfs describes a device.
 pub(crate) fn described(rt: &HostRuntime, device: &str) -> Result<String, AllocError> {
-    format!(in rt.alloc(); "/sys/class/block/{device}")
+    path_below(rt.alloc(), "/sys/class/block", device)
 }
 
 /// Returns the partition with a number on a disk, such as `/dev/nvme0n1`.
 pub(crate) fn on_disk(rt: &HostRuntime, disk: &str, number: u32) -> Result<Located, End> {
-    let real = match fs::canonicalize(rt, disk) {
-        Ok(real) => real,
-        Err(error) if is_missing(&error) => {
-            let message = format_args!("--disk {disk}: no such device (lsblk lists the disks)");
-            return Err(refuse(rt, WRONG_ARGUMENTS, message));
-        }
-        Err(error) => return Err(unreadable(rt, disk, &error)),
-    };
+    let real = real_disk(rt, disk)?;
     let name = file_name(real.as_str());
     let own = described(rt, name)?;
-    if let Some(number) = number_in(rt, own.as_str(), "partition")? {
-        let message = format_args!(
-            "--disk {disk}: a partition, not a disk (its number for --partition is {number})"
-        );
-        return Err(refuse(rt, WRONG_ARGUMENTS, message));
-    }
+    check_whole(rt, disk, own.as_str())?;
+    let digits = text_shown(rt.alloc(), &number)?;
     // Linux puts a `p` between the name of a disk and the number if the name ends with a digit.
-    let between = if name.ends_with(|c: char| c.is_ascii_digit()) {
-        "p"
-    } else {
-        ""
+    let between = match name.as_bytes() {
+        [.., last] if last.is_ascii_digit() => "p",
+        _ => "",
     };
-    let device = format!(in rt.alloc(); "{name}{between}{number}")?;
-    let given = format!(in rt.alloc(); "--disk {disk} --partition {number}")?;
-    let directory = described(rt, device.as_str())?;
-    if fs::metadata(rt, directory.as_str()).is_ok() {
-        return partition_in(rt, given.as_str(), directory.as_str());
+    let device = joined(
+        rt.alloc(),
+        &["/sys/class/block/", name, between, digits.as_str()],
+    )?;
+    let given = joined(
+        rt.alloc(),
+        &["--disk ", disk, " --partition ", digits.as_str()],
+    )?;
+    if fs::metadata(rt, device.as_str()).is_ok() {
+        return partition_in(rt, given.as_str(), device.as_str());
     }
     // Linux has not read the partition table of this disk since it was written.
     let block = block_in(rt, own.as_str())?;
@@ -255,33 +280,62 @@ pub(crate) fn on_disk(rt: &HostRuntime, disk: &str, number: u32) -> Result<Locat
             disk: String::from_str(rt.alloc(), name)?,
         }),
         None => {
-            let message = format_args!("{given}: no such partition (lsblk lists them)");
-            Err(refuse(rt, WRONG_ARGUMENTS, message))
+            let message = [given.as_str(), ": no such partition (lsblk lists them)"];
+            Err(refuse(rt, WRONG_ARGUMENTS, &message))
         }
     }
+}
+
+/// Returns the path of a disk without links.
+fn real_disk(rt: &HostRuntime, disk: &str) -> Result<PathBuf, End> {
+    match fs::canonicalize(rt, disk) {
+        Ok(real) => Ok(real),
+        Err(error) if is_missing(&error) => {
+            let message = ["--disk ", disk, ": no such device (lsblk lists the disks)"];
+            Err(refuse(rt, WRONG_ARGUMENTS, &message))
+        }
+        Err(error) => Err(unreadable(rt, disk, &error)),
+    }
+}
+
+/// Rejects a partition in place of a disk.
+fn check_whole(rt: &HostRuntime, disk: &str, directory: &str) -> Result<(), End> {
+    let Some(number) = number_in(rt, directory, "partition")? else {
+        return Ok(());
+    };
+    let message = format_args!(
+        "--disk {disk}: a partition, not a disk (its number for --partition is {number})"
+    );
+    Err(refuse_with(rt, WRONG_ARGUMENTS, message))
 }
 
 /// Returns the partition with a GUID, or with the signature of its MBR disk and its number.
 pub(crate) fn by_guid(rt: &HostRuntime, guid: &str) -> Result<Located, End> {
     if guid.contains('/') {
-        let message = format_args!(
-            "--partuuid {guid}: not a GUID (for a disk, type --disk DISK --partition N)"
-        );
-        return Err(refuse(rt, WRONG_ARGUMENTS, message));
+        return Err(refuse(
+            rt,
+            WRONG_ARGUMENTS,
+            &[
+                "--partuuid ",
+                guid,
+                ": not a GUID (for a disk, type --disk DISK --partition N)",
+            ],
+        ));
     }
     let lower = guid.to_ascii_lowercase(rt.alloc())?;
-    let link = format!(in rt.alloc(); "{DISKS}/{lower}")?;
+    let link = path_below(rt.alloc(), DISKS, lower.as_str())?;
     let real = match fs::canonicalize(rt, link.as_str()) {
         Ok(real) => real,
-        Err(error) if is_missing(&error) => {
-            let message = format_args!(
-                "--partuuid {guid}: no disk here has this partition (lsblk -o NAME,PARTUUID lists them)"
-            );
-            return Err(refuse(rt, WRONG_ARGUMENTS, message));
-        }
+        Err(error) if is_missing(&error) => return Err(refuse_guid(rt, guid)),
         Err(error) => return Err(unreadable(rt, link.as_str(), &error)),
     };
-    let given = format!(in rt.alloc(); "--partuuid {guid}")?;
+    let given = joined(rt.alloc(), &["--partuuid ", guid])?;
     let device = described(rt, file_name(real.as_str()))?;
     partition_in(rt, given.as_str(), device.as_str())
+}
+
+/// Reports that no partition has a GUID.
+fn refuse_guid(rt: &HostRuntime, guid: &str) -> End {
+    let what = ": no disk here has this partition (lsblk -o NAME,PARTUUID lists them)";
+    refuse(rt, WRONG_ARGUMENTS, &["--partuuid ", guid, what])
 }

@@ -2,24 +2,36 @@
 use crate::changes::Machine;
 use crate::command_line::arguments::{Verb, Words};
 use crate::files::program_ends::{
-    End, MALFORMED, Output, UNREADABLE, UNWRITTEN, WRONG_ARGUMENTS, refuse,
+    End, MALFORMED, Parts, UNREADABLE, UNWRITTEN, WRONG_ARGUMENTS, print, refuse, refuse_for,
+    refuse_with,
 };
 use crate::files::variables::{
     Content, MOST_BYTES, MOST_READ, OWN, Variable, file_name, find_all, find_own, lowercase_file,
 };
 use crate::{check, create};
 use std::collections::BTreeSet;
-use std::fmt::Write;
 use std::fs;
 use uefi_boot_plans::{PlanError, Step, Variable as Changed};
 use uefi_boot_variables::{LoadOptionKind, LoadOrder, read_number};
 
-/// The kinds of entries that the commands change, the option that names each, and the start of the names of
-/// its variables.
-const KINDS: [(LoadOptionKind, &str, &str); 3] = [
-    (LoadOptionKind::Boot, "", "Boot"),
-    (LoadOptionKind::Driver, "--driver", "Driver"),
-    (LoadOptionKind::SysPrep, "--sysprep", "SysPrep"),
+/// The kinds of entries that the commands change, the start of the names of their variables, and what to
+/// say of such a name if the command is about another kind.
+const KINDS: &[(LoadOptionKind, &str, &str)] = &[
+    (
+        LoadOptionKind::Boot,
+        "Boot",
+        " is a boot entry (omit --driver and --sysprep)",
+    ),
+    (
+        LoadOptionKind::Driver,
+        "Driver",
+        " is not a boot entry (add --driver)",
+    ),
+    (
+        LoadOptionKind::SysPrep,
+        "SysPrep",
+        " is not a boot entry (add --sysprep)",
+    ),
 ];
 
 /// Returns the number that one to four hexadecimal digits are.
@@ -30,7 +42,23 @@ fn read_digits(digits: &str) -> Option<u16> {
     u16::from_str_radix(digits, 16).ok()
 }
 
+/// Returns the number of the entry that a variable's name is, its kind, and what to say if the command is about
+/// another kind.
+fn read_name(name: &str) -> Option<(u16, LoadOptionKind, &str)> {
+    for (kind, start, advice) in KINDS {
+        if let Some(number) = name.strip_prefix(*start).and_then(read_digits) {
+            return Some((number, *kind, *advice));
+        }
+    }
+    None
+}
+
 impl<'a> Machine<'a> {
+    /// Reports what is wrong with a variable.
+    fn refuse(&self, status: u8, variable: Variable, what: &[&str]) -> End {
+        refuse_with(self.rt, status, format_args!("{variable} {}", Parts(what)))
+    }
+
     /// Returns the word at an index after the verb; `Words::check` has counted them.
     fn word<'w>(&self, words: &Words<'w>, place: usize) -> &'w str {
         words.plain(place).unwrap_or("")
@@ -44,25 +72,18 @@ impl<'a> Machine<'a> {
     /// Returns the number of an entry that a word names: hexadecimal digits, alone or after the start of
     /// the variable's name.
     fn number(&self, word: &str) -> Result<u16, End> {
-        for (kind, option, start) in KINDS {
-            let Some(number) = word.strip_prefix(start).and_then(read_digits) else {
-                continue;
-            };
-            if kind == self.kind {
-                return Ok(number);
-            }
-            let message = if option.is_empty() {
-                format!(in self.rt.alloc(); "{word} is a boot entry (omit --driver and --sysprep)")?
+        if let Some((number, kind, advice)) = read_name(word) {
+            return if kind == self.kind {
+                Ok(number)
             } else {
-                format!(in self.rt.alloc(); "{word} is not a boot entry (add {option})")?
+                Err(refuse(self.rt, WRONG_ARGUMENTS, &[word, advice]))
             };
-            return Err(refuse(self.rt, WRONG_ARGUMENTS, message));
         }
         match read_digits(word) {
             Some(number) => Ok(number),
             None => {
-                let message = format_args!("'{word}' is not the number of an entry (such as 001F)");
-                Err(refuse(self.rt, WRONG_ARGUMENTS, message))
+                let message = ["'", word, "' is not the number of an entry (such as 001F)"];
+                Err(refuse(self.rt, WRONG_ARGUMENTS, &message))
             }
         }
     }
@@ -71,13 +92,13 @@ impl<'a> Machine<'a> {
     fn existing(&self, word: &str) -> Result<u16, End> {
         let number = self.number(word)?;
         let variable = self.variable(number);
-        if self.variables.find(variable).is_none() {
-            let message = format_args!(
-                "{variable} does not exist (run uefi_boot to list the entries)"
-            );
-            return Err(refuse(self.rt, MALFORMED, message));
+        match self.variables.find(variable) {
+            Some(_) => Ok(number),
+            None => {
+                let what = "does not exist (run uefi_boot to list the entries)";
+                Err(self.refuse(MALFORMED, variable, &[what]))
+            }
         }
-        Ok(number)
     }
 
     /// Returns the value of a variable, if it is set.
@@ -86,35 +107,49 @@ impl<'a> Machine<'a> {
             return Ok(None);
         };
         let mut buffer = [0; MOST_READ];
-        let reason = match self.variables.read(&source, &mut buffer)? {
-            Content::Unreadable(cause) => {
-                let message = format_args!("cannot read {variable}: {cause}");
-                return Err(refuse(self.rt, UNREADABLE, message));
-            }
+        match self.variables.read(&source, &mut buffer)? {
+            Content::Unreadable(cause) => Err(self.refuse_unreadable(variable, &cause)),
             Content::Bytes(bytes) if bytes.len() <= MOST_BYTES => {
-                return Ok(Some(Vec::from_slice(self.rt.alloc(), bytes)?));
+                Ok(Some(Vec::from_slice(self.rt.alloc(), bytes)?))
             }
-            Content::Bytes(_) => "longer than a variable",
-            Content::TooShort(reason) => reason,
-        };
-        let message = format_args!("{variable} is malformed: {reason}");
-        Err(refuse(self.rt, MALFORMED, message))
+            Content::Bytes(_) => {
+                Err(self.refuse(
+                    MALFORMED,
+                    variable,
+                    &["is malformed: longer than a variable"],
+                ))
+            }
+            Content::TooShort(reason) => {
+                Err(self.refuse(MALFORMED, variable, &["is malformed: ", reason]))
+            }
+        }
+    }
+
+    /// Reports that a variable can't be read.
+    fn refuse_unreadable(&self, variable: Variable, cause: &String) -> End {
+        refuse_with(
+            self.rt,
+            UNREADABLE,
+            format_args!("cannot read {variable}: {cause}"),
+        )
+    }
+
+    /// Returns the value of a variable, or an empty one if it is not set.
+    fn value_or_empty(&self, variable: Variable) -> Result<Vec<u8>, End> {
+        match self.value(variable)? {
+            Some(bytes) => Ok(bytes),
+            None => Ok(Vec::new(self.rt.alloc())),
+        }
     }
 
     /// Returns the value of the order, or an empty one if the variable is not set.
     fn order(&self) -> Result<Vec<u8>, End> {
-        match self.value(Variable::order_of(self.kind))? {
-            Some(bytes) => Ok(bytes),
-            None => Ok(Vec::new(self.rt.alloc())),
-        }
+        self.value_or_empty(Variable::order_of(self.kind))
     }
 
     /// Returns the value of an entry that exists.
     fn entry(&self, number: u16) -> Result<Vec<u8>, End> {
-        match self.value(self.variable(number))? {
-            Some(bytes) => Ok(bytes),
-            None => Ok(Vec::new(self.rt.alloc())),
-        }
+        self.value_or_empty(self.variable(number))
     }
 
     /// Carries out a plan, or reports why there is none.
@@ -132,19 +167,16 @@ impl<'a> Machine<'a> {
                 let variable = self.variable(number);
                 let (offset, cause) = (error.offset, error.cause);
                 let message = format_args!("{variable} is malformed at offset {offset}: {cause}");
-                Err(refuse(self.rt, MALFORMED, message))
+                Err(refuse_with(self.rt, MALFORMED, message))
             }
         }
     }
 
     /// Reports that the order is malformed.
     fn refuse_order(&self) -> End {
-        let order = Variable::order_of(self.kind);
-        let message = format_args!(
-            "{order} is malformed: boot order has an odd number of bytes\n\
-             to replace it, type: uefi_boot order --force NUMBER .."
-        );
-        refuse(self.rt, MALFORMED, message)
+        let what = "is malformed: boot order has an odd number of bytes\n\
+                    to replace it, type: uefi_boot order --force NUMBER ..";
+        self.refuse(MALFORMED, Variable::order_of(self.kind), &[what])
     }
 
     /// Refuses to replace a malformed variable, unless the user asked for that with `--force`.
@@ -162,25 +194,17 @@ impl<'a> Machine<'a> {
         if is_well {
             return Ok(());
         }
-        let message = format_args!("{variable} is malformed: to replace it, add --force");
-        Err(refuse(self.rt, MALFORMED, message))
+        Err(self.refuse(
+            MALFORMED,
+            variable,
+            &["is malformed: to replace it, add --force"],
+        ))
     }
 
     fn create(&self, words: &Words<'_>) -> Result<u8, End> {
         let index = create::index_of(self.rt, words)?;
         let option = create::option_of(self.rt, words)?;
-        let number = match words.value("--number") {
-            Some(word) => {
-                let number = self.number(word)?;
-                let variable = self.variable(number);
-                if self.variables.find(variable).is_some() {
-                    let message = format_args!("{variable} already exists");
-                    return Err(refuse(self.rt, MALFORMED, message));
-                }
-                number
-            }
-            None => self.free_number()?,
-        };
+        let number = self.new_number(words)?;
         let alloc = self.rt.alloc();
         let Some(index) = index else {
             let plan = uefi_boot_plans::create_unlisted(alloc, number, option)?;
@@ -189,6 +213,19 @@ impl<'a> Machine<'a> {
         let order = self.order()?;
         let plan = uefi_boot_plans::create(alloc, &order, index, number, option);
         self.carry(number, plan)
+    }
+
+    /// Returns the number of a new entry.
+    fn new_number(&self, words: &Words<'_>) -> Result<u16, End> {
+        let Some(word) = words.value("--number") else {
+            return self.free_number();
+        };
+        let number = self.number(word)?;
+        let variable = self.variable(number);
+        match self.variables.find(variable) {
+            Some(_) => Err(self.refuse(MALFORMED, variable, &["already exists"])),
+            None => Ok(number),
+        }
     }
 
     /// Returns the smallest number without an entry.
@@ -203,11 +240,7 @@ impl<'a> Machine<'a> {
         }
         match uefi_boot_plans::free_number(&used) {
             Some(number) => Ok(number),
-            None => Err(refuse(
-                self.rt,
-                MALFORMED,
-                format_args!("all 65,536 entry numbers are in use"),
-            )),
+            None => Err(refuse(self.rt, MALFORMED, &["all 65,536 entry numbers are in use"])),
         }
     }
 
@@ -242,16 +275,14 @@ impl<'a> Machine<'a> {
     /// Deletes a variable whose name firmware does not read as that of an entry.
     fn delete_file(&self, path: &str) -> Result<u8, End> {
         let name = file_name(path);
-        let mut out = Output::new(self.rt);
         if self.is_dry_run {
-            writeln!(out.text, "would delete {name}")?;
+            print(self.rt, &["would delete ", name, "\n"])?;
         } else if let Err(error) = fs::remove_file(self.rt, path) {
-            let message = format_args!("cannot change {path}: {error}\nnot changed: {name}");
-            return Err(refuse(self.rt, UNWRITTEN, message));
+            let _ = refuse_for(self.rt, UNWRITTEN, &["cannot change ", path], error);
+            return Err(refuse(self.rt, UNWRITTEN, &["not changed: ", name]));
         } else {
-            writeln!(out.text, "deleted {name}")?;
+            print(self.rt, &["deleted ", name, "\n"])?;
         }
-        out.flush()?;
         Ok(0)
     }
 
@@ -266,8 +297,8 @@ impl<'a> Machine<'a> {
             for word in word.split(',') {
                 let number = self.existing(word)?;
                 if is_named[usize::from(number)] {
-                    let message = format_args!("{} is listed twice", self.variable(number));
-                    return Err(refuse(self.rt, WRONG_ARGUMENTS, message));
+                    let variable = self.variable(number);
+                    return Err(self.refuse(WRONG_ARGUMENTS, variable, &["is listed twice"]));
                 }
                 is_named[usize::from(number)] = true;
                 numbers.push(number)?;
@@ -306,9 +337,8 @@ impl<'a> Machine<'a> {
             (false, Some(_)) => self.listed(words)?,
             _ => return Err(words.refuse_usage(self.rt)),
         };
-        self.keep_malformed(order)?;
         let plan = uefi_boot_plans::order(self.rt.alloc(), &numbers)?;
-        self.carry_out(&plan, &[])
+        self.replace(order, &plan)
     }
 
     fn first(&self, words: &Words<'_>) -> Result<u8, End> {
@@ -318,19 +348,27 @@ impl<'a> Machine<'a> {
         self.carry(number, plan)
     }
 
+    /// Carries out a plan that replaces a variable.
+    fn replace(&self, variable: Variable, plan: &[Step]) -> Result<u8, End> {
+        self.keep_malformed(variable)?;
+        self.carry_out(plan, &[])
+    }
+
+    /// Deletes a variable, if it is set.
+    fn clear(&self, variable: Variable, changed: Changed) -> Result<u8, End> {
+        if self.variables.find(variable).is_none() {
+            return Ok(0);
+        }
+        self.replace(variable, &uefi_boot_plans::clear(self.rt.alloc(), changed)?)
+    }
+
     fn next(&self, words: &Words<'_>) -> Result<u8, End> {
         let word = self.word(words, 0);
-        let alloc = self.rt.alloc();
-        let plan = if word == "none" {
-            if self.variables.find(Variable::BootNext).is_none() {
-                return Ok(0);
-            }
-            uefi_boot_plans::clear(alloc, Changed::Next)?
-        } else {
-            uefi_boot_plans::next(alloc, self.existing(word)?)?
-        };
-        self.keep_malformed(Variable::BootNext)?;
-        self.carry_out(&plan, &[])
+        if word == "none" {
+            return self.clear(Variable::BootNext, Changed::Next);
+        }
+        let plan = uefi_boot_plans::next(self.rt.alloc(), self.existing(word)?)?;
+        self.replace(Variable::BootNext, &plan)
     }
 
     fn set_active(&self, words: &Words<'_>, active: bool) -> Result<u8, End> {
@@ -355,23 +393,40 @@ impl<'a> Machine<'a> {
 
     fn timeout(&self, words: &Words<'_>) -> Result<u8, End> {
         let word = self.word(words, 0);
-        let alloc = self.rt.alloc();
-        let plan = match word {
-            "none" if self.variables.find(Variable::Timeout).is_none() => return Ok(0),
-            "none" => uefi_boot_plans::clear(alloc, Changed::Timeout)?,
-            "forever" => uefi_boot_plans::timeout(alloc, u16::MAX)?,
-            _ => match word.parse::<u16>() {
-                Ok(seconds) if seconds < u16::MAX => uefi_boot_plans::timeout(alloc, seconds)?,
-                _ => {
-                    let message = format_args!(
-                        "'{word}' is not a number of seconds below 65535, forever or none"
-                    );
-                    return Err(refuse(self.rt, WRONG_ARGUMENTS, message));
-                }
-            },
+        let seconds = match word {
+            "none" => return self.clear(Variable::Timeout, Changed::Timeout),
+            "forever" => u16::MAX,
+            _ => self.seconds(word)?,
         };
-        self.keep_malformed(Variable::Timeout)?;
-        self.carry_out(&plan, &[])
+        let plan = uefi_boot_plans::timeout(self.rt.alloc(), seconds)?;
+        self.replace(Variable::Timeout, &plan)
+    }
+
+    /// Returns a number of seconds that firmware can wait.
+    fn seconds(&self, word: &str) -> Result<u16, End> {
+        match word.parse::<u16>() {
+            Ok(seconds) if seconds < u16::MAX => Ok(seconds),
+            _ => {
+                let what = "' is not a number of seconds below 65535, forever or none";
+                Err(refuse(self.rt, WRONG_ARGUMENTS, &["'", word, what]))
+            }
+        }
+    }
+
+    /// Runs a verb.
+    fn run(&self, verb: Verb, words: &Words<'_>) -> Result<u8, End> {
+        match verb {
+            Verb::Check => check::run(self.rt, words, self.folder, &self.variables),
+            Verb::Create => self.create(words),
+            Verb::Delete => self.delete(words),
+            Verb::Order => self.order_all(words),
+            Verb::First => self.first(words),
+            Verb::Next => self.next(words),
+            Verb::Activate => self.set_active(words, true),
+            Verb::Deactivate => self.set_active(words, false),
+            Verb::Rename => self.rename(words),
+            Verb::Timeout => self.timeout(words),
+        }
     }
 }
 
@@ -380,19 +435,17 @@ impl<'a> Machine<'a> {
 pub(crate) fn run<'a>(
     rt: &'a HostRuntime,
     verb: Verb,
-    words: &'a [String],
+    words: &'a [&'a str],
     is_quiet: bool,
 ) -> Result<u8, End> {
     let words = Words::new(rt.alloc(), verb, words)?;
     if words.asks_help() {
-        let mut out = Output::new(rt);
-        write!(out.text, "{}", verb.help())?;
-        out.flush()?;
+        print(rt, &[verb.help()])?;
         return Ok(0);
     }
     words.check(rt)?;
     let folder = words.value("--variables").unwrap_or(OWN);
-    let arguments = [String::from_str(rt.alloc(), folder)?];
+    let arguments = [folder];
     let variables = if folder == OWN {
         find_own(rt, &arguments)?
     } else {
@@ -407,16 +460,5 @@ pub(crate) fn run<'a>(
         is_dry_run: words.has("--dry-run"),
         is_forced: words.has("--force"),
     };
-    match verb {
-        Verb::Check => check::run(rt, &words, folder, &machine.variables),
-        Verb::Create => machine.create(&words),
-        Verb::Delete => machine.delete(&words),
-        Verb::Order => machine.order_all(&words),
-        Verb::First => machine.first(&words),
-        Verb::Next => machine.next(&words),
-        Verb::Activate => machine.set_active(&words, true),
-        Verb::Deactivate => machine.set_active(&words, false),
-        Verb::Rename => machine.rename(&words),
-        Verb::Timeout => machine.timeout(&words),
-    }
+    machine.run(verb, &words)
 }

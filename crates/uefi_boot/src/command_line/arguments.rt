@@ -154,10 +154,10 @@ pub(crate) fn is_option(word: &str) -> bool {
 
 /// Returns the index of the first word that is neither an option nor the value of one, if no `--` precedes
 /// it.
-pub(crate) fn first_plain(words: &[String]) -> Option<usize> {
+pub(crate) fn first_plain(words: &[&str]) -> Option<usize> {
     let mut is_value = false;
     for (place, word) in words.iter().enumerate() {
-        let word = word.as_str();
+        let word = *word;
         if is_value {
             is_value = false;
         } else if word == "--" {
@@ -173,11 +173,11 @@ pub(crate) fn first_plain(words: &[String]) -> Option<usize> {
 
 /// Returns the candidate that begins with a word, or otherwise the one with the fewest edits from
 /// it, and how many edits these are.
-fn nearest(
+fn nearest<'w>(
     alloc: Global,
-    word: &str,
+    word: &'w str,
     candidates: &[&'static str],
-) -> Result<(&'static str, usize), AllocError> {
+) -> Result<(&'w str, usize), AllocError> {
     let (mut best, mut fewest) = ("--help", usize::MAX);
     for candidate in candidates {
         let edits = if candidate.starts_with(word) {
@@ -196,31 +196,42 @@ fn nearest(
 /// Reports that an option does not exist, and what to type instead.
 pub(crate) fn refuse_option(rt: &HostRuntime, option: &str, options: &[&'static str]) -> End {
     if let Some(hint) = hints::of_option(option) {
-        let message = format_args!("unknown option '{option}' (type {hint})");
-        return refuse(rt, WRONG_ARGUMENTS, message);
+        return refuse(
+            rt,
+            WRONG_ARGUMENTS,
+            &["unknown option '", option, "' (type ", hint, ")"],
+        );
     }
     if option == "--json" {
-        let message = format_args!("only uefi_boot and uefi_boot check have the option '--json'");
-        return refuse(rt, WRONG_ARGUMENTS, message);
+        return refuse(
+            rt,
+            WRONG_ARGUMENTS,
+            &["only uefi_boot and uefi_boot check have the option '--json'"],
+        );
     }
     if is_of_a_verb(option) {
-        let message = format_args!(
-            "option '{option}' does not belong here (uefi_boot --help lists the commands)"
+        return refuse(
+            rt,
+            WRONG_ARGUMENTS,
+            &[
+                "option '",
+                option,
+                "' does not belong here (uefi_boot --help lists the commands)",
+            ],
         );
-        return refuse(rt, WRONG_ARGUMENTS, message);
     }
     match nearest(rt.alloc(), option, options) {
         Ok((best, _)) => refuse(
             rt,
             WRONG_ARGUMENTS,
-            format_args!("unknown option '{option}' (did you mean '{best}'?)"),
+            &["unknown option '", option, "' (did you mean '", best, "'?)"],
         ),
         Err(error) => End::from(error),
     }
 }
 
 /// Returns the verb that begins with a word, or otherwise the nearest verb within two edits.
-pub(crate) fn meant_verb(alloc: Global, word: &str) -> Result<Option<&'static str>, AllocError> {
+pub(crate) fn meant_verb(alloc: Global, word: &str) -> Result<Option<&str>, AllocError> {
     let (best, edits) = nearest(alloc, word, &VERBS)?;
     Ok(if edits <= 2 { Some(best) } else { None })
 }
@@ -229,7 +240,7 @@ pub(crate) fn meant_verb(alloc: Global, word: &str) -> Result<Option<&'static st
 #[derive(Drop)]
 pub(crate) struct Words<'a> {
     verb: Verb,
-    words: &'a [String],
+    words: &'a [&'a str],
     /// The indexes of the options, and of the words that are neither options nor values of options.
     options: Vec<usize>,
     plain: Vec<usize>,
@@ -247,12 +258,12 @@ impl<'a> Words<'a> {
     pub(crate) fn new(
         alloc: Global,
         verb: Verb,
-        words: &'a [String],
+        words: &'a [&'a str],
     ) -> Result<Words<'a>, AllocError> {
         let (mut options, mut plain) = (Vec::new(alloc), Vec::new(alloc));
         let (mut is_value, mut are_plain) = (false, false);
         for (place, word) in words.iter().enumerate() {
-            let word = word.as_str();
+            let word = *word;
             if is_value {
                 is_value = false;
             } else if are_plain || !is_option(word) {
@@ -275,7 +286,7 @@ impl<'a> Words<'a> {
     /// Returns the word at an index, or an empty one after the last.
     fn word(&self, place: usize) -> &'a str {
         match self.words.get(place) {
-            Some(word) => word.as_str(),
+            Some(word) => *word,
             None => "",
         }
     }
@@ -321,11 +332,7 @@ impl<'a> Words<'a> {
             .iter()
             .filter(|it| self.has(it) || self.value(it).is_some());
         if 1 < given.count() {
-            return Err(refuse(
-                rt,
-                WRONG_ARGUMENTS,
-                format_args!("pass only one of {names}"),
-            ));
+            return Err(refuse(rt, WRONG_ARGUMENTS, &["pass only one of ", names]));
         }
         Ok(())
     }
@@ -358,7 +365,7 @@ impl<'a> Words<'a> {
     /// Returns the error that the words do not fit, with the line of the help that lists them.
     pub(crate) fn refuse_usage(&self, rt: &HostRuntime) -> End {
         let usage = self.verb.help().split_once('\n').map_or("", |it| it.0);
-        refuse(rt, WRONG_ARGUMENTS, format_args!("{usage}"))
+        refuse(rt, WRONG_ARGUMENTS, &[usage])
     }
 
     /// Rejects options that the verb does not have, options without a value or given twice, and too few
@@ -382,10 +389,15 @@ impl<'a> Words<'a> {
         match self.plain(most) {
             None => Ok(()),
             Some(word) => {
-                let message = format_args!(
-                    "unexpected word '{word}' (a text with blanks needs quotation marks)"
-                );
-                Err(refuse(rt, WRONG_ARGUMENTS, message))
+                Err(refuse(
+                    rt,
+                    WRONG_ARGUMENTS,
+                    &[
+                        "unexpected word '",
+                        word,
+                        "' (a text with blanks needs quotation marks)",
+                    ],
+                ))
             }
         }
     }
@@ -396,33 +408,29 @@ impl<'a> Words<'a> {
         for place in self.options.iter().take(count) {
             let other = self.word(*place);
             if other == name || attached(other, name).is_some() {
-                let message = format_args!("option '{name}' is given twice");
-                return Err(refuse(rt, WRONG_ARGUMENTS, message));
+                return Err(refuse(rt, WRONG_ARGUMENTS, &["option '", name, "' is given twice"]));
             }
         }
         Ok(())
     }
 
     /// Rejects an option without a value, or with another option in place of the value.
-    fn check_value(
-        &self,
-        rt: &HostRuntime,
-        option: &str,
-        value: Option<&String>,
-    ) -> Result<(), End> {
-        match value {
-            None => {
-                let message = format_args!("option '{option}' needs a value");
-                Err(refuse(rt, WRONG_ARGUMENTS, message))
+    fn check_value(&self, rt: &HostRuntime, option: &str, value: Option<&&str>) -> Result<(), End> {
+        let message = match value {
+            Some(value) if is_option(value) => {
+                let what = "' needs a value (to pass '";
+                return Err(refuse(
+                    rt,
+                    WRONG_ARGUMENTS,
+                    &[
+                        "option '", option, what, *value, "', type ", option, "=", *value, ")",
+                    ],
+                ));
             }
-            Some(value) if value.starts_with("-") && value.as_str() != "-" => {
-                let message = format_args!(
-                    "option '{option}' needs a value (to pass '{value}', type {option}={value})"
-                );
-                Err(refuse(rt, WRONG_ARGUMENTS, message))
-            }
-            _ => Ok(()),
-        }
+            Some(_) => return Ok(()),
+            None => ["option '", option, "' needs a value"],
+        };
+        Err(refuse(rt, WRONG_ARGUMENTS, &message))
     }
 
     fn refuse_word(&self, rt: &HostRuntime, word: &str) -> Result<End, AllocError> {

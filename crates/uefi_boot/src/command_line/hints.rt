@@ -70,7 +70,7 @@ const COMMANDS: &[(&str, &str)] = &[
 ];
 
 /// Returns what a table has for a word.
-fn found(table: &[(&'static str, &'static str)], word: &str) -> Option<&'static str> {
+fn found<'w>(table: &[(&'static str, &'static str)], word: &'w str) -> Option<&'w str> {
     for (name, hint) in table {
         if *name == word {
             return Some(*hint);
@@ -81,7 +81,7 @@ fn found(table: &[(&'static str, &'static str)], word: &str) -> Option<&'static 
 
 /// Returns what to type instead of an option of efibootmgr. The value of a letter may follow it in the
 /// same word.
-pub(crate) fn of_option(option: &str) -> Option<&'static str> {
+pub(crate) fn of_option(option: &str) -> Option<&str> {
     if option.starts_with("--") {
         return found(OPTIONS, option);
     }
@@ -89,6 +89,6 @@ pub(crate) fn of_option(option: &str) -> Option<&'static str> {
 }
 
 /// Returns what to type instead of a command of another program.
-pub(crate) fn of_command(word: &str) -> Option<&'static str> {
+pub(crate) fn of_command(word: &str) -> Option<&str> {
     found(COMMANDS, word)
 }

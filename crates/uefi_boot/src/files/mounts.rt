@@ -1,8 +1,10 @@
 //! The mounted file systems of the machine, from proc_pid_mountinfo(5).
 use crate::files::program_ends::{End, WRONG_ARGUMENTS, refuse};
 use crate::files::variables::unreadable;
+use crate::output::growing_texts::{joined, text_shown};
 use std::alloc::{AllocError, Global};
 use std::os::unix::fs::MetadataExt;
+use std::path::PathBuf;
 use std::{fs, io};
 
 const MOUNTS: &str = "/proc/self/mountinfo";
@@ -29,7 +31,7 @@ fn device_of(rt: &HostRuntime, path: &str) -> Result<String, End> {
     };
     let major = ((device >> 8) & 0xfff) | ((device >> 32) & 0xffff_f000);
     let minor = (device & 0xff) | ((device >> 12) & 0xffff_ff00);
-    Ok(format!(in rt.alloc(); "{major}:{minor}")?)
+    Ok(text_shown(rt.alloc(), &format_args!("{major}:{minor}"))?)
 }
 
 /// Returns whether a directory is in Linux's `efivarfs`, which accepts only files of variables, each
@@ -114,36 +116,70 @@ pub(crate) struct Mounted {
     pub(crate) kind: String,
 }
 
+/// Returns the path of a loader without links.
+fn real_loader(rt: &HostRuntime, file: &str) -> Result<PathBuf, End> {
+    match fs::canonicalize(rt, file) {
+        Ok(real) => Ok(real),
+        Err(error) if matches!(error.kind(), io::ErrorKind::NotFound) => {
+            let what = ": no such file \
+                        (mount the EFI system partition, or name the partition with --partuuid)";
+            Err(refuse(rt, WRONG_ARGUMENTS, &["--loader ", file, what]))
+        }
+        Err(error) => Err(unreadable(rt, file, &error)),
+    }
+}
+
+/// Returns the length of a line's mount point, and what follows it in a path at or below it.
+fn below_mount<'a>(
+    alloc: Global,
+    line: &str,
+    path: &'a str,
+) -> Result<Option<(usize, &'a str)>, AllocError> {
+    let point = unescaped(alloc, field(line, 4))?;
+    Ok(match below(path, point.as_str()) {
+        Some(rest) => Some((point.len(), rest)),
+        None => None,
+    })
+}
+
+/// Returns a path at or below the mount point of a line, on the file system that is mounted there.
+fn path_on(alloc: Global, line: &str, path: &str) -> Result<String, AllocError> {
+    let root = unescaped(alloc, field(line, 3))?;
+    match below_mount(alloc, line, path)? {
+        Some((_, rest)) => joined(alloc, &[root.as_str().trim_end_matches('/'), rest]),
+        None => Ok(root),
+    }
+}
+
+/// Returns the type of the file system of a line.
+fn kind_of(alloc: Global, line: &str) -> Result<String, AllocError> {
+    let kinds = line.split_once(" - ").map_or("", |it| it.1);
+    String::from_str(alloc, field(kinds, 0))
+}
+
 /// Finds the file system of a file, and the path there.
 pub(crate) fn find_mounted(rt: &HostRuntime, file: &str) -> Result<Mounted, End> {
     let alloc = rt.alloc();
-    let real = match fs::canonicalize(rt, file) {
-        Ok(real) => real,
-        Err(error) if matches!(error.kind(), io::ErrorKind::NotFound) => {
-            let message = format_args!(
-                "--loader {file}: no such file \
-                 (mount the EFI system partition, or name the partition with --partuuid)"
-            );
-            return Err(refuse(rt, WRONG_ARGUMENTS, message));
-        }
-        Err(error) => return Err(unreadable(rt, file, &error)),
-    };
+    let real = real_loader(rt, file)?;
     let device = device_of(rt, file)?;
-    let (mut path, mut kind, mut longest) = (String::new(alloc), String::new(alloc), None);
     let mounts = mounts(rt)?;
-    for line in mounts.as_str().lines() {
-        let point = unescaped(alloc, field(line, 4))?;
-        if field(line, 2) != device.as_str() || longest > Some(point.len()) {
-            continue;
+    let (mut longest, mut found) = (0, None);
+    for (place, line) in mounts.as_str().lines().enumerate() {
+        if field(line, 2) == device.as_str() {
+            if let Some((len, _)) = below_mount(alloc, line, real.as_str())? {
+                if longest <= len {
+                    longest = len;
+                    found = Some(place);
+                }
+            }
         }
-        let Some(rest) = below(real.as_str(), point.as_str()) else {
-            continue;
-        };
-        let root = unescaped(alloc, field(line, 3))?;
-        path = format!(in alloc; "{}{rest}", root.as_str().trim_end_matches('/'))?;
-        let kinds = line.split_once(" - ").map_or("", |it| it.1);
-        kind = String::from_str(alloc, field(kinds, 0))?;
-        longest = Some(point.len());
     }
+    let (path, kind) = match found {
+        Some(place) => {
+            let line = mounts.as_str().lines().nth(place).unwrap_or("");
+            (path_on(alloc, line, real.as_str())?, kind_of(alloc, line)?)
+        }
+        None => (String::new(alloc), String::new(alloc)),
+    };
     Ok(Mounted { device, path, kind })
 }

@@ -1,10 +1,12 @@
 //! The variables of a machine: their names, and the locations of their files.
 ghost use Rattle.std.specs.Prelude.{◌≤◌, IfOk, length};
 
-use crate::files::program_ends::{End, UNREADABLE, WRONG_ARGUMENTS, refuse};
+use crate::files::program_ends::{End, UNREADABLE, WRONG_ARGUMENTS, refuse, refuse_with};
 use crate::fill;
+use crate::output::growing_texts::{Growing, joined, text_shown};
 use std::alloc::{AllocError, Global};
 use std::fmt::{self, Write};
+use std::path::PathBuf;
 use std::{fs, io};
 use uefi_boot_variables::{LoadOptionKind, LoadOptionName};
 
@@ -159,7 +161,7 @@ pub(crate) struct PassedOver {
 #[derive(Drop)]
 pub(crate) struct Variables<'a> {
     rt: &'a HostRuntime,
-    arguments: &'a [String],
+    arguments: &'a [&'a str],
     pub(crate) sources: Vec<Source>,
     pub(crate) passed_over: Vec<PassedOver>,
 }
@@ -181,33 +183,40 @@ pub(crate) fn file_name(path: &str) -> &str {
 /// The names of entries, without their numbers.
 const ENTRIES: [&str; 4] = ["Boot", "Driver", "SysPrep", "PlatformRecovery"];
 
+/// Splits a name at the number of an entry.
+fn split_name(name: &str) -> Option<(&'static str, &str)> {
+    for kind in &ENTRIES {
+        if let Some(digits) = name.strip_prefix(*kind) {
+            return Some((*kind, digits));
+        }
+    }
+    None
+}
+
 /// Returns the entry that a name would name if all its digits were upper-case, if some are not.
 fn of_lowercase_digits(alloc: Global, name: &str) -> Result<Option<Variable>, AllocError> {
     if Variable::of_name(name).is_some() {
         return Ok(None);
     }
-    for kind in ENTRIES {
-        if let Some(digits) = name.strip_prefix(kind) {
-            let upper = digits.to_ascii_uppercase(alloc)?;
-            let upper = format!(in alloc; "{kind}{upper}")?;
-            return Ok(Variable::of_name(upper.as_str()));
-        }
-    }
-    Ok(None)
+    let Some((kind, digits)) = split_name(name) else {
+        return Ok(None);
+    };
+    let upper = digits.to_ascii_uppercase(alloc)?;
+    Ok(Variable::of_name(joined(alloc, &[kind, upper.as_str()])?.as_str()))
 }
 
 /// Returns the path of a variable in a directory that a word names, if some digits of the word are
 /// lower-case and the directory has a variable of exactly this name. Firmware ignores such a variable.
-pub(crate) fn lowercase_file(
+pub(crate) fn lowercase_file<'p>(
     rt: &HostRuntime,
-    folder: &str,
-    word: &str,
+    folder: &'p str,
+    word: &'p str,
 ) -> Result<Option<String>, AllocError> {
     if of_lowercase_digits(rt.alloc(), word)?.is_none() {
         return Ok(None);
     }
     for guid in [GLOBAL, ""] {
-        let path = format!(in rt.alloc(); "{folder}/{word}{guid}")?;
+        let path = joined(rt.alloc(), &[folder, "/", word, guid])?;
         if fs::metadata(rt, path.as_str()).is_ok() {
             return Ok(Some(path));
         }
@@ -217,14 +226,29 @@ pub(crate) fn lowercase_file(
 
 /// Reports that a path can't be read, or that memory ran out.
 pub(crate) fn unreadable(rt: &HostRuntime, path: &str, error: &io::Error) -> End {
-    match error.kind() {
-        io::ErrorKind::OutOfMemory => End::OutOfMemory,
-        io::ErrorKind::PermissionDenied => {
-            let message = format_args!("cannot read {path}: {error} (run as root?)");
-            refuse(rt, UNREADABLE, message)
-        }
-        _ => refuse(rt, UNREADABLE, format_args!("cannot read {path}: {error}")),
+    let hint = match error.kind() {
+        io::ErrorKind::OutOfMemory => return End::OutOfMemory,
+        io::ErrorKind::PermissionDenied => " (run as root?)",
+        _ => "",
+    };
+    refuse_with(
+        rt,
+        UNREADABLE,
+        format_args!("cannot read {path}: {error}{hint}"),
+    )
+}
+
+/// Returns the path without links that a path leads to.
+pub(crate) fn real_path(rt: &HostRuntime, path: &str) -> Result<PathBuf, End> {
+    match fs::canonicalize(rt, path) {
+        Ok(real) => Ok(real),
+        Err(error) => Err(unreadable(rt, path, &error)),
     }
+}
+
+/// Returns the path of a file in a directory.
+pub(crate) fn path_below(alloc: Global, directory: &str, file: &str) -> Result<String, AllocError> {
+    joined(alloc, &[directory, "/", file])
 }
 
 /// Returns whether a directory contains no file, or can't be read.
@@ -238,20 +262,29 @@ fn is_empty(rt: &HostRuntime, path: &str) -> bool {
 /// Finds the variables of the machine, in `arguments`, which is only [`OWN`].
 pub(crate) fn find_own<'a>(
     rt: &'a HostRuntime,
-    arguments: &'a [String],
+    arguments: &'a [&'a str],
 ) -> Result<Variables<'a>, End> {
     if fs::metadata(rt, FIRMWARE).is_err() {
-        let message = format_args!(
-            "{FIRMWARE} does not exist: this machine was booted by BIOS, or in a container \
-             (to read a copy of the variables, type uefi_boot DIRECTORY)"
-        );
-        return Err(refuse(rt, UNREADABLE, message));
+        return Err(refuse(
+            rt,
+            UNREADABLE,
+            &[
+                FIRMWARE,
+                " does not exist: this machine was booted by BIOS, or in a container (to read a copy of the variables, type uefi_boot DIRECTORY)",
+            ],
+        ));
     }
     if is_empty(rt, OWN) {
-        let message = format_args!(
-            "{OWN} has no variables (type mount -t efivarfs efivarfs {OWN})"
-        );
-        return Err(refuse(rt, UNREADABLE, message));
+        return Err(refuse(
+            rt,
+            UNREADABLE,
+            &[
+                OWN,
+                " has no variables (type mount -t efivarfs efivarfs ",
+                OWN,
+                ")",
+            ],
+        ));
     }
     find_all(rt, arguments)
 }
@@ -290,6 +323,15 @@ impl<'a> Variables<'a> {
         let file = String::from_str(self.rt.alloc(), file)?;
         self.passed_over.push(PassedOver { file, reason })?;
         Ok(())
+    }
+
+    /// Records another file of a variable.
+    fn pass_over_other(&mut self, source: &Source) -> Result<(), AllocError> {
+        let path = self.path_of(source)?;
+        self.pass_over(
+            file_name(path.as_str()),
+            "another file has the same variable",
+        )
     }
 
     /// Adds a file if its name is the name of a boot variable, and returns whether it is.
@@ -338,6 +380,26 @@ impl<'a> Variables<'a> {
         Ok(())
     }
 
+    /// Adds a file, or the files of a folder. Returns `false` for a file whose name is not that of a boot
+    /// variable.
+    fn add_argument(&mut self, path: &str, argument: usize) -> Result<bool, End> {
+        match fs::metadata(self.rt, path) {
+            Ok(found) if found.is_dir() => {
+                self.add_folder(path, argument)?;
+                return Ok(true);
+            }
+            Err(error) if !matches!(error.kind(), io::ErrorKind::PermissionDenied) => {
+                return Err(unreadable(self.rt, path, &error));
+            }
+            _ => {}
+        }
+        let is_variable = self.add(path, argument, false)?;
+        if !is_variable {
+            self.pass_over(path, "the name is not that of a boot variable")?;
+        }
+        Ok(is_variable)
+    }
+
     /// Sorts the variables, and keeps each once: the file with a GUID in its name, if there is one,
     /// or otherwise the first that was found.
     fn keep_each_once(&mut self) -> Result<(), AllocError> {
@@ -350,11 +412,7 @@ impl<'a> Variables<'a> {
                 None => false,
             };
             if is_known {
-                let path = self.path_of(it)?;
-                self.pass_over(
-                    file_name(path.as_str()),
-                    "another file has the same variable",
-                )?;
+                self.pass_over_other(it)?;
             } else {
                 kept.push(*it)?;
             }
@@ -367,7 +425,7 @@ impl<'a> Variables<'a> {
     pub(crate) fn path_of(&self, source: &Source) -> Result<String, AllocError> {
         let alloc = self.rt.alloc();
         let argument = match self.arguments.get(source.argument) {
-            Some(argument) => argument.as_str(),
+            Some(argument) => *argument,
             None => "",
         };
         if !source.is_in_folder {
@@ -393,7 +451,6 @@ impl<'a> Variables<'a> {
         source: &Source,
         buffer: &'b mut [u8],
     ) -> Result<Content<'b>, AllocError> {
-        let alloc = self.rt.alloc();
         let path = self.path_of(source)?;
         let error = match read_file(self.rt, path.as_str(), buffer) {
             Ok(count) => return Ok(Content::Bytes(&buffer[..count])),
@@ -402,9 +459,9 @@ impl<'a> Variables<'a> {
         match error.kind() {
             io::ErrorKind::OutOfMemory => Err(AllocError),
             io::ErrorKind::InvalidInput => {
-                Ok(Content::Unreadable(String::from_str(alloc, "not a file")?))
+                Ok(Content::Unreadable(String::from_str(self.rt.alloc(), "not a file")?))
             }
-            _ => Ok(Content::Unreadable(format!(in alloc; "{error}")?)),
+            _ => Ok(Content::Unreadable(text_shown(self.rt.alloc(), &error)?)),
         }
     }
 
@@ -438,13 +495,17 @@ pub(crate) fn file_in(
 ) -> Result<String, AllocError> {
     let slash = if folder.ends_with('/') { "" } else { "/" };
     let guid = if has_guid { GLOBAL } else { "" };
-    format!(in alloc; "{folder}{slash}{variable}{guid}")
+    let mut path = Growing::new(alloc);
+    path.add(&[folder, slash]);
+    path.show(&variable);
+    path.add(&[guid]);
+    path.finish()
 }
 
 /// Finds the variables in files and folders.
 pub(crate) fn find_all<'a>(
     rt: &'a HostRuntime,
-    arguments: &'a [String],
+    arguments: &'a [&'a str],
 ) -> Result<Variables<'a>, End> {
     let mut variables = Variables {
         rt,
@@ -454,26 +515,10 @@ pub(crate) fn find_all<'a>(
     };
     let mut has_variables = false;
     for (argument, path) in arguments.iter().enumerate() {
-        let path = path.as_str();
-        match fs::metadata(rt, path) {
-            Ok(found) if found.is_dir() => {
-                variables.add_folder(path, argument)?;
-                has_variables = true;
-            }
-            Err(error) if !matches!(error.kind(), io::ErrorKind::PermissionDenied) => {
-                return Err(unreadable(rt, path, &error));
-            }
-            _ => {
-                if variables.add(path, argument, false)? {
-                    has_variables = true;
-                } else {
-                    variables.pass_over(path, "the name is not that of a boot variable")?;
-                }
-            }
-        }
+        has_variables = variables.add_argument(path, argument)? || has_variables;
     }
     if !has_variables {
-        return Err(refuse(rt, WRONG_ARGUMENTS, format_args!("{NO_VARIABLE}")));
+        return Err(refuse(rt, WRONG_ARGUMENTS, &[NO_VARIABLE]));
     }
     variables.keep_each_once()?;
     Ok(variables)

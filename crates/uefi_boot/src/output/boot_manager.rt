@@ -2,9 +2,9 @@
 use crate::files::program_ends::End;
 use crate::files::variables::{Content, MOST_BYTES, Variable, Variables};
 use crate::output::entry::push;
+use crate::output::growing_texts::{Growing, text_shown};
 use serde::Serialize;
 use std::alloc::{AllocError, Global};
-use std::fmt::{self, Write};
 use uefi_boot_variables::{LoadOptionKind, LoadOptionName, LoadOrder, read_number};
 
 /// A variable without a usable value, and why.
@@ -39,8 +39,7 @@ pub(crate) fn name_of(
     kind: LoadOptionKind,
     number: u16,
 ) -> Result<String, AllocError> {
-    let name = LoadOptionName { kind, number };
-    format!(in alloc; "{name}")
+    text_shown(alloc, &LoadOptionName { kind, number })
 }
 
 /// Returns the names of entries.
@@ -119,7 +118,7 @@ impl Head {
         variables: &Variables<'_>,
         variable: Variable,
         buffer: &mut [u8],
-    ) -> Result<Option<u16>, End> {
+    ) -> Result<Option<u16>, AllocError> {
         let Some(bytes) = self.value(alloc, variables, variable, buffer)? else {
             return Ok(None);
         };
@@ -129,7 +128,7 @@ impl Head {
                 self.fail(
                     variable,
                     bytes.len().min(2),
-                    format!(in alloc; "{error}")?,
+                    text_shown(alloc, &error)?,
                     true,
                 )?;
                 Ok(None)
@@ -144,12 +143,14 @@ impl Head {
         variables: &Variables<'_>,
         variable: Variable,
         buffer: &mut [u8],
-    ) -> Result<Option<u64>, End> {
+    ) -> Result<Option<u64>, AllocError> {
         let Some(bytes) = self.value(alloc, variables, variable, buffer)? else {
             return Ok(None);
         };
         let [a, b, c, d, e, f, g, h] = bytes else {
-            let reason = format!(in alloc; "the bits have eight bytes, and not {}", bytes.len())?;
+            let len = bytes.len();
+            let what = format_args!("the bits have eight bytes, and not {len}");
+            let reason = text_shown(alloc, &what)?;
             self.fail(variable, bytes.len().min(8), reason, true)?;
             return Ok(None);
         };
@@ -163,25 +164,14 @@ impl Head {
         variables: &Variables<'_>,
         variable: Variable,
         buffer: &mut [u8],
-    ) -> Result<Option<Vec<u16>>, End> {
+    ) -> Result<Option<Vec<u16>>, AllocError> {
         let Some(bytes) = self.value(alloc, variables, variable, buffer)? else {
             return Ok(None);
         };
         match LoadOrder::from_bytes(bytes) {
-            Ok(order) => {
-                let mut numbers = Vec::with_capacity(alloc, order.len())?;
-                for number in order.iter() {
-                    numbers.push(number)?;
-                }
-                Ok(Some(numbers))
-            }
+            Ok(order) => Ok(Some(numbers_of(alloc, order)?)),
             Err(error) => {
-                self.fail(
-                    variable,
-                    bytes.len() - 1,
-                    format!(in alloc; "{error}")?,
-                    true,
-                )?;
+                self.fail(variable, bytes.len() - 1, text_shown(alloc, &error)?, true)?;
                 Ok(None)
             }
         }
@@ -192,7 +182,7 @@ impl Head {
         alloc: Global,
         variables: &Variables<'_>,
         buffer: &mut [u8],
-    ) -> Result<Head, End> {
+    ) -> Result<Head, AllocError> {
         let mut head = Head {
             boot_order: None,
             boot_current: None,
@@ -204,119 +194,130 @@ impl Head {
             os_indications_supported: None,
             silent: Vec::new(alloc),
         };
-        head.boot_order = head.order(alloc, variables, Variable::BootOrder, buffer)?;
-        head.boot_current = head.number(alloc, variables, Variable::BootCurrent, buffer)?;
-        head.boot_next = head.number(alloc, variables, Variable::BootNext, buffer)?;
-        head.timeout = head.number(alloc, variables, Variable::Timeout, buffer)?;
-        head.driver_order = head.order(alloc, variables, Variable::DriverOrder, buffer)?;
-        head.sysprep_order = head.order(alloc, variables, Variable::SysPrepOrder, buffer)?;
-        head.os_indications = head.bits(alloc, variables, Variable::OsIndications, buffer)?;
-        let supported = Variable::OsIndicationsSupported;
-        head.os_indications_supported = head.bits(alloc, variables, supported, buffer)?;
+        head.read_orders(alloc, variables, buffer)?;
+        head.read_numbers(alloc, variables, buffer)?;
+        head.read_bits(alloc, variables, buffer)?;
         Ok(head)
+    }
+
+    fn read_orders(
+        &mut self,
+        alloc: Global,
+        variables: &Variables<'_>,
+        buffer: &mut [u8],
+    ) -> Result<(), AllocError> {
+        self.boot_order = self.order(alloc, variables, Variable::BootOrder, buffer)?;
+        self.driver_order = self.order(alloc, variables, Variable::DriverOrder, buffer)?;
+        self.sysprep_order = self.order(alloc, variables, Variable::SysPrepOrder, buffer)?;
+        Ok(())
+    }
+
+    fn read_numbers(
+        &mut self,
+        alloc: Global,
+        variables: &Variables<'_>,
+        buffer: &mut [u8],
+    ) -> Result<(), AllocError> {
+        self.boot_current = self.number(alloc, variables, Variable::BootCurrent, buffer)?;
+        self.boot_next = self.number(alloc, variables, Variable::BootNext, buffer)?;
+        self.timeout = self.number(alloc, variables, Variable::Timeout, buffer)?;
+        Ok(())
+    }
+
+    fn read_bits(
+        &mut self,
+        alloc: Global,
+        variables: &Variables<'_>,
+        buffer: &mut [u8],
+    ) -> Result<(), AllocError> {
+        let supported = Variable::OsIndicationsSupported;
+        self.os_indications = self.bits(alloc, variables, Variable::OsIndications, buffer)?;
+        self.os_indications_supported = self.bits(alloc, variables, supported, buffer)?;
+        Ok(())
     }
 
     /// Writes the line of a variable without a usable value, if it is malformed or can't be read.
     /// Returns whether it is.
-    fn write_fault<W: Write>(&self, out: &mut W, variable: Variable) -> Result<bool, fmt::Error> {
+    fn write_fault(&self, out: &mut Growing, variable: Variable) -> bool {
         for silent in &self.silent {
             if silent.variable == variable {
                 let what = if silent.is_malformed {
-                    "malformed"
+                    ": malformed: "
                 } else {
-                    "cannot be read"
+                    ": cannot be read: "
                 };
-                writeln!(out, "{variable}: {what}: {}", silent.reason)?;
-                return Ok(true);
+                write_variable(out, "", variable, what);
+                out.add(&[silent.reason.as_str(), "\n"]);
+                return true;
             }
         }
-        Ok(false)
+        false
     }
 
     /// Writes why a variable has no usable value: it is malformed, can't be read, or is not set.
-    fn write_without<W: Write>(&self, out: &mut W, variable: Variable) -> fmt::Result {
-        if !self.write_fault(out, variable)? {
-            writeln!(out, "{variable}: not set")?;
+    fn write_without(&self, out: &mut Growing, variable: Variable) {
+        if !self.write_fault(out, variable) {
+            write_variable(out, "", variable, ": not set\n");
         }
-        Ok(())
     }
 
     /// Writes the line of the time that the firmware waits, if the variable is set.
-    fn write_timeout<W: Write>(&self, out: &mut W) -> fmt::Result {
+    fn write_timeout(&self, out: &mut Growing) {
         match self.timeout {
             Some(seconds) => write_timeout(out, seconds),
             None => {
-                self.write_fault(out, Variable::Timeout)?;
-                Ok(())
+                self.write_fault(out, Variable::Timeout);
             }
         }
     }
 
     /// Writes the line of a variable that names one entry.
-    fn write_one<W: Write>(
-        &self,
-        out: &mut W,
-        variable: Variable,
-        number: Option<u16>,
-    ) -> fmt::Result {
+    fn write_one(&self, out: &mut Growing, variable: Variable, number: Option<u16>) {
         match number {
-            Some(number) => writeln!(out, "{variable}: {}", Variable::Boot(number)),
+            Some(number) => write_named(out, variable, number),
             None => self.write_without(out, variable),
         }
     }
 
     /// Writes the line of an order of drivers or of preparations, if the variable is set.
-    fn write_other_order<W: Write>(
-        &self,
-        out: &mut W,
-        variable: Variable,
-        kind: LoadOptionKind,
-        order: &Option<Vec<u16>>,
-    ) -> fmt::Result {
+    fn write_other_order(&self, out: &mut Growing, kind: LoadOptionKind, order: &Option<Vec<u16>>) {
+        let variable = Variable::order_of(kind);
         match order {
             Some(numbers) => write_order(out, variable, kind, numbers),
             None => {
-                self.write_fault(out, variable)?;
-                Ok(())
+                self.write_fault(out, variable);
             }
         }
     }
 
     /// Writes the line of bits, if the variable is set.
-    fn write_bits<W: Write>(
-        &self,
-        out: &mut W,
-        variable: Variable,
-        bits: Option<u64>,
-    ) -> fmt::Result {
+    fn write_bits(&self, out: &mut Growing, variable: Variable, bits: Option<u64>) {
         match bits {
             Some(bits) => {
-                write!(out, "{variable}: ")?;
-                write_indications(out, bits)
+                write_variable(out, "", variable, ": ");
+                write_indications(out, bits);
             }
             None => {
-                self.write_fault(out, variable)?;
-                Ok(())
+                self.write_fault(out, variable);
             }
         }
     }
 
     /// Writes the values line by line.
-    pub(crate) fn write<W: Write>(&self, out: &mut W) -> fmt::Result {
+    pub(crate) fn write(&self, out: &mut Growing) {
         let order = Variable::BootOrder;
         match &self.boot_order {
-            Some(numbers) => write_order(out, order, LoadOptionKind::Boot, numbers)?,
-            None => self.write_without(out, order)?,
+            Some(numbers) => write_order(out, order, LoadOptionKind::Boot, numbers),
+            None => self.write_without(out, order),
         }
-        self.write_one(out, Variable::BootCurrent, self.boot_current)?;
-        self.write_one(out, Variable::BootNext, self.boot_next)?;
-        self.write_timeout(out)?;
-        let (driver, sysprep) = (LoadOptionKind::Driver, LoadOptionKind::SysPrep);
-        self.write_other_order(out, Variable::DriverOrder, driver, &self.driver_order)?;
-        self.write_other_order(out, Variable::SysPrepOrder, sysprep, &self.sysprep_order)?;
-        self.write_bits(out, Variable::OsIndications, self.os_indications)?;
+        self.write_one(out, Variable::BootCurrent, self.boot_current);
+        self.write_one(out, Variable::BootNext, self.boot_next);
+        self.write_timeout(out);
+        self.write_other_order(out, LoadOptionKind::Driver, &self.driver_order);
+        self.write_other_order(out, LoadOptionKind::SysPrep, &self.sysprep_order);
+        self.write_bits(out, Variable::OsIndications, self.os_indications);
         let supported = Variable::OsIndicationsSupported;
-        self.write_bits(out, supported, self.os_indications_supported)
+        self.write_bits(out, supported, self.os_indications_supported);
     }
 
     /// Returns whether every variable can be read.
@@ -330,30 +331,51 @@ impl Head {
     }
 }
 
+/// Returns the numbers of an order.
+pub(crate) fn numbers_of(alloc: Global, order: LoadOrder<'_>) -> Result<Vec<u16>, AllocError> {
+    let mut numbers = Vec::with_capacity(alloc, order.len())?;
+    for number in order.iter() {
+        numbers.push(number)?;
+    }
+    Ok(numbers)
+}
+
+/// Writes the name of a variable between two texts.
+pub(crate) fn write_variable(out: &mut Growing, before: &str, variable: Variable, after: &str) {
+    out.add(&[before]);
+    out.show(&variable);
+    out.add(&[after]);
+}
+
+/// Writes the line of a variable that names an entry.
+pub(crate) fn write_named(out: &mut Growing, variable: Variable, number: u16) {
+    write_variable(out, "", variable, ": ");
+    write_variable(out, "", Variable::Boot(number), "\n");
+}
+
 /// Writes the line of an order.
-pub(crate) fn write_order<W: Write>(
-    out: &mut W,
+pub(crate) fn write_order(
+    out: &mut Growing,
     variable: Variable,
     kind: LoadOptionKind,
     numbers: &[u16],
-) -> fmt::Result {
-    write!(out, "{variable}:")?;
+) {
+    write_variable(out, "", variable, ":");
     for number in numbers {
-        let name = LoadOptionName {
-            kind,
-            number: *number,
-        };
-        write!(out, " {name}")?;
+        write_variable(out, " ", Variable::of_kind(kind, *number), "");
     }
-    writeln!(out)
+    out.add(&["\n"]);
 }
 
 /// Writes the line of the time that the firmware waits.
-pub(crate) fn write_timeout<W: Write>(out: &mut W, seconds: u16) -> fmt::Result {
-    match seconds {
-        0xffff => writeln!(out, "Timeout: none, the firmware waits for a choice"),
-        _ => writeln!(out, "Timeout: {seconds} seconds"),
+pub(crate) fn write_timeout(out: &mut Growing, seconds: u16) {
+    if seconds == u16::MAX {
+        out.add(&["Timeout: none, the firmware waits for a choice\n"]);
+        return;
     }
+    out.add(&["Timeout: "]);
+    out.show(&seconds);
+    out.add(&[" seconds\n"]);
 }
 
 /// Returns the name of a bit of `OsIndications` and `OsIndicationsSupported` (UEFI Specification
@@ -372,27 +394,29 @@ fn indication(place: u32) -> &'static str {
 }
 
 /// Writes the names of bits, and an end of line.
-fn write_indications<W: Write>(out: &mut W, bits: u64) -> fmt::Result {
+fn write_indications(out: &mut Growing, bits: u64) {
     if bits == 0 {
-        return writeln!(out, "none");
+        out.add(&["none"]);
     }
     let mut is_first = true;
     for place in 0..8 {
         if (bits >> place) % 2 == 1 {
-            if !is_first {
-                write!(out, ", ")?;
-            }
+            out.add(&[if is_first { "" } else { ", " }]);
+            out.add(&[indication(place)]);
             is_first = false;
-            let name = indication(place);
-            write!(out, "{name}")?;
         }
     }
-    let reserved = bits & 0xffff_ffff_ffff_ff00;
+    let between = if is_first { "" } else { ", " };
+    write_reserved(out, between, bits & 0xffff_ffff_ffff_ff00);
+    out.add(&["\n"]);
+}
+
+/// Writes the reserved bits, if there are any.
+pub(crate) fn write_reserved(out: &mut Growing, between: &str, reserved: u64) {
     if reserved != 0 {
-        let between = if is_first { "" } else { ", " };
-        write!(out, "{between}reserved 0x{reserved:x}")?;
+        out.add(&[between]);
+        out.show(&format_args!("reserved 0x{reserved:x}"));
     }
-    writeln!(out)
 }
 
 /// A variable without a usable value, in JSON.
@@ -419,22 +443,6 @@ pub(crate) struct HeadJson {
 
 impl HeadJson {
     pub(crate) fn of(alloc: Global, head: &Head) -> Result<HeadJson, AllocError> {
-        let (mut malformed, mut unreadable) = (Vec::new(alloc), Vec::new(alloc));
-        for it in &head.silent {
-            let variable = it.variable;
-            let silent = SilentJson {
-                variable: format!(in alloc; "{variable}")?,
-                reason: it.reason.clone()?,
-            };
-            push(
-                if it.is_malformed {
-                    &mut malformed
-                } else {
-                    &mut unreadable
-                },
-                silent,
-            )?;
-        }
         Ok(HeadJson {
             boot_order: names_of(alloc, LoadOptionKind::Boot, &head.boot_order)?,
             boot_current: name_of_boot(alloc, head.boot_current)?,
@@ -444,8 +452,25 @@ impl HeadJson {
             sysprep_order: names_of(alloc, LoadOptionKind::SysPrep, &head.sysprep_order)?,
             os_indications: head.os_indications,
             os_indications_supported: head.os_indications_supported,
-            malformed,
-            unreadable,
+            malformed: silent_of(alloc, head, true)?,
+            unreadable: silent_of(alloc, head, false)?,
         })
     }
+}
+
+/// Returns the variables that are malformed, or those that can't be read.
+fn silent_of(
+    alloc: Global,
+    head: &Head,
+    are_malformed: bool,
+) -> Result<Vec<SilentJson>, AllocError> {
+    let mut found = Vec::new(alloc);
+    for it in &head.silent {
+        if it.is_malformed == are_malformed {
+            let variable = text_shown(alloc, &it.variable)?;
+            let reason = it.reason.clone()?;
+            found.push(SilentJson { variable, reason })?;
+        }
+    }
+    Ok(found)
 }

@@ -1,10 +1,10 @@
 //! The contents of an entry.
 use crate::files::variables::{Content, MOST_BYTES};
-use crate::output::growing_texts::text_of;
+use crate::output::boot_manager::write_reserved;
+use crate::output::growing_texts::{Growing, text_of, text_shown};
 use crate::output::optional_data::{OptionalData, hexadecimal};
 use serde::Serialize;
 use std::alloc::{AllocError, Global};
-use std::fmt::{self, Write};
 use uefi_device_path::media::FilePath;
 use uefi_device_path::{
     AllowShortcuts, DevicePathNode, DevicePathNodeIterator, DevicePaths, DisplayOnly,
@@ -58,7 +58,7 @@ pub(crate) struct Exact {
 }
 
 impl Exact {
-    pub(crate) fn of(alloc: Global, content: &Content<'_>) -> Result<Exact, fmt::Error> {
+    pub(crate) fn of(alloc: Global, content: &Content<'_>) -> Result<Exact, AllocError> {
         let Content::Bytes(bytes) = content else {
             return Ok(Exact {
                 bytes: None,
@@ -90,12 +90,12 @@ pub(crate) fn push<T: Drop>(items: &mut Vec<T>, item: T) -> Result<(), AllocErro
 }
 
 /// Writes a character, or `?` for one that texts of device paths escape.
-pub(crate) fn write_shown<W: Write>(out: &mut W, character: char) -> fmt::Result {
-    out.write_char(if is_escaped(character) {
+pub(crate) fn write_shown(out: &mut Growing, character: char) {
+    out.add_char(if is_escaped(character) {
         '?'
     } else {
         character
-    })
+    });
 }
 
 /// Returns whether a text contains a character that texts of device paths escape. Few texts contain
@@ -105,38 +105,38 @@ fn has_escaped(text: &str) -> bool {
     !is_ascii && text.chars().any(is_escaped)
 }
 
-fn shown_text(alloc: Global, text: Char16Slice<'_>) -> Result<String, fmt::Error> {
-    let plain = format!(in alloc; "{text}")?;
+fn shown_text(alloc: Global, text: Char16Slice<'_>) -> Result<String, AllocError> {
+    let plain = text_shown(alloc, &text)?;
     if !has_escaped(plain.as_str()) {
         return Ok(plain);
     }
-    let mut shown = String::new(alloc);
+    let mut shown = Growing::new(alloc);
     for character in text.iter() {
-        write_shown(&mut shown, char::from(character))?;
+        write_shown(&mut shown, char::from(character));
     }
-    Ok(shown)
+    shown.finish()
 }
 
 /// Returns a description in which surrogate pairs are characters and a lone surrogate is U+FFFD.
 fn shown_description(
     alloc: Global,
     description: UnalignedSlice<'_, u16>,
-) -> Result<String, fmt::Error> {
+) -> Result<String, AllocError> {
     match description.to_cstring16(alloc) {
         Ok(string) => return shown_text(alloc, string.as_cstr16().as_slice()),
-        Err(FromSliceWithNulError::OutOfMemory) => return Err(fmt::Error),
+        Err(FromSliceWithNulError::OutOfMemory) => return Err(AllocError),
         // The description contains a surrogate.
         Err(_) => {}
     }
-    let mut shown = String::new(alloc);
+    let mut shown = Growing::new(alloc);
     for character in char::decode_utf16(description.iter().take_while(|unit| *unit != 0)) {
-        write_shown(&mut shown, character.unwrap_or(char::REPLACEMENT_CHARACTER))?;
+        write_shown(&mut shown, character.unwrap_or(char::REPLACEMENT_CHARACTER));
     }
-    Ok(shown)
+    shown.finish()
 }
 
 /// Returns the last component of a path, if it has one.
-fn shown_file_name(alloc: Global, path: Path<'_>) -> Result<Option<String>, fmt::Error> {
+fn shown_file_name(alloc: Global, path: Path<'_>) -> Result<Option<String>, AllocError> {
     match path.file_name() {
         Some(name) => Ok(Some(shown_text(alloc, name)?)),
         None => Ok(None),
@@ -194,7 +194,7 @@ fn place_of(units: &[u16], error: PathError) -> usize {
 }
 
 /// Returns a path with its verdict. Its first unit is at an offset.
-fn shown_file(alloc: Global, offset: usize, string: CStr16<'_>) -> Result<File, fmt::Error> {
+fn shown_file(alloc: Global, offset: usize, string: CStr16<'_>) -> Result<File, AllocError> {
     let path = Path::new(string);
     let shown = shown_text(alloc, string.as_slice())?;
     let Err(error) = validate_path(path) else {
@@ -209,7 +209,7 @@ fn shown_file(alloc: Global, offset: usize, string: CStr16<'_>) -> Result<File, 
     Ok(File {
         path: shown,
         offset: offset.saturating_add(place.saturating_mul(2)),
-        refused: Some(format!(in alloc; "{error}")?),
+        refused: Some(text_shown(alloc, &error)?),
         file: None,
     })
 }
@@ -234,14 +234,14 @@ impl Shown {
         alloc: Global,
         offset: usize,
         reason: &str,
-    ) -> Result<Shown, fmt::Error> {
+    ) -> Result<Shown, AllocError> {
         let mut shown = Shown::new(alloc);
         shown.fail(offset, String::from_str(alloc, reason)?);
         Ok(shown)
     }
 
     /// Creates the contents of a variable that can't be read.
-    pub(crate) fn unreadable(alloc: Global, cause: &String) -> Result<Shown, fmt::Error> {
+    pub(crate) fn unreadable(alloc: Global, cause: &String) -> Result<Shown, AllocError> {
         let mut shown = Shown::new(alloc);
         shown.unreadable = Some(cause.clone()?);
         Ok(shown)
@@ -274,7 +274,7 @@ impl Shown {
         alloc: Global,
         description: UnalignedSlice<'_, u16>,
         paths: DevicePaths<'_>,
-    ) -> fmt::Result {
+    ) -> Result<(), AllocError> {
         self.description = Some(shown_description(alloc, description)?);
         for path in paths {
             let text = path.display(DisplayOnly(false), AllowShortcuts(false));
@@ -290,7 +290,7 @@ impl Shown {
         alloc: Global,
         offset: usize,
         name: UnalignedSlice<'_, u16>,
-    ) -> Result<bool, fmt::Error> {
+    ) -> Result<bool, AllocError> {
         let error = match name.to_cstring16(alloc) {
             Ok(string) => {
                 push(
@@ -308,13 +308,12 @@ impl Shown {
             // `NotAligned` occurs only when bytes are borrowed as units, never when units are
             // copied.
             FromSliceWithNulError::OutOfMemory | FromSliceWithNulError::NotAligned => {
-                return Err(fmt::Error);
+                return Err(AllocError);
             }
         };
         // The sum never saturates, because `of_entry` refuses entries of more than 65,536 bytes.
         let offset = offset.saturating_add(place.saturating_mul(2));
-        let cause = FilePathCause::Text(error);
-        self.fail(offset, format!(in alloc; "{cause}")?);
+        self.fail(offset, text_shown(alloc, &FilePathCause::Text(error))?);
         Ok(false)
     }
 
@@ -325,7 +324,7 @@ impl Shown {
         alloc: Global,
         offset: usize,
         node: DevicePathNode<'_>,
-    ) -> Result<bool, fmt::Error> {
+    ) -> Result<bool, AllocError> {
         match FilePath::from_node(node) {
             Ok(file) => self.add_file(alloc, offset, file.path_name()),
             Err(NodeConversionError::DifferentType | NodeConversionError::UnsupportedType) => {
@@ -333,8 +332,7 @@ impl Shown {
             }
             Err(NodeConversionError::InvalidLength) => {
                 let last = offset.saturating_add(node.data().len() - 1);
-                let cause = FilePathCause::HalfUnit;
-                self.fail(last, format!(in alloc; "{cause}")?);
+                self.fail(last, text_shown(alloc, &FilePathCause::HalfUnit)?);
                 Ok(false)
             }
         }
@@ -347,7 +345,7 @@ impl Shown {
         alloc: Global,
         start: usize,
         nodes: DevicePathNodeIterator<'_>,
-    ) -> Result<Option<usize>, fmt::Error> {
+    ) -> Result<Option<usize>, AllocError> {
         let mut offset = start;
         for node in nodes {
             if !self.add_node(alloc, offset.saturating_add(4), node)? {
@@ -365,7 +363,7 @@ impl Shown {
         alloc: Global,
         start: usize,
         paths: DevicePaths<'_>,
-    ) -> Result<Option<usize>, fmt::Error> {
+    ) -> Result<Option<usize>, AllocError> {
         let mut offset = start;
         for path in paths {
             match self.add_nodes(alloc, offset, path.node_iter())? {
@@ -377,7 +375,7 @@ impl Shown {
     }
 
     /// Adds the well-formed parts of bytes that are not a load option, and then the fault.
-    fn add_parts(&mut self, alloc: Global, parts: LoadOptionParts<'_>) -> fmt::Result {
+    fn add_parts(&mut self, alloc: Global, parts: LoadOptionParts<'_>) -> Result<(), AllocError> {
         if let Some(attributes) = parts.attributes() {
             self.set_attributes(attributes);
         }
@@ -392,13 +390,12 @@ impl Shown {
             }
         }
         let error = parts.error();
-        let cause = error.cause;
-        self.fail(error.offset, format!(in alloc; "{cause}")?);
+        self.fail(error.offset, text_shown(alloc, &error.cause)?);
         Ok(())
     }
 
     /// Adds the contents of an option.
-    fn add_option(&mut self, alloc: Global, option: LoadOption<'_>) -> fmt::Result {
+    fn add_option(&mut self, alloc: Global, option: LoadOption<'_>) -> Result<(), AllocError> {
         let description = option.description_units();
         self.set_attributes(option.attributes());
         self.begin(alloc, description, option.device_paths())?;
@@ -414,7 +411,7 @@ impl Shown {
 
     /// Returns the contents of an entry, up to the greatest size of a variable; or an error if
     /// memory ran out.
-    pub(crate) fn of_entry(alloc: Global, bytes: &[u8]) -> Result<Shown, fmt::Error> {
+    pub(crate) fn of_entry(alloc: Global, bytes: &[u8]) -> Result<Shown, AllocError> {
         if MOST_BYTES < bytes.len() {
             let reason = "the entry is longer than a variable";
             return Shown::malformed(alloc, MOST_BYTES, reason);
@@ -428,85 +425,91 @@ impl Shown {
     }
 
     /// Writes the contents line by line.
-    pub(crate) fn write<W: Write>(&self, out: &mut W) -> fmt::Result {
+    pub(crate) fn write(&self, out: &mut Growing) {
         if let Some(cause) = &self.unreadable {
-            writeln!(out, "  cannot be read: {cause}")?;
+            out.add(&["  cannot be read: ", cause.as_str(), "\n"]);
         }
-        if let Some(active) = &self.active {
-            writeln!(out, "  active: {}", if *active { "yes" } else { "no" })?;
+        if let Some(active) = self.active {
+            out.add(&["  active: ", if active { "yes\n" } else { "no\n" }]);
         }
-        if let Some(attributes) = &self.attributes {
-            write_attributes(out, *attributes)?;
+        if let Some(attributes) = self.attributes {
+            write_attributes(out, attributes);
         }
         if let Some(description) = &self.description {
-            writeln!(out, "  description: {description}")?;
+            out.add(&["  description: ", description.as_str(), "\n"]);
         }
+        self.write_rest(out);
+    }
+
+    /// Writes the lines after the description.
+    fn write_rest(&self, out: &mut Growing) {
         for path in &self.device_paths {
-            writeln!(out, "  device path: {path}")?;
+            out.add(&["  device path: ", path.as_str(), "\n"]);
         }
         for file in &self.files {
-            file.write(out)?;
+            file.write(out);
         }
         if let Some(data) = &self.optional_data {
-            data.write(out)?;
+            data.write(out);
         }
         if let Some(fault) = &self.malformed {
-            writeln!(
-                out,
-                "  malformed at offset {}: {}",
-                fault.offset, fault.reason
-            )?;
+            out.add(&["  malformed at offset "]);
+            out.show(&fault.offset);
+            out.add(&[": ", fault.reason.as_str(), "\n"]);
         }
-        Ok(())
     }
 }
 
 /// Writes the attributes of an entry, except the first, "active" (UEFI Specification 2.10, section
 /// 3.1.3).
-fn write_attributes<W: Write>(out: &mut W, attributes: u32) -> fmt::Result {
+fn write_attributes(out: &mut Growing, attributes: u32) {
     if attributes < 2 {
-        return Ok(());
+        return;
     }
-    write!(out, "  attributes:")?;
-    let mut between = " ";
+    out.add(&["  attributes:"]);
+    let mut is_first = true;
     for (bit, name) in [(0x2, "force reconnect"), (0x8, "hidden")] {
         if attributes & bit != 0 {
-            write!(out, "{between}{name}")?;
-            between = ", ";
+            out.add(&[if is_first { " " } else { ", " }]);
+            out.add(&[name]);
+            is_first = false;
         }
     }
     let category = attributes / 256 % 32;
-    match category {
-        0 => {}
-        1 => write!(out, "{between}application")?,
-        _ => write!(out, "{between}category {category}")?,
-    }
     if category != 0 {
-        between = ", ";
+        write_category(out, if is_first { " " } else { ", " }, category);
+        is_first = false;
     }
-    let reserved = attributes & 0xffff_e0f4;
-    if reserved != 0 {
-        write!(out, "{between}reserved 0x{reserved:x}")?;
+    let between = if is_first { " " } else { ", " };
+    write_reserved(out, between, u64::from(attributes & 0xffff_e0f4));
+    out.add(&["\n"]);
+}
+
+/// Writes a category other than 0, which is that of boot entries.
+fn write_category(out: &mut Growing, between: &str, category: u32) {
+    if category == 1 {
+        out.add(&[between, "application"]);
+        return;
     }
-    writeln!(out)
+    out.add(&[between, "category "]);
+    out.show(&category);
 }
 
 impl File {
     /// Writes a path with its verdict, and its last component if the path is accepted.
-    fn write<W: Write>(&self, out: &mut W) -> fmt::Result {
-        write!(out, "  path: {}", self.path)?;
+    fn write(&self, out: &mut Growing) {
+        out.add(&["  path: ", self.path.as_str()]);
         match &self.refused {
-            Some(reason) => writeln!(out, ": refused: {reason}")?,
-            None => writeln!(out, ": accepted")?,
+            Some(reason) => out.add(&[": refused: ", reason.as_str(), "\n"]),
+            None => out.add(&[": accepted\n"]),
         }
         if let Some(name) = &self.file {
-            writeln!(out, "  file: {name}")?;
+            out.add(&["  file: ", name.as_str(), "\n"]);
         }
-        Ok(())
     }
 }
 
 /// Returns the offset of the file path list after a description with its NUL.
-fn list_start(description: UnalignedSlice<'_, u16>) -> usize {
+pub(crate) fn list_start(description: UnalignedSlice<'_, u16>) -> usize {
     description.len().saturating_mul(2).saturating_add(6)
 }

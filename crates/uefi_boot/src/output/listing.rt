@@ -1,12 +1,12 @@
 //! Prints a machine's boot variables, each entry as soon as it is read.
-use crate::files::program_ends::{End, MALFORMED, Output, UNREADABLE};
+use crate::files::program_ends::{End, Output, status_of_listing};
 use crate::files::variables::{Content, MOST_READ, PassedOver, Source, Variable, Variables};
-use crate::output::boot_manager::{Head, HeadJson, name_of};
+use crate::output::boot_manager::{Head, HeadJson, name_of, write_variable};
 use crate::output::entry::{Exact, Shown, push, write_shown};
+use crate::output::growing_texts::{Growing, text_shown};
 use crate::{Form, to_json};
 use serde::Serialize;
-use std::alloc::Global;
-use std::fmt::{self, Write};
+use std::alloc::{AllocError, Global};
 use uefi_boot_variables::LoadOptionKind;
 
 /// A file that is not printed, and the reason, in JSON.
@@ -50,7 +50,7 @@ struct Listing<'a> {
 }
 
 /// Returns the contents of an entry from a file.
-pub(crate) fn shown_entry(alloc: Global, content: &Content<'_>) -> Result<Shown, fmt::Error> {
+pub(crate) fn shown_entry(alloc: Global, content: &Content<'_>) -> Result<Shown, AllocError> {
     match content {
         Content::Bytes(bytes) => Shown::of_entry(alloc, bytes),
         Content::TooShort(reason) => Shown::malformed(alloc, 0, reason),
@@ -70,30 +70,46 @@ impl<'a> Listing<'a> {
         let entry = shown_entry(self.alloc, &content)?;
         self.is_read = self.is_read && entry.is_read();
         self.is_well = self.is_well && entry.is_well();
-        let variable = source.variable;
         if self.form == Form::Json {
-            let named = Named {
-                name: format!(in self.alloc; "{variable}")?,
-                in_order,
-                entry,
-                exact: Exact::of(self.alloc, &content)?,
-            };
-            let text = to_json(self.alloc, &named)?;
-            let between = if self.is_first { "\n" } else { ",\n" };
-            self.is_first = false;
-            self.out.text.push_str(between)?;
-            self.out.text.push_str(text.as_str())?;
-            return self.out.flush();
+            self.list_entry(source.variable, in_order, entry, &content)?;
+        } else {
+            self.write_entry(source.variable, in_order, &entry);
         }
-        writeln!(self.out.text, "{variable}")?;
+        self.out.flush()
+    }
+
+    /// Adds an entry to the list in JSON.
+    fn list_entry(
+        &mut self,
+        variable: Variable,
+        in_order: Option<bool>,
+        entry: Shown,
+        content: &Content<'_>,
+    ) -> Result<(), End> {
+        let named = Named {
+            name: text_shown(self.alloc, &variable)?,
+            in_order,
+            entry,
+            exact: Exact::of(self.alloc, content)?,
+        };
+        let text = to_json(self.alloc, &named)?;
+        let between = if self.is_first { "\n" } else { ",\n" };
+        self.is_first = false;
+        self.out.text.add(&[between]);
+        self.out.text.add(&[text.as_str()]);
+        Ok(())
+    }
+
+    /// Writes an entry in lines.
+    fn write_entry(&mut self, variable: Variable, in_order: Option<bool>, entry: &Shown) {
+        let out = &mut self.out.text;
+        write_variable(out, "", variable, "\n");
         if in_order == Some(false) {
             if let Some(option) = variable.option() {
-                let order = Variable::order_of(option.kind);
-                writeln!(self.out.text, "  not in {order}")?;
+                write_variable(out, "  not in ", Variable::order_of(option.kind), "\n");
             }
         }
-        entry.write(&mut self.out.text)?;
-        self.out.flush()
+        entry.write(out);
     }
 
     /// Prints the entries of a kind: first the entries of the order, in order and once each, and
@@ -146,9 +162,9 @@ impl<'a> Listing<'a> {
         if self.form == Form::Json {
             let json = to_json(self.alloc, &HeadJson::of(self.alloc, head)?)?;
             let fields = json.as_str().strip_suffix("}").unwrap_or("{");
-            write!(self.out.text, "{fields},\n\"entries\":[")?;
+            self.out.text.add(&[fields, ",\n\"entries\":["]);
         } else {
-            head.write(&mut self.out.text)?;
+            head.write(&mut self.out.text);
         }
         self.out.flush()
     }
@@ -158,22 +174,28 @@ impl<'a> Listing<'a> {
         if self.form == Form::Json {
             let json = to_json(self.alloc, &self.tail()?)?;
             let fields = json.as_str().strip_prefix("{").unwrap_or("}");
-            writeln!(self.out.text, "],\n{fields}")?;
-            return self.out.flush();
-        }
-        for variable in &self.not_set {
-            if let Some(option) = variable.option() {
-                let order = Variable::order_of(option.kind);
-                writeln!(self.out.text, "{option}: in {order}, but not set")?;
-            }
-        }
-        for it in &self.variables.passed_over {
-            write_passed_over(&mut self.out.text, it)?;
+            self.out.text.add(&["],\n", fields, "\n"]);
+        } else {
+            self.write_tail();
         }
         self.out.flush()
     }
 
-    fn tail(&self) -> Result<Tail, End> {
+    /// Writes the lines after the entries.
+    fn write_tail(&mut self) {
+        let out = &mut self.out.text;
+        for variable in &self.not_set {
+            if let Some(option) = variable.option() {
+                write_variable(out, "", *variable, ": in ");
+                write_variable(out, "", Variable::order_of(option.kind), ", but not set\n");
+            }
+        }
+        for it in &self.variables.passed_over {
+            write_passed_over(out, it);
+        }
+    }
+
+    fn tail(&self) -> Result<Tail, AllocError> {
         let mut tail = Tail {
             not_set: Vec::new(self.alloc),
             passed_over: Vec::new(self.alloc),
@@ -195,12 +217,12 @@ impl<'a> Listing<'a> {
 }
 
 /// Writes the line of a file that is not printed.
-fn write_passed_over<W: Write>(out: &mut W, it: &PassedOver) -> fmt::Result {
-    write!(out, "passed over: ")?;
+fn write_passed_over(out: &mut Growing, it: &PassedOver) {
+    out.add(&["passed over: "]);
     for character in it.file.as_str().chars() {
-        write_shown(out, character)?;
+        write_shown(out, character);
     }
-    writeln!(out, ": {}", it.reason)
+    out.add(&[": ", it.reason, "\n"]);
 }
 
 /// Prints the values of variables, and returns the exit status.
@@ -220,11 +242,5 @@ pub(crate) fn print(rt: &HostRuntime, variables: &Variables<'_>, form: Form) -> 
     listing.print_head(&head)?;
     listing.print_kinds(&head, &mut buffer)?;
     listing.print_tail()?;
-    Ok(if !listing.is_read {
-        UNREADABLE
-    } else if !listing.is_well {
-        MALFORMED
-    } else {
-        0
-    })
+    Ok(status_of_listing(listing.is_read, listing.is_well))
 }

@@ -1,7 +1,8 @@
 //! The optional data of an entry, as text if it is text.
+use crate::output::growing_texts::Growing;
 use serde::Serialize;
-use std::alloc::Global;
-use std::fmt::{self, Write};
+use std::alloc::{AllocError, Global};
+use std::fmt::Write;
 use uefi_device_path::{LoadOption, is_escaped};
 use uefi_text::{Char16, UnalignedSlice};
 
@@ -14,7 +15,7 @@ pub(crate) struct OptionalData {
 }
 
 /// Returns bytes in hexadecimal.
-pub(crate) fn hexadecimal(alloc: Global, bytes: &[u8]) -> Result<String, fmt::Error> {
+pub(crate) fn hexadecimal(alloc: Global, bytes: &[u8]) -> Result<String, AllocError> {
     let mut text = String::new(alloc);
     for byte in bytes {
         write!(text, "{byte:02x}")?;
@@ -28,14 +29,14 @@ fn without_nul(bytes: &[u8]) -> &[u8] {
 }
 
 /// Returns the text of bytes that are printable ASCII, with or without a NUL at their end.
-fn ascii_text(alloc: Global, bytes: &[u8]) -> Result<Option<String>, fmt::Error> {
+fn ascii_text(alloc: Global, bytes: &[u8]) -> Result<Option<String>, AllocError> {
     let bytes = without_nul(bytes);
     if bytes.is_empty() || !bytes.iter().all(|byte| matches!(byte, 0x20..=0x7e)) {
         return Ok(None);
     }
     let mut text = String::new(alloc);
     for byte in bytes {
-        text.write_char(char::from(*byte))?;
+        text.push(char::from(*byte))?;
     }
     Ok(Some(text))
 }
@@ -43,7 +44,7 @@ fn ascii_text(alloc: Global, bytes: &[u8]) -> Result<Option<String>, fmt::Error>
 /// Returns the text of units, with or without a NUL at their end, if each is a character that can
 /// be shown and at least half of them are printable ASCII. Other data seldom consists of such
 /// units.
-fn utf16_text(alloc: Global, units: UnalignedSlice<'_, u16>) -> Result<Option<String>, fmt::Error> {
+fn utf16_text(alloc: Global, units: UnalignedSlice<'_, u16>) -> Result<Option<String>, AllocError> {
     let mut text = String::new(alloc);
     let (mut ascii, mut others) = (0usize, 0usize);
     for (place, unit) in units.iter().enumerate() {
@@ -57,7 +58,7 @@ fn utf16_text(alloc: Global, units: UnalignedSlice<'_, u16>) -> Result<Option<St
         if is_escaped(character) || unit == 0 {
             return Ok(None);
         }
-        text.write_char(character)?;
+        text.push(character)?;
         if unit < 0x7f {
             ascii = ascii.saturating_add(1);
         } else {
@@ -75,7 +76,7 @@ impl OptionalData {
     pub(crate) fn of(
         alloc: Global,
         option: &LoadOption<'_>,
-    ) -> Result<Option<OptionalData>, fmt::Error> {
+    ) -> Result<Option<OptionalData>, AllocError> {
         let bytes = option.optional_data();
         if bytes.is_empty() {
             return Ok(None);
@@ -98,10 +99,17 @@ impl OptionalData {
     }
 
     /// Writes the line of optional data.
-    pub(crate) fn write<W: Write>(&self, out: &mut W) -> fmt::Result {
+    pub(crate) fn write(&self, out: &mut Growing) {
         match (&self.encoding, &self.text) {
-            (Some(encoding), Some(text)) => writeln!(out, "  optional data ({encoding}): {text}"),
-            _ => writeln!(out, "  optional data (hexadecimal): {}", self.hexadecimal),
+            (Some(encoding), Some(text)) => {
+                out.add(&["  optional data (", *encoding, "): "]);
+                out.add(&[text.as_str(), "\n"]);
+            }
+            _ => out.add(&[
+                "  optional data (hexadecimal): ",
+                self.hexadecimal.as_str(),
+                "\n",
+            ]),
         }
     }
 }
