@@ -1,7 +1,7 @@
 //! The variables that determine the order of entries, and the other settings of a boot manager.
 use crate::files::program_ends::End;
 use crate::files::variables::{Content, MOST_BYTES, Variable, Variables};
-use crate::output::entry::push;
+use crate::output::entry::{push, write_reserved};
 use crate::output::growing_texts::{Growing, text_shown};
 use serde::Serialize;
 use std::alloc::{AllocError, Global};
@@ -409,14 +409,6 @@ fn write_indications(out: &mut Growing, bits: u64) {
     let between = if is_first { "" } else { ", " };
     write_reserved(out, between, bits & 0xffff_ffff_ffff_ff00);
     out.add(&["\n"]);
-}
-
-/// Writes the reserved bits, if there are any.
-pub(crate) fn write_reserved(out: &mut Growing, between: &str, reserved: u64) {
-    if reserved != 0 {
-        out.add(&[between]);
-        out.show(&format_args!("reserved 0x{reserved:x}"));
-    }
 }
 
 /// A variable without a usable value, in JSON.

@@ -1,6 +1,5 @@
 //! The contents of an entry.
 use crate::files::variables::{Content, MOST_BYTES};
-use crate::output::boot_manager::write_reserved;
 use crate::output::growing_texts::{Growing, text_of, text_shown};
 use crate::output::optional_data::{OptionalData, hexadecimal};
 use serde::Serialize;
@@ -87,6 +86,14 @@ impl Exact {
 pub(crate) fn push<T: Drop>(items: &mut Vec<T>, item: T) -> Result<(), AllocError> {
     items.push(item)?;
     Ok(())
+}
+
+/// Writes the reserved bits, if there are any.
+pub(crate) fn write_reserved(out: &mut Growing, between: &str, reserved: u64) {
+    if reserved != 0 {
+        out.add(&[between]);
+        out.show(&format_args!("reserved 0x{reserved:x}"));
+    }
 }
 
 /// Writes a character, or `?` for one that texts of device paths escape.
