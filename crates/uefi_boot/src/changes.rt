@@ -154,8 +154,8 @@ fn write_and_rename(
     fs::rename(rt, made, path)
 }
 
-/// Returns the bytes before the value in the bytes of a file, or those that belong there if the file ends within
-/// them.
+/// Returns the bytes before the value in the bytes of a file, or those that belong there if the file ends
+/// within them.
 fn start_in<'b>(source: &Source, bytes: &'b [u8]) -> &'b [u8] {
     match attributes_len(source.variable, source.has_guid, bytes) {
         Some(len) => bytes.get(..len).unwrap_or(&[]),

@@ -83,7 +83,8 @@ fn check_separators(rt: &HostRuntime, loader: &str) -> Result<(), End> {
         &[
             "--loader ",
             loader,
-            ": the path has no separator (the shell removes backslashes: type slashes, such as /EFI/debian/shimx64.efi)",
+            ": the path has no separator (the shell removes backslashes: type slashes, ",
+            "such as /EFI/debian/shimx64.efi)",
         ],
     ))
 }

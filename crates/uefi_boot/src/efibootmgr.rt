@@ -65,8 +65,8 @@ const CHANGES_OF_ENTRIES: &[(char, Verb, &str)] = &[
     ('A', Verb::Deactivate, "deactivate"),
 ];
 
-/// The options that change other variables, the command that does it, and its word if that is not the option's
-/// value.
+/// The options that change other variables, the command that does it, and its word if that is not the
+/// option's value.
 const CHANGES: &[(char, Verb, &str)] = &[
     ('O', Verb::Order, "none"),
     ('o', Verb::Order, ""),

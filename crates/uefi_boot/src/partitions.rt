@@ -160,7 +160,8 @@ pub(crate) struct Located {
     pub(crate) disk: String,
 }
 
-/// Returns the number of the partition that a directory of sysfs describes. `given` says how the user named it.
+/// Returns the number of the partition that a directory of sysfs describes. `given` says how the user named
+/// it.
 fn partition_number(rt: &HostRuntime, given: &str, directory: &str) -> Result<u32, End> {
     if let Some(number) = number_in(rt, directory, "partition")? {
         if let Ok(number) = u32::try_from(number) {

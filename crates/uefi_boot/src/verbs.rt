@@ -42,8 +42,8 @@ fn read_digits(digits: &str) -> Option<u16> {
     u16::from_str_radix(digits, 16).ok()
 }
 
-/// Returns the number of the entry that a variable's name is, its kind, and what to say if the command is about
-/// another kind.
+/// Returns the number of the entry that a variable's name is, its kind, and what to say if the command is
+/// about another kind.
 fn read_name(name: &str) -> Option<(u16, LoadOptionKind, &str)> {
     for (kind, start, advice) in KINDS {
         if let Some(number) = name.strip_prefix(*start).and_then(read_digits) {

@@ -270,7 +270,8 @@ pub(crate) fn find_own<'a>(
             UNREADABLE,
             &[
                 FIRMWARE,
-                " does not exist: this machine was booted by BIOS, or in a container (to read a copy of the variables, type uefi_boot DIRECTORY)",
+                " does not exist: this machine was booted by BIOS, or in a container ",
+                "(to read a copy of the variables, type uefi_boot DIRECTORY)",
             ],
         ));
     }

@@ -1,5 +1,5 @@
-//! Builds texts in memory. Printing goes on after an allocation has failed, and whoever takes the text learns of
-//! it, so that the functions that print need no results.
+//! Builds texts in memory. Printing goes on after an allocation has failed, and whoever takes the text
+//! learns of it, so that the functions that print need no results.
 ghost use Rattle.std.specs.Prelude.{⊤};
 
 use std::alloc::{AllocError, Global};
