@@ -249,10 +249,10 @@ impl<'a> Machine<'a> {
         if self.kind != LoadOptionKind::Boot {
             return Ok(None);
         }
-        Ok(match self.value(Variable::BootNext)? {
-            Some(bytes) => read_number(&bytes).ok(),
-            None => None,
-        })
+        let Some(bytes) = self.value(Variable::BootNext)? else {
+            return Ok(None);
+        };
+        Ok(read_number(&bytes).ok())
     }
 
     fn delete(&self, words: &Words<'_>) -> Result<u8, End> {

@@ -78,13 +78,8 @@ impl<'a> DevicePathBuilder<'a> {
         ensures refusal { result_err result
             ≡ push_refusal (builder_nodes self.old) (N.node node.now) (builder_room self.old) }
     {
-        match push_at(self.buffer, self.len, node) {
-            Ok(end) => {
-                self.len = end;
-                Ok(())
-            }
-            Err(error) => Err(error),
-        }
+        self.len = push_at(self.buffer, self.len, node)?;
+        Ok(())
     }
 
     /// Adds a node of a type, a sub-type and data, as [`DevicePathBuilder::push_node`] does.
@@ -159,13 +154,8 @@ impl<'a> DevicePathBuilder<'a> {
         ensures refusal { result_err result
             ≡ append_refusal (builder_nodes self.old) (nodes_of path.entry) (builder_room self.old) }
     {
-        match append_at(self.buffer, self.len, path) {
-            Ok(end) => {
-                self.len = end;
-                Ok(())
-            }
-            Err(error) => Err(error),
-        }
+        self.len = append_at(self.buffer, self.len, path)?;
+        Ok(())
     }
 
     /// Borrows the path from the builder.

@@ -248,10 +248,7 @@ pub(crate) struct Words<'a> {
 
 /// Returns the value in a word after the option's name and an equals sign.
 fn attached<'a>(word: &'a str, option: &str) -> Option<&'a str> {
-    match word.strip_prefix(option) {
-        Some(rest) => rest.strip_prefix("="),
-        None => None,
-    }
+    word.strip_prefix(option)?.strip_prefix("=")
 }
 
 impl<'a> Words<'a> {
@@ -344,10 +341,7 @@ impl<'a> Words<'a> {
 
     /// Returns the word at an index among the words that are neither options nor values.
     pub(crate) fn plain(&self, place: usize) -> Option<&'a str> {
-        match self.plain.get(place) {
-            Some(place) => Some(self.word(*place)),
-            None => None,
-        }
+        Some(self.word(*self.plain.get(place)?))
     }
 
     /// Returns whether a word is an option of the verb.

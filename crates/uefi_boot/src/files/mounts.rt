@@ -136,10 +136,10 @@ fn below_mount<'a>(
     path: &'a str,
 ) -> Result<Option<(usize, &'a str)>, AllocError> {
     let point = unescaped(alloc, field(line, 4))?;
-    Ok(match below(path, point.as_str()) {
-        Some(rest) => Some((point.len(), rest)),
-        None => None,
-    })
+    let Some(rest) = below(path, point.as_str()) else {
+        return Ok(None);
+    };
+    Ok(Some((point.len(), rest)))
 }
 
 /// Returns a path at or below the mount point of a line, on the file system that is mounted there.

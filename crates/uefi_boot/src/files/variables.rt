@@ -62,10 +62,10 @@ impl Variable {
             "SysPrepOrder" => Some(Variable::SysPrepOrder),
             "OsIndications" => Some(Variable::OsIndications),
             "OsIndicationsSupported" => Some(Variable::OsIndicationsSupported),
-            _ => match LoadOptionName::from_text(name) {
-                Some(option) => Some(Variable::of_kind(option.kind, option.number)),
-                None => None,
-            },
+            _ => {
+                let option = LoadOptionName::from_text(name)?;
+                Some(Variable::of_kind(option.kind, option.number))
+            }
         }
     }
 

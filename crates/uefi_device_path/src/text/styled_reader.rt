@@ -140,10 +140,8 @@ pub(crate) fn put_text_in_buf<T: NameText>(
         (path_read style (T.bytes text)) }
 {
     let mut sink = BufferedPath { buffer, len };
-    match put_text(style, &mut sink, text) {
-        Ok(()) => Ok(sink.len),
-        Err(fault) => Err(fault),
-    }
+    put_text(style, &mut sink, text)?;
+    Ok(sink.len)
 }
 
 /// Returns the room to ask for before a text is read. A file's name has two bytes for each character, and a
