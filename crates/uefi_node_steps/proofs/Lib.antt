@@ -3,7 +3,6 @@ pub mod CodeLaws
 pub mod Combinations
 pub mod DataLaws
 pub mod Differences
-pub mod ExampleLaws
 pub mod FieldLaws
 pub mod Ids
 pub mod Fills
@@ -14,6 +13,7 @@ pub mod Lists
 pub mod NodeLaws
 pub mod Numbers
 pub mod Printed
+pub mod PackedTexts
 pub mod Prints
 pub mod StepLaws
 pub mod TableLaws

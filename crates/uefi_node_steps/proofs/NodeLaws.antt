@@ -11,7 +11,7 @@ use Rattle.uefi_node_steps.specs.Steps.{Parts}
 use Rattle.uefi_node_steps.specs.Table.{FitsForm, Form, IsOf, Tabled, all_differ, are_sound, form_leaf, form_text, forms_read, is_exact, is_read, is_sound_form}
 use Rattle.uefi_node_steps.specs.declared.steps.Expected.TheVariants as expected
 use Rattle.uefi_node_steps.specs.declared.steps.Mode.{Mode}
-use Rattle.uefi_node_steps.specs.declared.steps.Mode.TheVariants.{Read as ReadMode, Printed, Display, People}
+use Rattle.uefi_node_steps.specs.declared.steps.Mode.TheVariants.{Read as ReadMode, Printed, Display, Libefivar, People}
 use Rattle.uefi_node_steps.specs.declared.steps.Stop.{Stop}
 use Rattle.uefi_node_steps.proofs.Combinations.{Goes, Keeps, next}
 use Rattle.uefi_node_steps.proofs.TableLaws.{Reads, form_keeps, of_all, table_reads, unless}
@@ -35,6 +35,7 @@ exact_is_read : (mode : Mode) → is_exact mode ≡ true → is_read mode ≡ tr
 exact_is_read ReadMode e = refl
 exact_is_read Printed e = cc
 exact_is_read Display e = cc
+exact_is_read Libefivar e = cc
 exact_is_read People e = cc
 
 module _ (forms : List Form) (sound : are_sound forms ≡ true) (differs : all_differ forms ≡ true) where

@@ -7,7 +7,7 @@ use Rattle.uefi_node_steps.specs.Steps.{Parts}
 use Rattle.uefi_node_steps.specs.Table.{FitsForm, Form, all_differ, are_sound, form_leaf, forms_read, is_exact}
 use Rattle.uefi_node_steps.specs.declared.steps.Expected.TheVariants as expected
 use Rattle.uefi_node_steps.specs.declared.steps.Mode.{Mode}
-use Rattle.uefi_node_steps.specs.declared.steps.Mode.TheVariants.{Read as ReadMode, Printed, Display, People}
+use Rattle.uefi_node_steps.specs.declared.steps.Mode.TheVariants.{Read as ReadMode, Printed, Display, Libefivar, People}
 use Rattle.uefi_node_steps.specs.declared.steps.Stop.{Stop}
 
 -- a node: its type, its sub-type and its data
@@ -33,6 +33,7 @@ abbrev pub is_printed : Bool → Mode → Bool
 is_printed display_only ReadMode = true
 is_printed display_only Printed = true
 is_printed display_only Display = display_only
+is_printed display_only Libefivar = false
 is_printed display_only People = false
 
 -- whether a form prints a node

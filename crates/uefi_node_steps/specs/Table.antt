@@ -8,7 +8,7 @@ use Rattle.uefi_node_steps.specs.declared.steps.Expected.TheVariants as expected
 use Rattle.uefi_node_steps.specs.declared.steps.Field.{Field as FieldOf}
 use Rattle.uefi_node_steps.specs.declared.steps.FormOf.{FormOf}
 use Rattle.uefi_node_steps.specs.declared.steps.Mode.{Mode}
-use Rattle.uefi_node_steps.specs.declared.steps.Mode.TheVariants.{Read as ReadMode, Printed, Display, People}
+use Rattle.uefi_node_steps.specs.declared.steps.Mode.TheVariants.{Read as ReadMode, Printed, Display, Libefivar, People}
 use Rattle.uefi_node_steps.specs.declared.steps.Shape.{Shape}
 use Rattle.uefi_node_steps.specs.declared.steps.Shape.TheVariants.{Hexadecimal, Decimal, Next, Forth, Back, BaseForth, BaseBack, Guid, Ipv4, Ipv6, Eisa}
 use Rattle.uefi_node_steps.specs.declared.steps.StepOf.TheVariants.{Literal, Field}
@@ -51,6 +51,7 @@ abbrev pub is_read : Mode → Bool
 is_read ReadMode = true
 is_read Printed = false
 is_read Display = false
+is_read Libefivar = false
 is_read People = true
 
 abbrev pub is_exact : Mode → Bool

@@ -1,7 +1,7 @@
 //! Laws of tables of forms.
 #![tactic(auto)]
 
-ghost use Rattle.uefi_node_steps.specs.Examples.{ExamplesRead};
+ghost use Rattle.uefi_node_steps.specs.NodeForms.{NodesRead};
 ghost use Rattle.uefi_node_steps.specs.Nodes.{TablesRead};
 
 /// If all forms of a table that are read are sound, and none reads what a later one prints, then
@@ -12,7 +12,7 @@ pub fn tables_are_read()
     ensures { TablesRead }
 {}
 
-/// The [examples](crate::examples) are such a table.
-pub fn examples_are_read()
-    ensures { ExamplesRead }
+/// The forms of the [table](crate::table) are such a table.
+pub fn nodes_are_read()
+    ensures { NodesRead }
 {}

@@ -9,14 +9,17 @@
 //! decimal or in hexadecimal. An exact text equals the text that is printed for what was read.
 #![tactic(auto)]
 
-pub mod examples;
 mod fields;
 pub mod forms;
 pub mod items;
 pub mod laws;
 mod leaves;
+pub mod packed;
+pub mod parts;
+mod pools;
 pub mod printing;
 pub mod reading;
 pub mod steps;
+pub mod table;
 pub mod texts;
 pub mod words;

@@ -170,6 +170,8 @@ pub enum Mode {
     Printed,
     /// Texts that are only for display. The form is not read back.
     Display,
+    /// Libefivar. The form is only read, and only in texts of libefivar.
+    Libefivar,
     /// People, and programs whose output people paste. The form is only read.
     People,
 }
