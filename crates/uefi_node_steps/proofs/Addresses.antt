@@ -2,13 +2,12 @@
 use Rattle.std.proofs.Common.{◌≡◌, ℕ, zero, suc, ◌+◌, ◌*◌, ◌/◌, ◌%◌, ◌^◌, ◌<◌, Bool, true, not, List, [], ◌∷◌, ◌++◌, length, take, drop, reverse, refl, ap, sym, subst, arith, length-append, length-drop}
 use native.Mathlib.Nat.{pow-suc, pow-zero}
 use Rattle.std.proofs.lemmas.List.{append-nil, drop-drop, length-take, take-append-drop, take_all}
-use Rattle.std.specs.Char.{is_ascii_whitespace}
 use Rattle.std.specs.List.{flat_map, join_by}
 use Rattle.std.specs.Prelude.{codes}
 use Rattle.uefi_text.specs.Packed.{little_endian}
 use Rattle.uefi_device_nodes.specs.FieldTexts.{dashed_back, hex_bytes, hex_two}
 use Rattle.uefi_device_nodes.specs.Guids.{guid_text}
-use Rattle.uefi_node_steps.specs.Leaves.{ByteLeaf, FitBeside, IsBytes, Leaf, Number, after, apart, backwards, behind_each, beside, between, dashed, decimal, ends_at, from_digits, guid, guid_parts, have_no_blank, in_bytes, ipv4, ipv6, low_bytes, nothing, pairs}
+use Rattle.uefi_node_steps.specs.Leaves.{ByteLeaf, FitBeside, IsBytes, Leaf, Number, after, apart, backwards, behind_each, beside, between, dashed, decimal, ends_at, from_digits, guid, guid_parts, have_no_blank, in_bytes, groups, ipv4, is_blank, low_bytes, nothing, pairs}
 use Rattle.uefi_node_steps.proofs.DataLaws.{Begins, are_small, back_begins, backwards_keeps, begins_more, each_append, from_digits_keeps, hex_begins, pairs_keeps, reversed}
 use Rattle.uefi_node_steps.proofs.LeafLaws.{after_keeps}
 use Rattle.uefi_node_steps.proofs.Combinations.{Keeps, beside_keeps, keeps_as, mapped_keeps, nothing_keeps}
@@ -107,7 +106,7 @@ module _ (c : ℕ) (cs : List ℕ) (blanks : have_no_blank (c ∷ cs) ≡ true) 
 front_begins : (m : ℕ) (n : ℕ) (bytes : List ℕ) → 0 < m → IsBytes (m + n) bytes → Begins (hex_bytes (take m bytes))
 front_begins m n bytes l f = let front = (split_bytes m n bytes f).0 in hex_begins (take m bytes) (omega (arith, front.0, l)) front.1
 
-pub apart_keeps : (c count : ℕ) → not (is_ascii_whitespace c) ≡ true → Keeps (apart (c ∷ []) count) (IsBytes count) (λ rest. true)
+pub apart_keeps : (c count : ℕ) → not (is_blank c) ≡ true → Keeps (apart (c ∷ []) count) (IsBytes count) (λ rest. true)
 apart_keeps c zero blank = no_bytes (λ rest. true)
 apart_keeps c (suc count) blank =
     let all : 1 + count * 1 ≡ suc count = omega arith in
@@ -169,6 +168,6 @@ guid_keeps = keeps_as (from_digits guid_parts) guid_text (IsBytes 16) (IsBytes 1
 pub ipv4_keeps : Keeps ipv4 (IsBytes 4) (ends_at Number)
 ipv4_keeps = between_keeps 46 [] refl 1 (in_bytes 1 (decimal 256)) (ends_at Number) (number_keeps 1 (decimal 256) (decimal_keeps 256 (omega arith) (omega arith))) (λ rest. refl) 3
 
-pub ipv6_keeps : Keeps ipv6 (IsBytes 16) (λ rest. true)
-ipv6_keeps = from_digits_keeps (between (codes ":") 2 (pairs 2) 7) (IsBytes 16) (λ rest. true) (between_keeps 58 [] refl 2 (pairs 2) (λ rest. true) (pairs_keeps 2) (λ rest. refl) 7)
+pub groups_keep : Keeps groups (IsBytes 16) (λ rest. true)
+groups_keep = from_digits_keeps (between (codes ":") 2 (pairs 2) 7) (IsBytes 16) (λ rest. true) (between_keeps 58 [] refl 2 (pairs 2) (λ rest. true) (pairs_keeps 2) (λ rest. refl) 7)
     (λ v f. begins_more _ _ (front_begins 2 14 v (omega arith) f))

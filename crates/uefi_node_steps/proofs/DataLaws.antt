@@ -3,7 +3,7 @@ use Rattle.std.proofs.Common.{◌≡◌, ℕ, suc, ◌/◌, ◌%◌, ◌<◌, �
 use Rattle.std.proofs.lemmas.Bool.{and_from, and_parts, cond-true, cond-false}
 use Rattle.std.proofs.lemmas.Grind.{reverse_onto}
 use Rattle.std.proofs.lemmas.List.{length-reverse, reverse-reverse}
-use Rattle.std.specs.Char.{is_ascii_whitespace, to_ascii_uppercase}
+use Rattle.std.specs.Char.{to_ascii_uppercase}
 use Rattle.std.specs.Fmt.{digit_glyph}
 use Rattle.std.specs.List.{list_all}
 use Rattle.std.specs.Prelude.{Ok}
@@ -12,7 +12,7 @@ use Rattle.uefi_device_nodes.specs.FieldTexts.{comma_bytes, hex_back, hex_bytes,
 use Rattle.uefi_device_nodes.specs.ShownFields.{is_printable}
 use Rattle.uefi_device_nodes.proofs.GuidTexts.{two_digits}
 use Rattle.uefi_device_nodes.proofs.ShownFields.{printable_bytes}
-use Rattle.uefi_node_steps.specs.Leaves.{Bytes, Clear, Each, IsBytes, Leaf, Number, after_base, after_first, at_digits, backwards, based, bytes_after_comma, clear_run, clear_text, ends_at, first_of, from_digits, has_comma, has_pair, is_clear, is_of_number, many, many_text, or_text, pair, pairs, past_blanks, repeat, some}
+use Rattle.uefi_node_steps.specs.Leaves.{Bytes, Clear, Each, IsBytes, Leaf, Number, after_base, after_first, at_digits, backwards, based, bytes_after_comma, clear_run, clear_text, ends_at, first_of, from_digits, has_comma, has_pair, is_blank, is_clear, is_of_number, many, many_text, marked, or_text, pair, pairs, past_blanks, repeat, some, two_decimals}
 use Rattle.uefi_node_steps.specs.Steps.{IsClear}
 use Rattle.uefi_node_steps.proofs.LeafLaws.{blanks_shorter, no_blank, pair_keeps, upper_digit}
 use Rattle.uefi_node_steps.proofs.Combinations.{Goes, Keeps, goes_longer, goes_next, if_case, keeps_as, mapped_keeps, next, no_is}
@@ -67,6 +67,15 @@ module _ {V : Type 0} (leaf : Leaf V) (Fits : V → Type 0) (ends : List ℕ →
 
   pub based_keeps : Keeps (based leaf) Fits ends
   based_keeps = record { again = λ v rest f e. keeps.again v rest f e; goes = from_goes }
+
+-- a leaf whose texts do not begin with two decimal digits
+module _ {V : Type 0} (leaf : Leaf V) (Fits : V → Type 0) (ends : List ℕ → Bool) (keeps : Keeps leaf Fits ends)
+    (marks : (v : V) (rest : List ℕ) → two_decimals (past_blanks (leaf.text v ++ rest)) ≡ false) where
+  pub marked_keeps : Keeps (marked leaf) Fits ends
+  marked_keeps = record {
+    again = λ v rest f e. cond-false _ _ _ (marks v rest) ∙ keeps.again v rest f e;
+    goes = λ text. if_case (Goes Fits text) (two_decimals (past_blanks text)) _ _ (λ e. omega arith) (λ e. keeps.goes text);
+  }
 
 -- bytes in order, and from the last to the first
 abbrev pub are_small : List ℕ → Type 0
@@ -124,7 +133,7 @@ bytes_keep = many_keeps has_pair pair (λ b. b < 256) (λ rest. true) (ends_at N
 -- what ends bytes after a comma, or a list, begins with no comma
 pub bytes_end : (text : List ℕ) → ends_at Bytes text ≡ true → ends_at Number text ≡ true
 bytes_end [] e = refl
-bytes_end (c ∷ cs) e = by (is_of_number c) (eqb c 44) (is_ascii_whitespace c) e
+bytes_end (c ∷ cs) e = by (is_of_number c) (eqb c 44) (is_blank c) e
   where
     by : (n b w : Bool) → not (n || (b || w)) ≡ true → not n ≡ true
     by true b w e = e
@@ -132,7 +141,7 @@ bytes_end (c ∷ cs) e = by (is_of_number c) (eqb c 44) (is_ascii_whitespace c) 
 
 pub no_comma : (text : List ℕ) → ends_at Bytes text ≡ true → has_comma text ≡ false
 no_comma [] e = refl
-no_comma (c ∷ cs) e = by (is_of_number c) (eqb c 44) (is_ascii_whitespace c) refl e
+no_comma (c ∷ cs) e = by (is_of_number c) (eqb c 44) (is_blank c) refl e
   where
     by : (n b w : Bool) → eqb c 44 ≡ b → not (n || (b || w)) ≡ true → eqb (first_of (cond w (past_blanks cs) (c ∷ cs))) 44 ≡ false
     by true b w f e = cc
@@ -153,7 +162,7 @@ some_goes : (text : List ℕ) (read : List ℕ × List ℕ) → length read.1 �
 some_goes text ([], rest) l f = l
 some_goes text (byte ∷ bytes, rest) l f = (f, l)
 
-first_shorter : (text : List ℕ) → length (after_first text) ≤ length text
+pub first_shorter : (text : List ℕ) → length (after_first text) ≤ length text
 first_shorter [] = omega arith
 first_shorter (c ∷ cs) = omega arith
 

@@ -3,19 +3,19 @@ use Rattle.std.proofs.Common.{◌≡◌, ℕ, ◌+◌, ◌*◌, ◌/◌, ◌%◌
 use Rattle.std.proofs.lemmas.Bool.Decides.{nat_tests}
 use Rattle.std.proofs.lemmas.Bool.{and_from, and_parts, cond-false, cond-true}
 use Rattle.std.proofs.Math.ListN.{replicate}
-use Rattle.std.specs.Char.{is_ascii_whitespace, to_ascii_uppercase}
+use Rattle.std.specs.Char.{to_ascii_uppercase}
 use Rattle.std.specs.List.{list_all}
 use Rattle.std.specs.Option.{option_map}
 use Rattle.std.specs.Prelude.{nat_le, nat_lt, if◌then◌else◌, Option, Some, None, is_some, Result, Ok, Err, codes}
 use borrow.Author.Tests.{eqb-true}
-use Rattle.uefi_node_steps.specs.Leaves.{ByteLeaf, Each, IsBytes, Leaf, Read, ◌>>=◌, after_base, any_number, at_digits, behind_each, between, both, by_base, clash, decimal, digit_of, digits_read, ends_at, expect, has_digit, have_no_blank, in_bytes, ipv4, ipv6, is_comma, is_spare, letters_read, literal, low_bytes, many_text, number_read, or_text, pair, pair_read, pairs, past_blanks, spared, stop_at}
+use Rattle.uefi_node_steps.specs.Leaves.{ByteLeaf, Each, IsBytes, Leaf, Read, ◌>>=◌, after_base, any_number, at_digits, behind_each, between, both, by_base, clash, decimal, digit_of, digits_read, ends_at, expect, has_digit, have_no_blank, in_bytes, ipv4, ipv6, is_blank, is_comma, is_spare, letters_read, literal, low_bytes, many_text, number_read, pair, pairs, past_blanks, spared, stop_at, two_decimals}
 use Rattle.uefi_node_steps.specs.Steps.{FitSteps, FitsLists, FitsShape, FitsStep, Step, class_of, class_of_shape, ends_all, field_leaf, fits_shape, follow, is_closed, is_sound_spare, is_sound_step, lists, shape_leaf, step_leaf, steps_leaf}
 use Rattle.uefi_node_steps.specs.Table.{are_alike, base_of, behind, head_of, is_omitted, lead, number_of_shape, refuses, reject, shapes_differ, strip}
 use Rattle.uefi_node_steps.specs.declared.steps.Expected.{Expected}
 use Rattle.uefi_node_steps.specs.declared.steps.Expected.TheVariants as expected
 use Rattle.uefi_node_steps.specs.declared.steps.Field.{Field as FieldOf}
 use Rattle.uefi_node_steps.specs.declared.steps.Shape.{Shape}
-use Rattle.uefi_node_steps.specs.declared.steps.Shape.TheVariants.{Hexadecimal, Decimal, OrDefault, Next, Forth, Back, BaseForth, BaseBack, Apart, Dashed, Guid, Ipv4, Ipv6, Eisa, Word}
+use Rattle.uefi_node_steps.specs.declared.steps.Shape.TheVariants.{Hexadecimal, Marked, Decimal, OrDefault, Next, Forth, Back, BaseForth, BaseBack, Apart, Dashed, Guid, Ipv4, Ipv6, Eisa, Word}
 use Rattle.uefi_node_steps.specs.declared.steps.StepOf.TheVariants.{Literal, Field, Data, Many}
 use Rattle.uefi_node_steps.specs.declared.steps.Stop.{Stop}
 use Rattle.uefi_device_nodes.specs.FieldTexts.{hex_two}
@@ -27,6 +27,7 @@ use Rattle.uefi_node_steps.proofs.FieldLaws.{field_keeps, step_keeps}
 use Rattle.uefi_node_steps.proofs.ItemLaws.{lists_commas, lists_keep}
 use Rattle.uefi_node_steps.proofs.LeafLaws.{no_blank}
 use Rattle.uefi_node_steps.proofs.Combinations.{if_case, no_is}
+use Rattle.uefi_node_steps.proofs.ShortAddresses.{stops_at_end}
 use Rattle.uefi_node_steps.proofs.StepLaws.{closed_ends, follows}
 use Rattle.uefi_node_steps.proofs.WordLaws.{Fails, fails}
 
@@ -53,7 +54,7 @@ module _ {V : Type 0} (a : Leaf V) (b : Leaf (List V)) (text : List ℕ) where
   then_stops v rest e s = subst (λ (r : Read V). Stops {A = List V × List ℕ} (r >>= λ v. b.read v.1 >>= λ vs. Ok (v.0 ∷ vs.0, vs.1))) (sym e) (stops_next (b.read rest) _ s)
 
 -- literals at letters that are known
-spare_same : (wanted : List ℕ) (d : ℕ) (ds rest : List ℕ) → not (is_ascii_whitespace d) ≡ true → is_spare wanted (past_blanks (d ∷ (ds ++ rest))) ≡ is_spare wanted (d ∷ ds)
+spare_same : (wanted : List ℕ) (d : ℕ) (ds rest : List ℕ) → not (is_blank d) ≡ true → is_spare wanted (past_blanks (d ∷ (ds ++ rest))) ≡ is_spare wanted (d ∷ ds)
 spare_same wanted d ds rest b = ap (λ t. is_spare wanted t) (no_blank d (ds ++ rest) b)
 
 no_spare : (wanted : List ℕ) → is_spare wanted [] ≡ true → ⊥
@@ -64,14 +65,14 @@ no_spare wanted e = by (and_parts (is_comma wanted) false e).1
 
 literal_skips : (wanted known rest : List ℕ) → is_spare wanted known ≡ true → have_no_blank known ≡ true → (literal wanted).read (known ++ rest) ≡ Ok ([], known ++ rest)
 literal_skips wanted [] rest s b = absurd (no_spare wanted s)
-literal_skips wanted (d ∷ ds) rest s b = cond-true _ _ _ (spare_same wanted d ds rest (and_parts (not (is_ascii_whitespace d)) (have_no_blank ds) b).0 ∙ s)
+literal_skips wanted (d ∷ ds) rest s b = cond-true _ _ _ (spare_same wanted d ds rest (and_parts (not (is_blank d)) (have_no_blank ds) b).0 ∙ s)
 
 literal_stops : (wanted known rest : List ℕ) → is_spare wanted known ≡ false → clash wanted known ≡ true → have_no_blank known ≡ true → Stops ((literal wanted).read (known ++ rest))
 literal_stops [] known rest s c b = cc
 literal_stops (w ∷ ws) [] rest s c b = cc
 literal_stops (w ∷ ws) (d ∷ ds) rest s c b =
     let stop = fails_stop _ (fails (w ∷ ws) (d ∷ ds) rest c b) in
-    (stop.0, cond-false _ _ _ (spare_same (w ∷ ws) d ds rest (and_parts (not (is_ascii_whitespace d)) (have_no_blank ds) b).0 ∙ s) ∙ stop.1)
+    (stop.0, cond-false _ _ _ (spare_same (w ∷ ws) d ds rest (and_parts (not (is_blank d)) (have_no_blank ds) b).0 ∙ s) ∙ stop.1)
 
 -- the letters after those of a literal
 record Left (wanted letters rest : List ℕ) (test : List ℕ → Bool) : Type 0 where
@@ -80,7 +81,7 @@ record Left (wanted letters rest : List ℕ) (test : List ℕ → Bool) : Type 0
   blanks : have_no_blank left ≡ true
   read : letters_read wanted (letters ++ rest) ≡ Ok ([], left ++ rest)
 
-letter_more : (c d : ℕ) (cs rest : List ℕ) → eqb (to_ascii_uppercase c) (to_ascii_uppercase d) ≡ true → not (is_ascii_whitespace d) ≡ true
+letter_more : (c d : ℕ) (cs rest : List ℕ) → eqb (to_ascii_uppercase c) (to_ascii_uppercase d) ≡ true → not (is_blank d) ≡ true
     → letters_read (c ∷ cs) (d ∷ rest) ≡ letters_read cs rest
 letter_more c d cs rest e b = rw (no_blank d rest b, e) refl
 
@@ -89,7 +90,7 @@ strip_read [] letters rest test s b = record { left = letters; passes = s; blank
 strip_read (c ∷ cs) [] rest test s b = cc
 strip_read (c ∷ cs) (d ∷ ds) rest test s b =
     let same = and_parts (eqb (to_ascii_uppercase c) (to_ascii_uppercase d)) (strip cs ds test) s in
-    let blanks = and_parts (not (is_ascii_whitespace d)) (have_no_blank ds) b in
+    let blanks = and_parts (not (is_blank d)) (have_no_blank ds) b in
     let others = strip_read cs ds rest test same.1 blanks.1 in
     record { left = others.left; passes = others.passes; blanks = others.blanks; read = letter_more c d cs (ds ++ rest) same.0 blanks.0 ∙ others.read }
 
@@ -97,7 +98,7 @@ strip_spare : (wanted letters head rest : List ℕ) (test : List ℕ → Bool) �
     → is_spare wanted (past_blanks (letters ++ rest)) ≡ false
 strip_spare [] letters head rest test n s b = refl
 strip_spare (c ∷ cs) [] head rest test n s b = cc
-strip_spare (c ∷ cs) (d ∷ ds) head rest test n s b = spare_same (c ∷ cs) d ds rest (and_parts (not (is_ascii_whitespace d)) (have_no_blank ds) b).0 ∙ n
+strip_spare (c ∷ cs) (d ∷ ds) head rest test n s b = spare_same (c ∷ cs) d ds rest (and_parts (not (is_blank d)) (have_no_blank ds) b).0 ∙ n
 
 -- a field at a letter that begins no value of its shape
 not_zero : (c : ℕ) → nat_lt (digit_of (to_ascii_uppercase c)) 10 ≡ false → eqb c 48 ≡ false
@@ -111,33 +112,20 @@ no_base : (c : ℕ) (cs : List ℕ) → eqb c 48 ≡ false → after_base (c ∷
 no_base c [] e = refl
 no_base c (d ∷ cs) e = rw e refl
 
-module _ (c : ℕ) (cs : List ℕ) (blank : not (is_ascii_whitespace c) ≡ true) where
+module _ (c : ℕ) (cs : List ℕ) (blank : not (is_blank c) ≡ true) where
   number_none : (limit : ℕ) → nat_lt (digit_of (to_ascii_uppercase c)) 10 ≡ false → any_number limit (past_blanks (c ∷ cs)) ≡ None
   number_none limit e = ap (any_number limit) (no_blank c cs blank) ∙ rw (no_base c cs (not_zero c e), e) refl
 
   number_stops : (limit : ℕ) (what : Expected) → nat_lt (digit_of (to_ascii_uppercase c)) 10 ≡ false → Stops (expect what (c ∷ cs) (any_number limit (past_blanks (c ∷ cs))))
   number_stops limit what e = (stop_at (c ∷ cs) what, ap (expect what (c ∷ cs)) (number_none limit e))
 
-  pair_stops : nat_lt (digit_of (to_ascii_uppercase c)) 16 ≡ false → pair_read (c ∷ cs) ≡ None
-  pair_stops e = by cs
-    where
-      by : (cs : List ℕ) → pair_read (c ∷ cs) ≡ None
-      by [] = refl
-      by (d ∷ ds) = rw e refl
-
-  no_digits : nat_lt (digit_of (to_ascii_uppercase c)) 16 ≡ false → at_digits (c ∷ cs) ≡ c ∷ cs
-  no_digits e = ap (λ t. or_text t (after_base t)) (no_blank c cs blank) ∙ ap (or_text (c ∷ cs)) (no_base c cs (not_zero c (less e)))
-    where
-      less : nat_lt (digit_of (to_ascii_uppercase c)) 16 ≡ false → nat_lt (digit_of (to_ascii_uppercase c)) 10 ≡ false
-      less e = grind (arith, nat_tests, e)
-
   refuse_stops : (shape : Shape) (width : ℕ) → refuses shape c ≡ true → Stops ((shape_leaf shape width).read (c ∷ cs))
   refuse_stops Hexadecimal width r = stops_next _ _ (number_stops _ _ (no_is _ r))
+  refuse_stops Marked width r = stops_next _ _ (if_case Stops (two_decimals (past_blanks (c ∷ cs))) _ _ (λ e. (_, refl)) (λ e. number_stops _ _ (no_is _ r)))
   refuse_stops Decimal width r = stops_next _ _ (number_stops _ _ (no_is _ r))
   refuse_stops Next width r = stops_next _ _ (stops_next _ _ (stops_next _ _ (number_stops _ _ (no_is _ r))))
   refuse_stops Ipv4 width r = stops_next _ _ (stops_next _ _ (number_stops _ _ (no_is _ r)))
-  refuse_stops Ipv6 width r = subst (λ t. Stops ((between (codes ":") 2 (pairs 2) 7).read t)) (sym (no_digits (no_is _ r)))
-      (stops_next _ _ (stops_next _ _ (_, ap (expect (expected.Digits 2) (c ∷ cs)) (pair_stops (no_is _ r)))))
+  refuse_stops Ipv6 width r = subst (λ (c : ℕ). Stops (ipv6.read (c ∷ cs))) (sym (eqb-true c 41 r)) (stops_at_end cs)
   refuse_stops OrDefault width r = cc
   refuse_stops Forth width r = cc
   refuse_stops Back width r = cc
@@ -155,14 +143,14 @@ module _ (f : FieldOf) where
   spared_text None leaf v = refl
   spared_text (Some spare) leaf v = refl
 
-  field_skips : (c : ℕ) (cs : List ℕ) → not (is_ascii_whitespace c) ≡ true → is_omitted f c ≡ true → (v : List ℕ) × ((field_leaf f).read (c ∷ cs) ≡ Ok (v, c ∷ cs))
+  field_skips : (c : ℕ) (cs : List ℕ) → not (is_blank c) ≡ true → is_omitted f c ≡ true → (v : List ℕ) × ((field_leaf f).read (c ∷ cs) ≡ Ok (v, c ∷ cs))
   field_skips c cs b o = by f.spare o
     where
       by : (spare : Option ℕ) → is_some spare && eqb c 41 ≡ true → (v : List ℕ) × ((spared (option_map (replicate f.width) spare) (shape_leaf f.shape f.width)).read (c ∷ cs) ≡ Ok (v, c ∷ cs))
       by None o = cc
       by (Some spare) o = (replicate f.width spare, cond-true _ _ _ (ap (λ t. is_spare (codes ",") t) (no_blank c cs b) ∙ o))
 
-  field_stops : (c : ℕ) (cs : List ℕ) → not (is_ascii_whitespace c) ≡ true → is_omitted f c ≡ false → refuses f.shape c ≡ true → Stops ((field_leaf f).read (c ∷ cs))
+  field_stops : (c : ℕ) (cs : List ℕ) → not (is_blank c) ≡ true → is_omitted f c ≡ false → refuses f.shape c ≡ true → Stops ((field_leaf f).read (c ∷ cs))
   field_stops c cs b o r = by f.spare o (refuse_stops c cs b f.shape f.width r)
     where
       by : (spare : Option ℕ) → is_some spare && eqb c 41 ≡ false → Stops ((shape_leaf f.shape f.width).read (c ∷ cs))
@@ -173,11 +161,12 @@ module _ (f : FieldOf) where
 -- fields that have the same texts
 shape_with : ℕ → Shape
 shape_with n = if eqb n 1 then Hexadecimal else if eqb n 2 then Decimal else if eqb n 3 then Next else if eqb n 4 then Forth else if eqb n 5 then Back
-    else if eqb n 6 then BaseForth else if eqb n 7 then BaseBack else if eqb n 8 then Guid else if eqb n 9 then Ipv4 else if eqb n 10 then Ipv6 else Eisa
+    else if eqb n 6 then BaseForth else if eqb n 7 then BaseBack else if eqb n 8 then Guid else if eqb n 9 then Ipv4 else if eqb n 10 then Ipv6 else if eqb n 11 then Eisa else Marked
 
 numbered : (shape : Shape) → not (eqb (number_of_shape shape) 0) ≡ true → shape_with (number_of_shape shape) ≡ shape
 unfolding shape_with
 numbered Hexadecimal e = refl
+numbered Marked e = refl
 numbered Decimal e = refl
 numbered OrDefault e = cc
 numbered Next e = refl
@@ -251,7 +240,7 @@ sound_behind size (Many items ∷ steps) s = (s, refl)
 -- the letters that are known of what is printed
 blanks_both : (letters more : List ℕ) → have_no_blank letters ≡ true → have_no_blank more ≡ true → have_no_blank (letters ++ more) ≡ true
 blanks_both [] more b m = m
-blanks_both (c ∷ cs) more b m = let parts = and_parts (not (is_ascii_whitespace c)) (have_no_blank cs) b in and_from _ _ parts.0 (blanks_both cs more parts.1 m)
+blanks_both (c ∷ cs) more b m = let parts = and_parts (not (is_blank c)) (have_no_blank cs) b in and_from _ _ parts.0 (blanks_both cs more parts.1 m)
 
 record Base (shape : Shape) (width : ℕ) (v : List ℕ) : Type 0 where
   blanks : have_no_blank (base_of shape) ≡ true
@@ -260,6 +249,7 @@ record Base (shape : Shape) (width : ℕ) (v : List ℕ) : Type 0 where
 
 base : (shape : Shape) (width : ℕ) (v : List ℕ) → Base shape width v
 base Hexadecimal width v = record { blanks = refl; more = _; is = refl }
+base Marked width v = record { blanks = refl; more = _; is = refl }
 base Decimal width v = record { blanks = refl; more = _; is = refl }
 base OrDefault width v = record { blanks = refl; more = _; is = refl }
 base Next width v = record { blanks = refl; more = _; is = refl }
@@ -298,7 +288,7 @@ head (Field g ∷ others) (v ∷ vs) rest f =
 
 -- an address of IP version 4 is not read where one of version 6 is printed
 record IsHex (letter : ℕ) : Type 0 where
-  no_space : not (is_ascii_whitespace letter) ≡ true
+  no_space : not (is_blank letter) ≡ true
   no_x : eqb (to_ascii_uppercase letter) 88 ≡ false
   no_dot : eqb (to_ascii_uppercase 46) (to_ascii_uppercase letter) ≡ false
 
@@ -427,8 +417,8 @@ module _ (size other_size : ℕ) where
       → Stops ((both (field_leaf g) (steps_leaf (step_leaf lists) steps)).read (c ∷ (letters ++ (text_of others vs ++ rest))))
   letter_case g steps more c letters others vs rest b s f e = by (is_omitted g c) refl e
     where
-      blank : not (is_ascii_whitespace c) ≡ true
-      blank = (and_parts (not (is_ascii_whitespace c)) (have_no_blank letters) b).0
+      blank : not (is_blank c) ≡ true
+      blank = (and_parts (not (is_blank c)) (have_no_blank letters) b).0
 
       by : (o : Bool) → is_omitted g c ≡ o → cond o (reject steps (c ∷ letters) others) (refuses g.shape c) ≡ true
           → Stops ((both (field_leaf g) (steps_leaf (step_leaf lists) steps)).read (c ∷ (letters ++ (text_of others vs ++ rest))))

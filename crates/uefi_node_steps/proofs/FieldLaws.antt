@@ -1,5 +1,5 @@
 -- The laws of fields, and of all steps.
-use Rattle.std.proofs.Common.{◌≡◌, ℕ, zero, suc, ◌^◌, ◌<◌, ◌≤◌, Bool, true, false, eqb, leb, List, [], ◌∷◌, ◌++◌, ◌&&◌, refl, sym, subst, ◌∙◌, arith}
+use Rattle.std.proofs.Common.{◌≡◌, ℕ, zero, suc, ◌^◌, ◌-◌, ◌<◌, ◌≤◌, Bool, true, false, cond, eqb, leb, List, [], ◌∷◌, ◌++◌, ◌&&◌, refl, sym, subst, ◌∙◌, arith}
 use Rattle.std.proofs.Math.Nat.{pow-le-pow_right}
 use Rattle.std.proofs.lemmas.Bool.{and_parts, cond-false, leb-true}
 use Rattle.std.proofs.lemmas.Bool.Decides.{nat_tests}
@@ -8,7 +8,7 @@ use Rattle.std.specs.Option.{option_map}
 use Rattle.std.specs.Prelude.{nat_le, Option, Some, None, Ok, Err, codes}
 use Rattle.std.proofs.Math.ListN.{replicate}
 use borrow.Author.Tests.{eqb-true, ltb-true}
-use Rattle.uefi_node_steps.specs.Leaves.{ByteLeaf, Bytes, IsBytes, IsId, IsNumber, Number, any_number, backwards, digit_of, eisa, ends_at, first_of, is_spare, next_number, pairs, past_blanks, spared, word_of}
+use Rattle.uefi_node_steps.specs.Leaves.{ByteLeaf, Bytes, IsBytes, IsId, IsNumber, Number, ◌>>=◌, any_number, backwards, based, digit_of, eisa, ends_at, expect, first_of, hexadecimal, is_spare, low_bytes, next_number, pairs, past_blanks, spared, stop_at, two_decimals, word_of}
 use Rattle.uefi_node_steps.specs.Steps.{FitsData, FitsShape, FitsStep, Step, class_of, class_of_data, class_of_shape, data_leaf, field_leaf, fits_shape, is_sound_spare, is_sound_step, shape_leaf, step_leaf, words_of}
 use Rattle.uefi_node_steps.specs.declared.steps.Encoding.{Encoding}
 use Rattle.uefi_node_steps.specs.declared.steps.Encoding.TheVariants as encoding
@@ -16,16 +16,17 @@ use Rattle.uefi_node_steps.specs.declared.steps.Expected.TheVariants as expected
 use Rattle.uefi_node_steps.specs.declared.steps.Field.{Field as FieldOf}
 use Rattle.uefi_node_steps.specs.declared.steps.Items.{Items}
 use Rattle.uefi_node_steps.specs.declared.steps.Shape.{Shape}
-use Rattle.uefi_node_steps.specs.declared.steps.Shape.TheVariants.{Hexadecimal, Decimal, OrDefault, Next, Forth, Back, BaseForth, BaseBack, Apart, Dashed, Guid, Ipv4, Ipv6, Eisa, Word}
+use Rattle.uefi_node_steps.specs.declared.steps.Shape.TheVariants.{Hexadecimal, Marked, Decimal, OrDefault, Next, Forth, Back, BaseForth, BaseBack, Apart, Dashed, Guid, Ipv4, Ipv6, Eisa, Word}
 use Rattle.uefi_node_steps.specs.declared.steps.Stop.{Stop}
 use Rattle.uefi_node_steps.specs.declared.steps.StepOf.TheVariants.{Literal, Field, Data, Many}
-use Rattle.uefi_node_steps.proofs.Addresses.{apart_keeps, dashed_keeps, guid_keeps, in_bytes_keeps, ipv4_keeps, ipv6_keeps, number_keeps}
-use Rattle.uefi_node_steps.proofs.DataLaws.{back_begins, backwards_keeps, based_keeps, clear_keeps, comma_keeps, from_digits_keeps, hex_begins, pairs_keeps}
+use Rattle.uefi_node_steps.proofs.Addresses.{apart_keeps, dashed_keeps, guid_keeps, in_bytes_keeps, ipv4_keeps, number_keeps}
+use Rattle.uefi_node_steps.proofs.DataLaws.{back_begins, backwards_keeps, based_keeps, clear_keeps, comma_keeps, from_digits_keeps, hex_begins, marked_keeps, pairs_keeps}
 use Rattle.uefi_node_steps.proofs.Ids.{eisa_keeps}
 use Rattle.uefi_node_steps.proofs.Combinations.{Goes, Keeps, if_case}
 use Rattle.uefi_node_steps.proofs.LeafLaws.{literal_keeps}
 use Rattle.uefi_node_steps.proofs.Numbers.{decimal_keeps, hexadecimal_keeps, next_keeps}
-use Rattle.uefi_node_steps.proofs.TextLaws.{ids_keep, name_keeps, padded_keeps, units_keep}
+use Rattle.uefi_node_steps.proofs.ShortAddresses.{ipv6_keeps}
+use Rattle.uefi_node_steps.proofs.TextLaws.{ids_keep, name_keeps, padded_keeps, uid_keeps, units_keep}
 use Rattle.uefi_node_steps.proofs.WordLaws.{word_keeps, zero_keeps}
 
 -- the limits of numbers
@@ -45,6 +46,7 @@ at_width leaf count width ends e keeps = subst (λ (n : ℕ). Keeps leaf (IsByte
 
 shape_keeps : (shape : Shape) (width : ℕ) → fits_shape shape width ≡ true → Keeps (shape_leaf shape width) (FitsShape shape width) (ends_at (class_of_shape shape))
 shape_keeps Hexadecimal width e = let l = limits width e in number_keeps width _ (hexadecimal_keeps (256 ^ width) l.0 l.1 _)
+shape_keeps Marked width e = let l = limits width e in number_keeps width _ (marked_keeps (hexadecimal (256 ^ width)) _ _ (hexadecimal_keeps (256 ^ width) l.0 l.1 _) (λ v rest. refl))
 shape_keeps Decimal width e = let l = limits width e in number_keeps width _ (decimal_keeps (256 ^ width) l.0 l.1)
 shape_keeps OrDefault width e = let l = limits width e in number_keeps width _ (zero_keeps 68 (codes "EFAULT") refl not_default (256 ^ width) l.0 l.1)
 shape_keeps Next width e = number_keeps width (next_number (256 ^ width)) (subst (λ (n : ℕ). Keeps (next_number (256 ^ n)) (λ k. k < 256 ^ n) (ends_at Number)) (sym (eqb-true width 1 e))
@@ -52,7 +54,7 @@ shape_keeps Next width e = number_keeps width (next_number (256 ^ width)) (subst
 shape_keeps Forth width e = from_digits_keeps (pairs width) (IsBytes width) (λ rest. true) (pairs_keeps width) (λ v f. hex_begins v (omega (arith, leb-true 1 width e, f.0)) f.1)
 shape_keeps Back width e = from_digits_keeps (backwards width) (IsBytes width) (λ rest. true) (backwards_keeps width) (λ v f. back_begins v (omega (arith, leb-true 1 width e, f.0)) f.1)
 shape_keeps BaseForth width e = based_keeps (pairs width) (IsBytes width) (λ rest. true) (pairs_keeps width)
-shape_keeps BaseBack width e = based_keeps (backwards width) (IsBytes width) (λ rest. true) (backwards_keeps width)
+shape_keeps BaseBack width e = marked_keeps (based (backwards width)) (IsBytes width) (λ rest. true) (based_keeps (backwards width) (IsBytes width) (λ rest. true) (backwards_keeps width)) (λ v rest. refl)
 shape_keeps (Apart letter) width e = apart_keeps letter width e
 shape_keeps Dashed width e = dashed_keeps width
 shape_keeps Guid width e = at_width _ 16 width _ e guid_keeps
@@ -94,6 +96,11 @@ no_number limit text e = by (past_blanks text) e
     by (c ∷ []) e = subst (λ (c : ℕ). any_number limit (c ∷ []) ≡ None) (sym e) refl
     by (c ∷ d ∷ cs) e = subst (λ (c : ℕ). any_number limit (c ∷ d ∷ cs) ≡ None) (sym e) refl
 
+marked_none : (width : ℕ) (b : Bool) (text : List ℕ) (read : List ℕ × List ℕ) → any_number (256 ^ width) (past_blanks text) ≡ None
+    → ((cond b (Err (stop_at text expected.Base)) (expect (expected.Number (256 ^ width - 1)) text (any_number (256 ^ width) (past_blanks text)))) >>= λ v. Ok (low_bytes width v.0, v.1)) ≡ Ok read → ⊥
+marked_none width true text read n r = err_ok _ _ r
+marked_none width false text read n r = err_ok _ _ (rw n at r)
+
 copies : (width spare : ℕ) → spare < 256 → IsBytes width (replicate width spare)
 copies zero spare l = (refl, tt)
 copies (suc width) spare l = let others = copies width spare l in (omega (arith, others.0), (l, others.1))
@@ -106,6 +113,9 @@ spare_keeps Hexadecimal width spare w s = spared_keeps (shape_leaf Hexadecimal w
 spare_keeps Decimal width spare w s = spared_keeps (shape_leaf Decimal width) (IsBytes width) (ends_at Number) (shape_keeps Decimal width w) (replicate width spare) (copies width spare
     (ltb-true _ _ s))
     (λ text e read r. let n = no_number (256 ^ width) text e in absurd (err_ok _ _ (rw n at r)))
+spare_keeps Marked width spare w s = spared_keeps (shape_leaf Marked width) (IsBytes width) (ends_at Number) (shape_keeps Marked width w) (replicate width spare)
+    (copies width spare (ltb-true _ _ s))
+    (λ text e read r. marked_none width (two_decimals (past_blanks text)) text read (no_number (256 ^ width) text e) r)
 spare_keeps OrDefault width spare w s = cc
 spare_keeps Next width spare w s = cc
 spare_keeps Forth width spare w s = cc
@@ -135,6 +145,7 @@ data_keeps (encoding.Utf16 stop) = units_keep stop
 data_keeps (encoding.Name stop) = name_keeps stop
 data_keeps (encoding.Padded stop) = padded_keeps stop
 data_keeps (encoding.Ids stop) = ids_keep stop
+data_keeps (encoding.Uid stop) = uid_keeps stop
 
 -- all steps, given the lists
 module _ (lists : Items → ByteLeaf) (fits : Items → List ℕ → Type 0) (keep : (items : Items) → Keeps (lists items) (fits items) (ends_at Bytes)) (size : ℕ) where

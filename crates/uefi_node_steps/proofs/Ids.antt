@@ -2,13 +2,13 @@
 use Rattle.std.proofs.Common.{◌≡◌, ℕ, ◌+◌, ◌*◌, ◌/◌, ◌%◌, ◌<◌, Bool, true, false, cond, eqb, ltb, List, [], ◌∷◌, ◌++◌, ◌&&◌, not, length, refl, ap, sym, ◌∙◌, append_assoc, arith}
 use Rattle.std.proofs.lemmas.Bool.{and_parts}
 use Rattle.std.proofs.lemmas.Bool.Decides.{nat_tests}
-use Rattle.std.specs.Char.{is_ascii_whitespace, to_ascii_uppercase}
+use Rattle.std.specs.Char.{to_ascii_uppercase}
 use Rattle.std.specs.Prelude.{Option, Some, None, Ok, Err, codes, if◌then◌else◌, option_and_then}
 use Rattle.std.proofs.Common.{◌≤◌}
 use borrow.Author.Tests.{eqb-true, lt-ltb, ltb-true}
 use Rattle.uefi_device_nodes.specs.FieldTexts.{eisa_bits, eisa_letter, eisa_text, hex_four, hex_two}
 use Rattle.uefi_device_nodes.proofs.ShownFields.{printable_code}
-use Rattle.uefi_node_steps.specs.Leaves.{IsId, Read, eisa, eisa_read, id_digits, id_letters, letter_of, letters_read, or_word, pair_read, past_blanks}
+use Rattle.uefi_node_steps.specs.Leaves.{IsId, Read, eisa, eisa_read, id_digits, id_letters, is_blank, letter_of, letters_read, or_word, pair_read, past_blanks}
 use Rattle.uefi_node_steps.specs.declared.steps.Expected.TheVariants as expected
 use Rattle.uefi_node_steps.proofs.LeafLaws.{blanks_shorter, letters_go, no_blank, pair_again, pair_goes}
 use Rattle.uefi_node_steps.proofs.Combinations.{Goes, Keeps, OptionGoes, expect_keeps, if_case, option_longer}
@@ -17,7 +17,7 @@ use Rattle.uefi_node_steps.proofs.WordLaws.{fails_first}
 -- what is used of a letter of an ID
 record IsLetter (n letter : ℕ) : Type 0 where
   reads : letter_of (to_ascii_uppercase letter) ≡ n
-  no_space : not (is_ascii_whitespace letter) ≡ true
+  no_space : not (is_blank letter) ≡ true
   no_zero : eqb (to_ascii_uppercase 48) (to_ascii_uppercase letter) ≡ false
 
 letter_is : (n : ℕ) → n < 32 → IsLetter n (n + 64)

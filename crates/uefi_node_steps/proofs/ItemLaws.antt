@@ -12,7 +12,7 @@ use Rattle.uefi_node_steps.specs.Steps.{FitsItem, FitsList, FitsLists, FitsNoLis
 use Rattle.uefi_node_steps.specs.declared.steps.Items.{Items}
 use Rattle.uefi_node_steps.specs.declared.steps.Items.TheVariants.{Numbers, Ipv4 as Ipv4Items, Ipv6 as Ipv6Items}
 use Rattle.uefi_node_steps.specs.declared.steps.Shape.{Shape}
-use Rattle.uefi_node_steps.specs.declared.steps.Shape.TheVariants.{Hexadecimal, Decimal, OrDefault, Next, Forth, Back, BaseForth, BaseBack, Apart, Dashed, Guid, Ipv4, Ipv6, Eisa, Word}
+use Rattle.uefi_node_steps.specs.declared.steps.Shape.TheVariants.{Hexadecimal, Marked, Decimal, OrDefault, Next, Forth, Back, BaseForth, BaseBack, Apart, Dashed, Guid, Ipv4, Ipv6, Eisa, Word}
 use Rattle.uefi_node_steps.specs.declared.steps.StepOf.TheVariants.{Literal, Field, Data, Many}
 use Rattle.uefi_node_steps.proofs.DataLaws.{bytes_end, no_comma}
 use Rattle.uefi_node_steps.proofs.FieldLaws.{step_keeps}
@@ -49,6 +49,7 @@ sized lists (Field f) v g = by f.shape g
   where
     by : (shape : Shape) → FitsShape shape f.width v → length v ≡ f.width
     by Hexadecimal g = g.0
+    by Marked g = g.0
     by Decimal g = g.0
     by OrDefault g = g.0
     by Next g = g.0

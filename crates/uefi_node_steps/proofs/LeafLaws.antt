@@ -2,12 +2,12 @@
 use Rattle.std.proofs.Common.{◌≡◌, ℕ, suc, ◌+◌, ◌*◌, ◌/◌, ◌%◌, ◌<◌, ◌≤◌, Bool, true, false, cond, eqb, ltb, List, [], ◌∷◌, ◌++◌, ◌&&◌, not, length, refl, sym, ap, subst, ◌∙◌, append_assoc, arith}
 use Rattle.std.proofs.lemmas.Bool.{and_parts, cond-false}
 use Rattle.std.proofs.lemmas.Bool.Decides.{nat_tests}
-use Rattle.std.specs.Char.{is_ascii_whitespace, to_ascii_uppercase}
+use Rattle.std.specs.Char.{to_ascii_uppercase}
 use Rattle.std.specs.Fmt.{digit_glyph}
 use Rattle.std.specs.List.{list_all}
 use Rattle.std.specs.Prelude.{Some, Ok}
 use borrow.Author.Tests.{eq-eqb, eqb-true, lt-ltb, ltb-true}
-use Rattle.uefi_node_steps.specs.Leaves.{Leaf, after, before, digit_of, first_of, have_no_blank, is_comma, is_spare, letter_read, letters_read, literal, pair, pair_read, past_blanks}
+use Rattle.uefi_node_steps.specs.Leaves.{Leaf, after, before, digit_of, first_of, have_no_blank, is_blank, is_comma, is_spare, letter_read, letters_read, literal, pair, pair_read, past_blanks}
 use Rattle.uefi_device_nodes.specs.FieldTexts.{hex_two}
 use Rattle.uefi_device_nodes.proofs.GuidTexts.{two_digits}
 use Rattle.uefi_node_steps.proofs.Combinations.{Goes, Keeps, OptionGoes, expect_keeps, goes_longer, goes_next, if_case, next}
@@ -15,14 +15,14 @@ use Rattle.uefi_node_steps.proofs.Combinations.{Goes, Keeps, OptionGoes, expect_
 -- blanks
 pub blanks_shorter : (text : List ℕ) → length (past_blanks text) ≤ length text
 blanks_shorter [] = omega arith
-blanks_shorter (c ∷ cs) = if_case (λ (t : List ℕ). length t ≤ suc (length cs)) (is_ascii_whitespace c) _ _ (λ e. omega (arith, blanks_shorter cs)) (λ e. omega arith)
+blanks_shorter (c ∷ cs) = if_case (λ (t : List ℕ). length t ≤ suc (length cs)) (is_blank c) _ _ (λ e. omega (arith, blanks_shorter cs)) (λ e. omega arith)
 
 -- letters
 abbrev is_no_blank : ℕ → Bool
-is_no_blank c = not (is_ascii_whitespace c)
+is_no_blank c = not (is_blank c)
 
-pub no_blank : (c : ℕ) (cs : List ℕ) → not (is_ascii_whitespace c) ≡ true → past_blanks (c ∷ cs) ≡ c ∷ cs
-no_blank c cs e = by (is_ascii_whitespace c) e
+pub no_blank : (c : ℕ) (cs : List ℕ) → not (is_blank c) ≡ true → past_blanks (c ∷ cs) ≡ c ∷ cs
+no_blank c cs e = by (is_blank c) e
   where
     by : (b : Bool) → not b ≡ true → cond b (past_blanks cs) (c ∷ cs) ≡ c ∷ cs
     by true e = cc
@@ -79,7 +79,7 @@ module _ {V : Type 0} (letters : List ℕ) (blanks : have_no_blank letters ≡ t
 pub record IsDigit (d glyph : ℕ) : Type 0 where
   pub reads : digit_of glyph ≡ d
   pub folds : to_ascii_uppercase glyph ≡ glyph
-  pub no_blank : not (is_ascii_whitespace glyph) ≡ true
+  pub no_blank : not (is_blank glyph) ≡ true
   pub no_x : eqb glyph 88 ≡ false
 
 pub upper_digit : (d : ℕ) → d < 16 → IsDigit d (digit_glyph true d)

@@ -22,7 +22,7 @@ same_self [] = refl
 same_self (c ∷ cs) = rw (eq-eqb c c refl) (same_self cs)
 
 -- a form that was found
-found_is : (test : Form → Bool) (forms : List Form) (form : Form) → find_form test forms ≡ Some form → IsOf form forms × (test form ≡ true)
+pub found_is : (test : Form → Bool) (forms : List Form) (form : Form) → find_form test forms ≡ Some form → IsOf form forms × (test form ≡ true)
 found_is test [] form e = cc
 found_is test (other ∷ forms) form e = by (test other) refl e (found_is test forms form)
   where

@@ -18,7 +18,7 @@ items_are item [] = refl
 items_are item (bytes ∷ items) = λ i. steps_are no_list (bytes, []) item.steps i ++ items_are item items i
 
 -- items of one size
-suc_times : (k n : ℕ) → suc k * n ≡ n + k * n
+pub suc_times : (k n : ℕ) → suc k * n ≡ n + k * n
 suc_times k n = grind arith
 
 chunks_suc : (n k : ℕ) (xs : List ℕ) → first_chunks n (suc k) xs ≡ first_chunks n k xs ++ take n (drop (k * n) xs) ∷ []

@@ -9,12 +9,12 @@ use Rattle.std.specs.Prelude.{codes, nat_le}
 use Rattle.uefi_text.specs.Units.{is_nul}
 use Rattle.uefi_text.specs.UnitBytes.{unit_bytes, units_of_bytes}
 use Rattle.uefi_text.proofs.UnitBytes.{units_of_bytes-unit_bytes}
-use Rattle.uefi_device_nodes.specs.FieldTexts.{after_nul, id_strings_text, shown_bytes, shown_units, until_nul, utf16_text}
+use Rattle.uefi_device_nodes.specs.FieldTexts.{after_nul, id_strings_text, shown_bytes, shown_units, uid_string, until_nul, utf16_text}
 use Rattle.uefi_device_nodes.specs.ShownFields.{is_printable}
 use Rattle.uefi_device_nodes.proofs.UnitsShown.{shown_all, shown_run}
-use Rattle.uefi_node_steps.specs.Leaves.{ByteLeaf, Clear, FitBoth, Leaf, before, both, clear_text, ends_at, id_strings, ids_text, is_clear, mapped, name_text, nothing, only, padded, padded_text, stored_strings, units_text}
+use Rattle.uefi_node_steps.specs.Leaves.{ByteLeaf, Clear, FitBoth, Leaf, before, both, clear_text, ends_at, id_strings, ids_text, is_clear, mapped, name_text, nothing, only, padded, padded_text, stored_strings, uid_text, units_text}
 use Rattle.uefi_node_steps.specs.declared.steps.Expected.TheVariants as expected
-use Rattle.uefi_node_steps.specs.Steps.{AreIds, AreUnits, FitStrings, IsClear, IsName, IsPadded}
+use Rattle.uefi_node_steps.specs.Steps.{AreIds, AreUnits, FitStrings, IsClear, IsName, IsPadded, IsUid}
 use Rattle.uefi_node_steps.proofs.DataLaws.{clear_keeps, clear_shown, printable}
 use Rattle.uefi_node_steps.proofs.LeafLaws.{before_keeps}
 use Rattle.uefi_node_steps.proofs.Combinations.{Keeps, both_keeps, keeps_as, mapped_keeps, nothing_keeps, only_keeps}
@@ -88,6 +88,14 @@ units_keep stop = keeps_as coded utf16_text (AreUnits stop) (AreUnits stop) (end
 
     same : (v : List ℕ) → IsClear stop (units_of_bytes v) → utf16_text v ≡ shown_bytes (units_of_bytes v)
     same v e = ap shown_units (no_nul_at stop (units_of_bytes v) e) ∙ sym (units_shown (units_of_bytes v) (printable stop (units_of_bytes v) e)) ∙ sym (clear_shown stop (units_of_bytes v) e)
+
+-- the string of _UID alone
+pub uid_keeps : (stop : ℕ) → Keeps (uid_text stop) (IsUid stop) (ends_at (Clear stop))
+uid_keeps stop = mapped_keeps (λ letters. stored_strings ([] ∷ [] ∷ letters ∷ [])) uid_string (clear_text stop) (IsClear stop) (IsUid stop) (ends_at (Clear stop)) (clear_keeps stop)
+    (λ v f. let same = back v f in ((rw same f, ap (λ (t : List ℕ). stored_strings ([] ∷ [] ∷ t ∷ [])) same), same)) (λ w f. (f.0, f.1))
+  where
+    back : (v : List ℕ) → IsClear stop v → uid_string (stored_strings ([] ∷ [] ∷ v ∷ [])) ≡ v
+    back v f = ap until_nul (after_at 44 [] (v ++ (0 ∷ 0 ∷ [])) refl) ∙ until_at stop v (0 ∷ []) f
 
 -- the strings of an ACPI device
 abbrev strings : ℕ → Leaf (List (List ℕ))

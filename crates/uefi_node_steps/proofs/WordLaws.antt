@@ -1,12 +1,12 @@
 -- The laws of words.
 use Rattle.std.proofs.Common.{◌≡◌, ℕ, ◌^◌, ◌<◌, ◌≤◌, Bool, true, false, cond, eqb, ltb, List, [], ◌∷◌, ◌++◌, ◌&&◌, not, refl, subst, sym, ap, ◌∙◌}
 use Rattle.std.proofs.lemmas.Bool.{and_parts, cond-false, cond-true}
-use Rattle.std.specs.Char.{is_ascii_whitespace, to_ascii_uppercase}
+use Rattle.std.specs.Char.{to_ascii_uppercase}
 use Rattle.std.specs.Fmt.{digits}
 use Rattle.std.specs.List.{list_all}
 use Rattle.std.specs.Prelude.{Option, Some, None, Ok, Err}
 use borrow.Author.Tests.{eq-eqb, eqb-true, ltb-true}
-use Rattle.uefi_node_steps.specs.Leaves.{IsNumber, Number, Read, Word, any_number, are_parted, are_sound_words, clash, digit_of, ends_at, has_digit, has_word, have_no_blank, letters_read, or_word, or_zero, past_blanks, word_of, word_read, word_text, zero_read, zero_text, suits}
+use Rattle.uefi_node_steps.specs.Leaves.{IsNumber, Number, Read, Word, any_number, are_parted, are_sound_words, clash, digit_of, ends_at, has_digit, has_word, have_no_blank, is_blank, letters_read, or_word, or_zero, past_blanks, suits, word_of, word_read, word_text, zero_read, zero_text}
 use Rattle.uefi_node_steps.specs.declared.steps.Expected.{Expected}
 use Rattle.uefi_node_steps.proofs.LeafLaws.{letters_again, letters_go, no_blank}
 use Rattle.uefi_node_steps.proofs.Combinations.{Goes, Keeps, OptionGoes, expect_keeps, no_is}
@@ -25,8 +25,8 @@ fails [] other rest c b n o = cc
 fails (c ∷ cs) [] rest e b n o = cc
 fails (c ∷ cs) (d ∷ ds) rest e b n o = by (eqb (to_ascii_uppercase c) (to_ascii_uppercase d)) refl e (λ k. fails cs ds rest k parts.1 n o)
   where
-    parts : (not (is_ascii_whitespace d) ≡ true) × (have_no_blank ds ≡ true)
-    parts = and_parts (not (is_ascii_whitespace d)) (have_no_blank ds) b
+    parts : (not (is_blank d) ≡ true) × (have_no_blank ds ≡ true)
+    parts = and_parts (not (is_blank d)) (have_no_blank ds) b
 
     by : (u : Bool) → eqb (to_ascii_uppercase c) (to_ascii_uppercase d) ≡ u → cond u (clash cs ds) true ≡ true
         → (clash cs ds ≡ true → or_word n (letters_read cs (ds ++ rest)) o ≡ o) → or_word n (letters_read (c ∷ cs) (d ∷ (ds ++ rest))) o ≡ o

@@ -3,6 +3,9 @@ use Rattle.std.specs.Prelude.{◌≡◌, ◌<◌, ℕ, zero, suc, ◌+◌, ◌-�
 use Rattle.std.specs.Char.{is_ascii_whitespace, to_ascii_uppercase}
 use Rattle.std.specs.Fmt.{digits}
 use Rattle.std.specs.List.{list_all}
+use Rattle.std.specs.Net.Addr.{octets_of}
+use Rattle.std.specs.Net.Reader.{read_ipv6, whole_value}
+use Rattle.std.specs.Option.{option_map}
 use Rattle.uefi_text.specs.Packed.{little_endian}
 use Rattle.uefi_text.specs.UnitBytes.{unit_bytes, units_of_bytes}
 use Rattle.uefi_device_nodes.specs.FieldTexts.{comma_bytes, dashed_back, eisa_bits, eisa_text, hex, hex_back, hex_bytes, hex_two, id_strings_text, cid_string, hid_string, shown_bytes, uid_string, until_nul, utf16_text}
@@ -112,10 +115,14 @@ pub data Class : Type 0 where
   Bytes : Class
   Clear : ℕ → Class
 
+-- whether a letter is skipped between the parts of a call: a blank, a line end, or a brace around a GUID
+abbrev pub is_blank : ℕ → Bool
+is_blank c = is_ascii_whitespace c || ((c == 123) || (c == 125))
+
 -- a text without its blanks at the start
 abbrev pub past_blanks : List ℕ → List ℕ
 past_blanks [] = []
-past_blanks (c ∷ cs) = if is_ascii_whitespace c then past_blanks cs else c ∷ cs
+past_blanks (c ∷ cs) = if is_blank c then past_blanks cs else c ∷ cs
 
 -- a letter, whose value is empty
 abbrev pub letter_read : ℕ → List ℕ → Read (List ℕ)
@@ -135,6 +142,11 @@ letters_read (c ∷ cs) text = do
 abbrev pub first_of : List ℕ → ℕ
 first_of [] = 0
 first_of (c ∷ cs) = c
+
+-- a text after its first letter
+abbrev pub after_first : List ℕ → List ℕ
+after_first [] = []
+after_first (c ∷ cs) = cs
 
 -- whether letters are a comma
 abbrev pub is_comma : List ℕ → Bool
@@ -187,7 +199,7 @@ next_is_no test (c ∷ cs) = not (test c)
 abbrev pub ends_at : Class → List ℕ → Bool
 ends_at Nobody text = true
 ends_at Number text = next_is_no is_of_number text
-ends_at Bytes text = next_is_no (λ c. is_of_number c || ((c == 44) || is_ascii_whitespace c)) text
+ends_at Bytes text = next_is_no (λ c. is_of_number c || ((c == 44) || is_blank c)) text
 ends_at (Clear stop) text = next_is_no (is_clear stop) text
 
 -- the number of all digits at the start of a text, after digits with the value `n`, and the rest of the text;
@@ -288,6 +300,19 @@ from_digits leaf = record { text = leaf.text; read = λ text. leaf.read (at_digi
 abbrev pub based : {V : Type 0} → Leaf V → Leaf V
 based leaf = printed (λ v. codes "0x" ++ leaf.text v) (from_digits leaf)
 
+-- whether a text begins with two decimal digits
+abbrev pub two_decimals : List ℕ → Bool
+two_decimals [] = false
+two_decimals (c ∷ cs) = has_digit 10 (c ∷ []) && has_digit 10 cs
+
+-- a leaf that is printed with `0x`, where some programs print the hexadecimal digits alone: people may leave out
+-- the `0x` only before a single decimal digit
+abbrev pub marked : {V : Type 0} → Leaf V → Leaf V
+marked leaf = record {
+  text = leaf.text;
+  read = λ text. if two_decimals (past_blanks text) then Err (stop_at text expected.Base) else leaf.read text;
+}
+
 -- this many bytes, forwards and backwards
 abbrev pub pairs : ℕ → ByteLeaf
 pairs count = printed hex_bytes (repeat count pair)
@@ -330,12 +355,58 @@ low_bytes (suc count) n = n % 256 ∷ low_bytes count (n / 256)
 abbrev pub in_bytes : ℕ → Leaf ℕ → ByteLeaf
 in_bytes width leaf = mapped (low_bytes width) little_endian leaf
 
--- an address of IP version 4, and one of version 6
+-- an address of IP version 4, and one of version 6 in eight groups of four digits
 abbrev pub ipv4 : ByteLeaf
 ipv4 = between (codes ".") 1 (in_bytes 1 (decimal 256)) 3
 
+abbrev pub groups : ByteLeaf
+groups = from_digits (between (codes ":") 2 (pairs 2) 7)
+
+-- what is read in one way, or else in another
+abbrev pub or_read : {V : Type 0} → Read V → Option (V × List ℕ) → Read V
+or_read (Ok read) other = Ok read
+or_read (Err stop) None = Err stop
+or_read (Err stop) (Some read) = Ok read
+
+abbrev pub or_else : {V : Type 0} → Leaf V → (List ℕ → Option (V × List ℕ)) → Leaf V
+or_else leaf other = record { text = leaf.text; read = λ text. or_read (leaf.read text) (other text) }
+
+-- whether a letter ends an address: a comma, the end of a call, a bracket, or a blank
+abbrev pub ends_address : ℕ → Bool
+ends_address c = (c == 44) || ((c == 41) || ((c == 93) || is_blank c))
+
+-- the letters before the first that ends an address, and the rest of the text
+abbrev pub address_run : List ℕ → List ℕ × List ℕ
+address_run [] = ([], [])
+address_run (c ∷ cs) = if ends_address c then ([], c ∷ cs)
+    else (c ∷ (address_run cs).0, (address_run cs).1)
+
+-- the octets of the address that a whole text encodes (RFC 4291, section 2.2); the longest text is that of eight
+-- segments, of which an address of version 4 stands for the last two
+unfoldable pub address_octets : List ℕ → Option (List ℕ)
+address_octets text = if nat_le (length text) 45
+    then option_map octets_of (whole_value (read_ipv6 text)) else None
+
+abbrev pub bare_address : List ℕ → Option (List ℕ × List ℕ)
+bare_address text = option_map (λ octets. (octets, (address_run text).1))
+    (address_octets (address_run text).0)
+
+-- an address before a closing bracket
+abbrev pub if_closed : List ℕ → Read (List ℕ) → Option (List ℕ × List ℕ)
+if_closed octets (Err stop) = None
+if_closed octets (Ok none) = Some (octets, none.1)
+
+abbrev pub before_bracket : Option (List ℕ × List ℕ) → Option (List ℕ × List ℕ)
+before_bracket None = None
+before_bracket (Some address) = if_closed address.0 (letters_read (codes "]") address.1)
+
+-- an address in any form, perhaps in brackets
+abbrev pub any_address : List ℕ → Option (List ℕ × List ℕ)
+any_address text = if first_of (past_blanks text) == 91
+    then before_bracket (bare_address (after_first (past_blanks text))) else bare_address (past_blanks text)
+
 abbrev pub ipv6 : ByteLeaf
-ipv6 = from_digits (between (codes ":") 2 (pairs 2) 7)
+ipv6 = or_else groups any_address
 
 -- a word: the bits of a number that count, their value, which is the number that it is read as, and
 -- its letters
@@ -370,7 +441,7 @@ clash (c ∷ cs) [] = false
 clash (c ∷ cs) (d ∷ ds) = if to_ascii_uppercase c == to_ascii_uppercase d then clash cs ds else true
 
 abbrev pub have_no_blank : List ℕ → Bool
-have_no_blank letters = list_all (λ c. not (is_ascii_whitespace c)) letters
+have_no_blank letters = list_all (λ c. not (is_blank c)) letters
 
 -- whether no word is a prefix of another, and none stands for the number of a later one
 abbrev pub are_parted : Word → Word → Bool
@@ -474,11 +545,6 @@ some (byte ∷ bytes, rest) = Ok (byte ∷ bytes, rest)
 abbrev pub has_comma : List ℕ → Bool
 has_comma text = first_of (past_blanks text) == 44
 
--- a text after its first letter
-abbrev pub after_first : List ℕ → List ℕ
-after_first [] = []
-after_first (c ∷ cs) = cs
-
 -- bytes after a comma, or none
 abbrev pub bytes_after_comma : ByteLeaf
 bytes_after_comma = record {
@@ -524,6 +590,10 @@ abbrev pub ids_text : ℕ → ByteLeaf
 ids_text stop = printed id_strings_text (mapped stored_strings id_strings
     (both (before (codes ",") (clear_text 44)) (both (before (codes ",") (clear_text 44)) (both
     (clear_text stop) nothing))))
+
+-- the string of _UID, as the data of a device without the other strings
+abbrev pub uid_text : ℕ → ByteLeaf
+uid_text stop = mapped (λ letters. stored_strings ([] ∷ [] ∷ letters ∷ [])) uid_string (clear_text stop)
 
 -- a leaf, whose value people may leave out before the end of a call
 abbrev pub spared : {V : Type 0} → Option V → Leaf V → Leaf V

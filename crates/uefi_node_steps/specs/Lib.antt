@@ -1,4 +1,5 @@
 pub mod Leaves
+pub mod Lengths
 pub mod NodeForms
 pub mod Nodes
 pub mod Parts

@@ -2,7 +2,7 @@
 use Rattle.std.specs.Prelude.{ℕ, zero, suc, ◌+◌, ◌==◌, if◌then◌else◌, List, [], ◌++◌, map}
 use Rattle.uefi_node_steps.specs.Nodes.{ReadsNodes}
 use Rattle.uefi_node_steps.specs.Table.{Form, as_form}
-use Rattle.uefi_node_steps.specs.declared.table.TheConstants.{HARDWARE, ACPI, SAS, SAS_IN_BAYS, SAS_EX, MESSAGING, IPV4, IPV6, IPV6_SHORT, USB_CLASSES, MEDIA, BOOT, TYPED_ACPI, TYPED_MESSAGING, TYPED_MEDIA, LIBEFIVAR}
+use Rattle.uefi_node_steps.specs.declared.table.TheConstants.{HARDWARE, ACPI, SAS, SAS_IN_BAYS, SAS_EX, MESSAGING, IPV4, IPV6, IPV6_SHORT, USB_CLASSES, MEDIA, BOOT, TYPED_ACPI, TYPED_MESSAGING, TYPED_IPV6, TYPED_MEDIA, LIBEFIVAR}
 
 -- the forms of a group
 unfoldable pub group_forms : ℕ → List Form
@@ -20,8 +20,9 @@ group_forms index = if index == 0 then map as_form HARDWARE.now else
     if index == 11 then map as_form BOOT.now else
     if index == 12 then map as_form TYPED_ACPI.now else
     if index == 13 then map as_form TYPED_MESSAGING.now else
-    if index == 14 then map as_form TYPED_MEDIA.now else
-    if index == 15 then map as_form LIBEFIVAR.now else []
+    if index == 14 then map as_form TYPED_IPV6.now else
+    if index == 15 then map as_form TYPED_MEDIA.now else
+    if index == 16 then map as_form LIBEFIVAR.now else []
 
 -- the forms of `count` groups from a group on
 abbrev pub forms_from : ℕ → ℕ → List Form
@@ -30,7 +31,7 @@ forms_from index (suc count) = group_forms index ++ forms_from (index + 1) count
 
 -- all forms of the table
 abbrev pub node_forms : List Form
-node_forms = forms_from 0 16
+node_forms = forms_from 0 17
 
 -- they are read as a table that is read
 abbrev pub NodesRead : Type 0

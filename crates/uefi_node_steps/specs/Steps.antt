@@ -1,14 +1,13 @@
 -- The steps of forms: the text of each, and the data of several.
 use Rattle.std.specs.Prelude.{◌≡◌, ◌<◌, ℕ, ◌+◌, ◌/◌, ◌^◌, nat_le, nat_lt, not, Bool, true, false, ◌==◌, ◌&&◌, ◌||◌, if◌then◌else◌, List, [], ◌∷◌, ◌++◌, codes, length, take, drop, map, slice_range, slice_set, Option, Some, None, Ok}
-use Rattle.std.specs.Char.{is_ascii_whitespace}
 use Rattle.std.specs.List.{concat, list_all}
 use Rattle.std.specs.Option.{option_map}
 use Rattle.std.specs.Simd.{first_chunks}
 use Rattle.std.proofs.Math.ListN.{replicate}
 use Rattle.uefi_text.specs.Packed.{little_endian}
 use Rattle.uefi_text.specs.UnitBytes.{unit_bytes, units_of_bytes}
-use Rattle.uefi_device_nodes.specs.FieldTexts.{until_nul}
-use Rattle.uefi_node_steps.specs.Leaves.{ByteLeaf, Class, Nobody, Number, Bytes, Clear, Each, FitBoth, IsBytes, IsId, IsNumber, Leaf, Word, apart, are_sound_words, backwards, based, both, bytes_after_comma, clear_text, dashed, decimal, eisa, ends_at, first_of, from_digits, guid, has_comma, have_no_blank, hexadecimal, id_strings, ids_text, in_bytes, ipv4, ipv6, is_clear, literal, many, mapped, name_text, next_number, nothing, or_zero, padded, padded_text, pairs, spared, stored_strings, units_text, word_of}
+use Rattle.uefi_device_nodes.specs.FieldTexts.{uid_string, until_nul}
+use Rattle.uefi_node_steps.specs.Leaves.{ByteLeaf, Bytes, Class, Clear, Each, FitBoth, IsBytes, IsId, IsNumber, Leaf, Nobody, Number, Word, apart, are_sound_words, backwards, based, both, bytes_after_comma, clear_text, dashed, decimal, eisa, ends_at, first_of, from_digits, guid, has_comma, have_no_blank, hexadecimal, id_strings, ids_text, in_bytes, ipv4, ipv6, is_blank, is_clear, literal, many, mapped, marked, name_text, next_number, nothing, or_zero, padded, padded_text, pairs, spared, stored_strings, uid_text, units_text, word_of}
 use Rattle.uefi_node_steps.specs.declared.items.TheConstants.{NUMBERS, IPV4_ADDRESSES, IPV6_ADDRESSES}
 use Rattle.uefi_node_steps.specs.declared.steps.Encoding.{Encoding}
 use Rattle.uefi_node_steps.specs.declared.steps.Encoding.TheVariants as encoding
@@ -18,7 +17,7 @@ use Rattle.uefi_node_steps.specs.declared.steps.Items.{Items}
 use Rattle.uefi_node_steps.specs.declared.steps.Items.TheVariants.{Numbers, Ipv4 as Ipv4Items, Ipv6 as Ipv6Items}
 use Rattle.uefi_node_steps.specs.declared.steps.LayoutOf.{LayoutOf}
 use Rattle.uefi_node_steps.specs.declared.steps.Shape.{Shape}
-use Rattle.uefi_node_steps.specs.declared.steps.Shape.TheVariants.{Hexadecimal, Decimal, OrDefault, Next, Forth, Back, BaseForth, BaseBack, Apart, Dashed, Guid, Ipv4, Ipv6, Eisa, Word as WordOf}
+use Rattle.uefi_node_steps.specs.declared.steps.Shape.TheVariants.{Hexadecimal, Marked, Decimal, OrDefault, Next, Forth, Back, BaseForth, BaseBack, Apart, Dashed, Guid, Ipv4, Ipv6, Eisa, Word as WordOf}
 use Rattle.uefi_node_steps.specs.declared.steps.StepOf.{StepOf}
 use Rattle.uefi_node_steps.specs.declared.steps.StepOf.TheVariants.{Literal, Field, Data, Many}
 use Rattle.uefi_node_steps.specs.declared.steps.Words.{Words}
@@ -47,13 +46,14 @@ words_of Protocol = map as_word PROTOCOL.now
 -- the text of a field
 abbrev pub shape_leaf : Shape → ℕ → ByteLeaf
 shape_leaf Hexadecimal width = in_bytes width (hexadecimal (256 ^ width))
+shape_leaf Marked width = in_bytes width (marked (hexadecimal (256 ^ width)))
 shape_leaf Decimal width = in_bytes width (decimal (256 ^ width))
 shape_leaf OrDefault width = in_bytes width (or_zero (codes "DEFAULT") (256 ^ width))
 shape_leaf Next width = in_bytes width (next_number (256 ^ width))
 shape_leaf Forth width = from_digits (pairs width)
 shape_leaf Back width = from_digits (backwards width)
 shape_leaf BaseForth width = based (pairs width)
-shape_leaf BaseBack width = based (backwards width)
+shape_leaf BaseBack width = marked (based (backwards width))
 shape_leaf (Apart letter) width = apart (letter ∷ []) width
 shape_leaf Dashed width = dashed width
 shape_leaf Guid width = guid
@@ -73,6 +73,7 @@ data_leaf (encoding.Utf16 stop) = units_text stop
 data_leaf (encoding.Name stop) = name_text stop
 data_leaf (encoding.Padded stop) = padded_text stop
 data_leaf (encoding.Ids stop) = ids_text stop
+data_leaf (encoding.Uid stop) = uid_text stop
 
 -- the text of a step, given that of the lists
 abbrev pub step_leaf : (Items → ByteLeaf) → Step → ByteLeaf
@@ -159,6 +160,7 @@ lists items = list_leaf (item_of items)
 -- the letters that may continue a step
 abbrev pub class_of_shape : Shape → Class
 class_of_shape Hexadecimal = Number
+class_of_shape Marked = Number
 class_of_shape Decimal = Number
 class_of_shape OrDefault = Number
 class_of_shape Next = Number
@@ -172,6 +174,7 @@ class_of_data (encoding.Utf16 stop) = Clear stop
 class_of_data (encoding.Name stop) = Clear stop
 class_of_data (encoding.Padded stop) = Clear stop
 class_of_data (encoding.Ids stop) = Clear stop
+class_of_data (encoding.Uid stop) = Clear stop
 
 abbrev pub class_of : Step → Class
 class_of (Literal text) = Nobody
@@ -212,6 +215,7 @@ ends_all last (step ∷ steps) = follow last (class_of step) steps && ends_all l
 -- whether a field of a width can be of this shape
 abbrev pub fits_shape : Shape → ℕ → Bool
 fits_shape Hexadecimal width = nat_le 1 width && nat_le width 8
+fits_shape Marked width = nat_le 1 width && nat_le width 8
 fits_shape Decimal width = nat_le 1 width && nat_le width 8
 fits_shape OrDefault width = nat_le 1 width && nat_le width 8
 fits_shape Next width = width == 1
@@ -219,7 +223,7 @@ fits_shape Forth width = nat_le 1 width
 fits_shape Back width = nat_le 1 width
 fits_shape BaseForth width = nat_le 1 width
 fits_shape BaseBack width = nat_le 1 width
-fits_shape (Apart letter) width = not (is_ascii_whitespace letter)
+fits_shape (Apart letter) width = not (is_blank letter)
 fits_shape Dashed width = true
 fits_shape Guid width = width == 16
 fits_shape Ipv4 width = width == 4
@@ -232,6 +236,7 @@ fits_shape (WordOf words) width = (nat_le 1 width && nat_le width 8)
 abbrev pub is_sound_spare : Shape → Option ℕ → Bool
 is_sound_spare shape None = true
 is_sound_spare Hexadecimal (Some spare) = nat_lt spare 256
+is_sound_spare Marked (Some spare) = nat_lt spare 256
 is_sound_spare Decimal (Some spare) = nat_lt spare 256
 is_sound_spare shape (Some spare) = false
 
@@ -290,6 +295,10 @@ FitStrings stop = FitBoth (IsClear 44) (FitBoth (IsClear 44) (FitBoth (IsClear s
 abbrev pub AreIds : ℕ → List ℕ → Type 0
 AreIds stop bytes = FitStrings stop (id_strings bytes) × (stored_strings (id_strings bytes) ≡ bytes)
 
+-- data of a device without other strings than that of _UID
+abbrev pub IsUid : ℕ → List ℕ → Type 0
+IsUid stop bytes = IsClear stop (uid_string bytes) × (stored_strings ([] ∷ [] ∷ uid_string bytes ∷ []) ≡ bytes)
+
 -- data that its encoding describes completely
 abbrev pub FitsData : Encoding → List ℕ → Type 0
 FitsData encoding.Bytes bytes = Each (λ b. b < 256) bytes
@@ -298,6 +307,7 @@ FitsData (encoding.Utf16 stop) bytes = AreUnits stop bytes
 FitsData (encoding.Name stop) bytes = IsName stop bytes
 FitsData (encoding.Padded stop) bytes = IsPadded stop bytes
 FitsData (encoding.Ids stop) bytes = AreIds stop bytes
+FitsData (encoding.Uid stop) bytes = IsUid stop bytes
 
 -- a value of a step, given those of the lists
 abbrev pub FitsStep : (Items → List ℕ → Type 0) → Step → List ℕ → Type 0

@@ -10,7 +10,7 @@ use Rattle.uefi_node_steps.specs.declared.steps.FormOf.{FormOf}
 use Rattle.uefi_node_steps.specs.declared.steps.Mode.{Mode}
 use Rattle.uefi_node_steps.specs.declared.steps.Mode.TheVariants.{Read as ReadMode, Printed, Display, Libefivar, People}
 use Rattle.uefi_node_steps.specs.declared.steps.Shape.{Shape}
-use Rattle.uefi_node_steps.specs.declared.steps.Shape.TheVariants.{Hexadecimal, Decimal, Next, Forth, Back, BaseForth, BaseBack, Guid, Ipv4, Ipv6, Eisa}
+use Rattle.uefi_node_steps.specs.declared.steps.Shape.TheVariants.{Hexadecimal, Marked, Decimal, Next, Forth, Back, BaseForth, BaseBack, Guid, Ipv4, Ipv6, Eisa}
 use Rattle.uefi_node_steps.specs.declared.steps.StepOf.TheVariants.{Literal, Field}
 use Rattle.uefi_node_steps.specs.declared.steps.Stop.{Stop}
 
@@ -78,6 +78,7 @@ behind steps = steps
 -- the letters that all texts of a shape begin with
 abbrev pub base_of : Shape → List ℕ
 base_of Hexadecimal = codes "0x"
+base_of Marked = codes "0x"
 base_of Next = codes "0x"
 base_of BaseForth = codes "0x"
 base_of BaseBack = codes "0x"
@@ -91,10 +92,11 @@ head_of steps = []
 -- whether no value of a shape begins with this letter
 abbrev pub refuses : Shape → ℕ → Bool
 refuses Hexadecimal c = not (nat_lt (digit_of (to_ascii_uppercase c)) 10)
+refuses Marked c = not (nat_lt (digit_of (to_ascii_uppercase c)) 10)
 refuses Decimal c = not (nat_lt (digit_of (to_ascii_uppercase c)) 10)
 refuses Next c = not (nat_lt (digit_of (to_ascii_uppercase c)) 10)
+refuses Ipv6 c = c == 41
 refuses Ipv4 c = not (nat_lt (digit_of (to_ascii_uppercase c)) 10)
-refuses Ipv6 c = not (nat_lt (digit_of (to_ascii_uppercase c)) 16)
 refuses shape c = false
 
 -- whether people may leave out a field before this letter
@@ -114,6 +116,7 @@ number_of_shape Guid = 8
 number_of_shape Ipv4 = 9
 number_of_shape Ipv6 = 10
 number_of_shape Eisa = 11
+number_of_shape Marked = 12
 number_of_shape shape = 0
 
 -- whether fields have the same texts

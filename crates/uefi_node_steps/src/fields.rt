@@ -4,13 +4,15 @@
 ghost use Rattle.std.specs.Prelude.{◌≡◌, ◌+◌, ◌^◌, ◌<◌, ◌≤◌, ◌∷◌, [], IsTrue, codes, length, map};
 ghost use Rattle.std.specs.Option.{option_map};
 ghost use Rattle.std.specs.Result.{result_map_both};
-ghost use Rattle.uefi_node_steps.specs.Leaves.{after, apart, backwards, behind_each, dashed, decimal, eisa_read, guid, in_bytes, ipv4, ipv6, low_bytes, pair, pairs, repeat_read, word_read, zero_read};
+ghost use Rattle.uefi_node_steps.specs.Leaves.{after, apart, backwards, behind_each, dashed, decimal, eisa_read, groups, guid, in_bytes, ipv4, ipv6, low_bytes, pair, pairs, repeat_read, word_read, zero_read};
 ghost use Rattle.uefi_node_steps.specs.Steps.{fits_shape, shape_leaf, word_by};
-ghost use Rattle.uefi_node_steps.specs.declared.steps.Shape.TheVariants.{Next};
+ghost use Rattle.uefi_node_steps.specs.declared.steps.Shape.TheVariants.{BaseBack, Marked, Next};
 ghost use Rattle.uefi_node_steps.specs.Views.{filled_with, number_view};
 
+use crate::any_address::any_address;
 use crate::leaves::{
-    any_number, at_digits, id_letters, letters, pair, past_blanks, stop_at, two_digits,
+    any_number, at_digits, id_letters, letters, pair, past_blanks, stop_at, two_decimals,
+    two_digits,
 };
 use crate::steps::{Expected, Shape, Stop};
 use crate::texts::Text;
@@ -302,10 +304,10 @@ fn fill_guid<T: Text>(found: &mut [u8], text: T) -> Result<T, Stop>
     Ok(rest)
 }
 
-/// Fills a buffer with an address of IP version 6.
-fn fill_ipv6<T: Text>(found: &mut [u8], text: T) -> Result<T, Stop>
+/// Fills a buffer with an address of IP version 6, in eight groups of four digits.
+fn fill_groups<T: Text>(found: &mut [u8], text: T) -> Result<T, Stop>
     requires { length found.old ≡ 16 }
-    ensures { filled_with T.codes found.new result ≡ ipv6.read (T.codes text) }
+    ensures { filled_with T.codes found.new result ≡ groups.read (T.codes text) }
 {
     let (a, rest) = two_bytes(at_digits(text))?;
     let (b, rest) = next_two(b':', rest)?;
@@ -319,6 +321,51 @@ fn fill_ipv6<T: Text>(found: &mut [u8], text: T) -> Result<T, Stop>
         a.0, a.1, b.0, b.1, c.0, c.1, d.0, d.1, e.0, e.1, f.0, f.1, g.0, g.1, h.0, h.1,
     ]);
     Ok(rest)
+}
+
+/// Fills a buffer with an address of IP version 6.
+fn fill_ipv6<T: Text>(found: &mut [u8], text: T) -> Result<T, Stop>
+    requires { length found.old ≡ 16 }
+    ensures { filled_with T.codes found.new result ≡ ipv6.read (T.codes text) }
+{
+    match fill_groups(found, text) {
+        Ok(rest) => Ok(rest),
+        Err(stop) => {
+            let Some((address, rest)) = any_address(text) else {
+                return Err(stop);
+            };
+            found.copy_from_slice(&address.octets());
+            Ok(rest)
+        }
+    }
+}
+
+/// Fills a buffer with the bytes of a number that some programs print without `0x`.
+fn fill_marked<T: Text>(found: &mut [u8], text: T) -> Result<T, Stop>
+    requires some { 1 ≤ length found.old }
+    requires few { length found.old ≤ 8 }
+    ensures { filled_with T.codes found.new result ≡ (shape_leaf Marked (length found.old)).read (T.codes text) }
+{
+    if two_decimals(past_blanks(text)) {
+        return Err(stop_at(text, Expected::Base));
+    }
+    let most = last(found.len());
+    number_into(
+        found,
+        Expected::Number(most),
+        any_number(most, past_blanks(text)),
+        text,
+    )
+}
+
+/// Fills a buffer with bytes of two digits each, the last byte first, which some programs print without `0x`.
+fn fill_base_back<T: Text>(found: &mut [u8], text: T) -> Result<T, Stop>
+    ensures { filled_with T.codes found.new result ≡ (shape_leaf BaseBack (length found.old)).read (T.codes text) }
+{
+    if two_decimals(past_blanks(text)) {
+        return Err(stop_at(text, Expected::Base));
+    }
+    fill_reversed(found, at_digits(text))
 }
 
 /// Fills a buffer of one byte with one less than a number.
@@ -368,6 +415,7 @@ pub(crate) fn read_shape<T: Text>(shape: Shape, found: &mut [u8], text: T) -> Re
                 text,
             )
         }
+        Shape::Marked => fill_marked(found, text),
         Shape::Decimal => {
             let most = last(found.len());
             number_into(
@@ -390,7 +438,7 @@ pub(crate) fn read_shape<T: Text>(shape: Shape, found: &mut [u8], text: T) -> Re
         Shape::Forth => fill(found, at_digits(text)),
         Shape::Back => fill_reversed(found, at_digits(text)),
         Shape::BaseForth => fill(found, at_digits(text)),
-        Shape::BaseBack => fill_reversed(found, at_digits(text)),
+        Shape::BaseBack => fill_base_back(found, text),
         Shape::Apart(letter) => fill_apart(letter, found, text),
         Shape::Dashed => fill_dashed(found, text),
         Shape::Guid => fill_guid(found, text),

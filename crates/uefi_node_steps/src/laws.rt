@@ -1,6 +1,7 @@
 //! Laws of tables of forms.
 #![tactic(auto)]
 
+ghost use Rattle.uefi_node_steps.specs.Lengths.{NodeTextsAreBounded, TextsAreBounded};
 ghost use Rattle.uefi_node_steps.specs.NodeForms.{NodesRead};
 ghost use Rattle.uefi_node_steps.specs.Nodes.{TablesRead};
 
@@ -12,7 +13,18 @@ pub fn tables_are_read()
     ensures { TablesRead }
 {}
 
+/// If each form of a table prints few letters for its size, the text of a node has less than four letters for each
+/// of its bytes, those of its header included.
+pub fn texts_are_bounded()
+    ensures { TextsAreBounded }
+{}
+
 /// The forms of the [table](crate::table) are such a table.
 pub fn nodes_are_read()
     ensures { NodesRead }
+{}
+
+/// The text of a node in the [table](crate::table) has less than four letters for each byte of the node.
+pub fn node_texts_are_bounded()
+    ensures { NodeTextsAreBounded }
 {}

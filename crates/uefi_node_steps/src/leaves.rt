@@ -4,7 +4,7 @@
 ghost use Rattle.std.specs.Prelude.{◌≡◌, ◌==◌, ◌+◌, ◌<◌, ◌≤◌, IfSome, length};
 ghost use Rattle.std.specs.Char.{to_ascii_uppercase};
 ghost use Rattle.std.specs.Option.{option_map};
-ghost use Rattle.uefi_node_steps.specs.Leaves.{after_base, any_number, at_digits, digit_of, digits_read, has_comma, has_digit, id_letters, is_clear, is_spare, letter_of, literal, letter_read, letters_read, number_read, pair, pair_read, past_blanks, stop_at};
+ghost use Rattle.uefi_node_steps.specs.Leaves.{after_base, any_number, at_digits, digit_of, digits_read, has_comma, has_digit, id_letters, is_blank, is_clear, is_spare, letter_of, literal, letter_read, letters_read, number_read, pair, pair_read, past_blanks, stop_at, two_decimals};
 ghost use Rattle.uefi_node_steps.specs.Views.{rest_of, value_of};
 
 use crate::steps::{Expected, Stop};
@@ -20,13 +20,21 @@ pub(crate) fn stop_at<T: Text>(text: T, expected: Expected) -> Stop
     }
 }
 
+/// Returns whether a letter is skipped between the parts of a call: a blank, a line end, or a brace around a
+/// GUID.
+pub(crate) fn is_blank(letter: u8) -> bool
+    ensures { result ≡ is_blank letter }
+{
+    letter.is_ascii_whitespace() || letter == b'{' || letter == b'}'
+}
+
 /// Returns a text without the blanks at its start.
 pub(crate) fn past_blanks<T: Text>(text: T) -> T
     ensures { T.codes result ≡ past_blanks (T.codes text) }
 {
     let mut rest = text;
     'blanks: while let Some((first, others)) = rest.split_first() {
-        if !first.is_ascii_whitespace() {
+        if !is_blank(first) {
             return rest;
         }
         rest = others;
@@ -96,6 +104,16 @@ pub(crate) fn has_digit<T: Text>(base: u64, text: T) -> bool
 {
     match text.split_first() {
         Some((first, _)) => digit_of(first.to_ascii_uppercase()) < base,
+        None => false,
+    }
+}
+
+/// Returns whether a text begins with two decimal digits.
+pub(crate) fn two_decimals<T: Text>(text: T) -> bool
+    ensures { result ≡ two_decimals (T.codes text) }
+{
+    match text.split_first() {
+        Some((first, rest)) => digit_of(first.to_ascii_uppercase()) < 10 && has_digit(10, rest),
         None => false,
     }
 }

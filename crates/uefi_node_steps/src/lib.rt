@@ -9,6 +9,7 @@
 //! decimal or in hexadecimal. An exact text equals the text that is printed for what was read.
 #![tactic(auto)]
 
+mod any_address;
 mod fields;
 pub mod forms;
 pub mod items;

@@ -56,9 +56,9 @@ macro_rules! bytes {
     };
 }
 
-/// Forms: what one form or more of a kind share, which is the type, the sub-type, the mode, the number of
-/// fixed bytes and the least number of further bytes; and for each of them the numbers of the bytes that
-/// distinguish it, of the other bytes, of the text that it begins with and of the steps after it.
+/// Forms: what one form or more of a kind share, which is the type, the sub-type, the mode, the number of fixed
+/// bytes and the least number of further bytes; and for each of them the numbers of the bytes that distinguish
+/// it, of the other bytes, of the text that it begins with and of the steps after it.
 macro_rules! forms {
     ($($kind:literal $sub_kind:literal $mode:ident $size:literal $more:literal
         => $($when:literal $bytes:literal $start:literal $others:literal),+);+) => {
@@ -79,7 +79,7 @@ macro_rules! forms {
 
 /// The texts.
 #[rattlefmt::skip]
-pub const TEXTS: [u8; 2014] = *b"\
+pub const TEXTS: [u8; 2179] = *b"\
     Pci(,)PcCard(MemoryMapped(VenHw(Ctrl(BMC(PciRoot(PcieRoot(Floppy(Keyboard(Serial(ParallelPort(Acpi\
     (PNPAcpiEx(AcpiAdr(Acpi(SAS(,NoTopology,0,0,0,,SAS,Internal,Direct,0,,SATA,Internal,Direct,0,,SAS,\
     External,Direct,0,,SATA,External,Direct,0,,SAS,Internal,Expanded,0,,SATA,Internal,Expanded,0,,SAS,\
@@ -100,11 +100,13 @@ pub const TEXTS: [u8; 2014] = *b"\
     (AcpiExp(VenPcAnsi()VenVt100()VenVt100Plus()VenUtf8()DebugPort()UartFlowControl(None)UartFlowContr\
     ol(Hardware)UartFlowControl(XonXoff),NoTopology)Ata(0x0)Ata(Primary,Master)Ata(Primary,Slave)Ata(S\
     econdary,Master)Ata(Secondary,Slave),TCP),TCP,DHCP),TCP,Static),UDP),UDP,DHCP),UDP,Static)IPv4(0.0\
-    .0.00.0.0.0,0,0)IPv6([::]:<->[::]:,0,0)FvVol(ATA(NVME(";
+    .0.00.0.0.0,0,0)IPv6([::]:<->[::]:,0,0),TCP,StatelessAutoConfigure),TCP,StatefulAutoConfigure),UDP\
+    ,StatelessAutoConfigure),UDP,StatefulAutoConfigure),Static),StatelessAutoConfigure),StatefulAutoCo\
+    nfigure)FvVol(ATA(NVME(";
 
 /// Where each text begins.
 #[rattlefmt::skip]
-pub const TEXT_STARTS: [u16; 164] = [
+pub const TEXT_STARTS: [u16; 171] = [
     0, 0, 4, 5, 6, 13, 26, 32, 37, 41, 49, 58, 65, 74, 81, 94, 102, 109, 117, 122, 126, 144, 167, 191,
     214, 238, 263, 289, 314, 340, 361, 383, 404, 426, 449, 473, 496, 520, 527, 533, 551, 574, 598, 621,
     645, 670, 696, 721, 747, 754, 758, 778, 799, 817, 836, 841, 847, 853, 857, 861, 872, 890, 912, 933,
@@ -113,42 +115,35 @@ pub const TEXT_STARTS: [u16; 164] = [
     1278, 1287, 1301, 1308, 1317, 1328, 1343, 1350, 1361, 1374, 1383, 1397, 1409, 1433, 1447, 1469,
     1478, 1481, 1486, 1491, 1494, 1500, 1509, 1515, 1522, 1525, 1532, 1544, 1554, 1576, 1596, 1604,
     1615, 1622, 1632, 1643, 1651, 1663, 1667, 1675, 1686, 1696, 1710, 1719, 1730, 1751, 1776, 1800,
-    1812, 1820, 1839, 1857, 1878, 1898, 1903, 1913, 1925, 1930, 1940, 1952, 1976, 1999, 2005, 2009, 2014
+    1812, 1820, 1839, 1857, 1878, 1898, 1903, 1913, 1925, 1930, 1940, 1952, 1976, 1999, 2027, 2054,
+    2082, 2109, 2117, 2141, 2164, 2170, 2174, 2179
 ];
 
 /// The steps after the first, which is a literal in each form.
 #[rattlefmt::skip]
-pub const STEPS: [PackedStep; 783] = steps!(
-    (Hexadecimal 1 1 or 0) 2 (Hexadecimal 0 1 or 0) 3 (Hexadecimal 0 1 or 0) 3 (Hexadecimal 0 4 or 0) 2
-    (Hexadecimal 4 8 or 0) 2 (Hexadecimal 12 8 or 0) 3 (Guid 0 16) {Bytes} 3 (Hexadecimal 0 4 or 0) 3
-    (Hexadecimal 0 1 or 0) 2 (Hexadecimal 1 8 or 0) 3 (Hexadecimal 4 4 or 0) 3 (Back 2 2) 2
-    (Hexadecimal 4 4 or 0) 3 (Eisa 0 4) 2 (Eisa 8 4) 2 (Hexadecimal 4 4 or 0) 2 {Ids 41} 3
-    (Hexadecimal 0 4) [Numbers] 3 (BaseBack 0 4) 2 (Hexadecimal 4 4 or 0) 3 (Hexadecimal 20 8 or 0) 2
-    (Hexadecimal 28 8 or 0) 2 (Hexadecimal 38 2 or 0) 20 (Hexadecimal 16 4 or 0) 3
-    (Hexadecimal 20 8 or 0) 2 (Hexadecimal 28 8 or 0) 2 (Hexadecimal 38 2 or 0) 21
-    (Hexadecimal 16 4 or 0) 3 (Hexadecimal 20 8 or 0) 2 (Hexadecimal 28 8 or 0) 2
-    (Hexadecimal 38 2 or 0) 22 (Hexadecimal 16 4 or 0) 3 (Hexadecimal 20 8 or 0) 2
-    (Hexadecimal 28 8 or 0) 2 (Hexadecimal 38 2 or 0) 23 (Hexadecimal 16 4 or 0) 3
-    (Hexadecimal 20 8 or 0) 2 (Hexadecimal 28 8 or 0) 2 (Hexadecimal 38 2 or 0) 24
-    (Hexadecimal 16 4 or 0) 3 (Hexadecimal 20 8 or 0) 2 (Hexadecimal 28 8 or 0) 2
-    (Hexadecimal 38 2 or 0) 25 (Hexadecimal 16 4 or 0) 3 (Hexadecimal 20 8 or 0) 2
-    (Hexadecimal 28 8 or 0) 2 (Hexadecimal 38 2 or 0) 26 (Hexadecimal 16 4 or 0) 3
-    (Hexadecimal 20 8 or 0) 2 (Hexadecimal 28 8 or 0) 2 (Hexadecimal 38 2 or 0) 27
-    (Hexadecimal 16 4 or 0) 3 (Hexadecimal 20 8 or 0) 2 (Hexadecimal 28 8 or 0) 2
-    (Hexadecimal 38 2 or 0) 28 (Hexadecimal 16 4 or 0) 3 (Hexadecimal 20 8 or 0) 2
-    (Hexadecimal 28 8 or 0) 2 (Hexadecimal 38 2 or 0) 29 (Next 37 1) 2 (Hexadecimal 16 4 or 0) 3
-    (Hexadecimal 20 8 or 0) 2 (Hexadecimal 28 8 or 0) 2 (Hexadecimal 38 2 or 0) 30 (Next 37 1) 2
-    (Hexadecimal 16 4 or 0) 3 (Hexadecimal 20 8 or 0) 2 (Hexadecimal 28 8 or 0) 2
-    (Hexadecimal 38 2 or 0) 31 (Next 37 1) 2 (Hexadecimal 16 4 or 0) 3 (Hexadecimal 20 8 or 0) 2
-    (Hexadecimal 28 8 or 0) 2 (Hexadecimal 38 2 or 0) 32 (Next 37 1) 2 (Hexadecimal 16 4 or 0) 3
-    (Hexadecimal 20 8 or 0) 2 (Hexadecimal 28 8 or 0) 2 (Hexadecimal 38 2 or 0) 33 (Next 37 1) 2
-    (Hexadecimal 16 4 or 0) 3 (Hexadecimal 20 8 or 0) 2 (Hexadecimal 28 8 or 0) 2
-    (Hexadecimal 38 2 or 0) 34 (Next 37 1) 2 (Hexadecimal 16 4 or 0) 3 (Hexadecimal 20 8 or 0) 2
-    (Hexadecimal 28 8 or 0) 2 (Hexadecimal 38 2 or 0) 35 (Next 37 1) 2 (Hexadecimal 16 4 or 0) 3
-    (Hexadecimal 20 8 or 0) 2 (Hexadecimal 28 8 or 0) 2 (Hexadecimal 38 2 or 0) 36 (Next 37 1) 2
-    (Hexadecimal 16 4 or 0) 3 (Hexadecimal 20 8 or 0) 2 (Hexadecimal 28 8 or 0) 2
-    (Hexadecimal 38 2 or 0) 2 (Hexadecimal 36 2 or 0) 37 (Hexadecimal 16 4 or 0) 3 (BaseForth 0 8) 2
-    (BaseForth 8 8) 2 (Hexadecimal 18 2 or 0) 39 (BaseForth 0 8) 2 (BaseForth 8 8) 2
+pub const STEPS: [PackedStep; 821] = steps!(
+    (Hexadecimal 1 1) 2 (Hexadecimal 0 1 or 0) 3 (Hexadecimal 0 1) 3 (Hexadecimal 0 4) 2
+    (Hexadecimal 4 8 or 0) 2 (Hexadecimal 12 8 or 0) 3 (Guid 0 16) {Bytes} 3 (Hexadecimal 0 4) 3
+    (Hexadecimal 0 1) 2 (Hexadecimal 1 8 or 0) 3 (Hexadecimal 4 4) 3 (Back 2 2) 2 (Hexadecimal 4 4 or 0)
+    3 (Eisa 0 4) 2 (Eisa 8 4) 2 (Hexadecimal 4 4 or 0) 2 {Ids 41} 3 (Hexadecimal 0 4) [Numbers] 3
+    (BaseBack 0 4) 2 (Hexadecimal 4 4 or 0) 3 (Marked 20 8) 2 (Marked 28 8 or 0) 2 (Marked 38 2 or 0) 20
+    (Marked 16 4 or 0) 3 (Marked 20 8) 2 (Marked 28 8 or 0) 2 (Marked 38 2 or 0) 21 (Marked 16 4 or 0) 3
+    (Marked 20 8) 2 (Marked 28 8 or 0) 2 (Marked 38 2 or 0) 22 (Marked 16 4 or 0) 3 (Marked 20 8) 2
+    (Marked 28 8 or 0) 2 (Marked 38 2 or 0) 23 (Marked 16 4 or 0) 3 (Marked 20 8) 2 (Marked 28 8 or 0) 2
+    (Marked 38 2 or 0) 24 (Marked 16 4 or 0) 3 (Marked 20 8) 2 (Marked 28 8 or 0) 2 (Marked 38 2 or 0)
+    25 (Marked 16 4 or 0) 3 (Marked 20 8) 2 (Marked 28 8 or 0) 2 (Marked 38 2 or 0) 26
+    (Marked 16 4 or 0) 3 (Marked 20 8) 2 (Marked 28 8 or 0) 2 (Marked 38 2 or 0) 27 (Marked 16 4 or 0) 3
+    (Marked 20 8) 2 (Marked 28 8 or 0) 2 (Marked 38 2 or 0) 28 (Marked 16 4 or 0) 3 (Marked 20 8) 2
+    (Marked 28 8 or 0) 2 (Marked 38 2 or 0) 29 (Next 37 1) 2 (Marked 16 4 or 0) 3 (Marked 20 8) 2
+    (Marked 28 8 or 0) 2 (Marked 38 2 or 0) 30 (Next 37 1) 2 (Marked 16 4 or 0) 3 (Marked 20 8) 2
+    (Marked 28 8 or 0) 2 (Marked 38 2 or 0) 31 (Next 37 1) 2 (Marked 16 4 or 0) 3 (Marked 20 8) 2
+    (Marked 28 8 or 0) 2 (Marked 38 2 or 0) 32 (Next 37 1) 2 (Marked 16 4 or 0) 3 (Marked 20 8) 2
+    (Marked 28 8 or 0) 2 (Marked 38 2 or 0) 33 (Next 37 1) 2 (Marked 16 4 or 0) 3 (Marked 20 8) 2
+    (Marked 28 8 or 0) 2 (Marked 38 2 or 0) 34 (Next 37 1) 2 (Marked 16 4 or 0) 3 (Marked 20 8) 2
+    (Marked 28 8 or 0) 2 (Marked 38 2 or 0) 35 (Next 37 1) 2 (Marked 16 4 or 0) 3 (Marked 20 8) 2
+    (Marked 28 8 or 0) 2 (Marked 38 2 or 0) 36 (Next 37 1) 2 (Marked 16 4 or 0) 3 (Marked 20 8) 2
+    (Marked 28 8 or 0) 2 (Marked 38 2 or 0) 2 (Marked 36 2 or 0) 37 (Marked 16 4 or 0) 3 (BaseForth 0 8)
+    2 (BaseForth 8 8) 2 (Hexadecimal 18 2 or 0) 39 (BaseForth 0 8) 2 (BaseForth 8 8) 2
     (Hexadecimal 18 2 or 0) 40 (BaseForth 0 8) 2 (BaseForth 8 8) 2 (Hexadecimal 18 2 or 0) 41
     (BaseForth 0 8) 2 (BaseForth 8 8) 2 (Hexadecimal 18 2 or 0) 42 (BaseForth 0 8) 2 (BaseForth 8 8) 2
     (Hexadecimal 18 2 or 0) 43 (BaseForth 0 8) 2 (BaseForth 8 8) 2 (Hexadecimal 18 2 or 0) 44
@@ -161,18 +156,17 @@ pub const STEPS: [PackedStep; 783] = steps!(
     (BaseForth 0 8) 2 (BaseForth 8 8) 2 (Hexadecimal 18 2 or 0) 34 (Next 17 1) 3 (BaseForth 0 8) 2
     (BaseForth 8 8) 2 (Hexadecimal 18 2 or 0) 35 (Next 17 1) 3 (BaseForth 0 8) 2 (BaseForth 8 8) 2
     (Hexadecimal 18 2 or 0) 36 (Next 17 1) 3 (BaseForth 0 8) 2 (BaseForth 8 8) 2 (Hexadecimal 18 2 or 0)
-    2 (Hexadecimal 16 2 or 0) 48 (Hexadecimal 2 2 or 0) 3 (Hexadecimal 0 2 or 0) 2
-    (Hexadecimal 2 2 or 0) 3 (Hexadecimal 4 8 or 0) 2 (Hexadecimal 12 8 or 0) 3 (Back 4 8) 3
-    (Hexadecimal 0 1 or 0) 2 (Hexadecimal 1 1 or 0) 3 (Hexadecimal 0 4 or 0) 2 (Guid 4 16) 2
-    (Hexadecimal 20 8 or 0) 2 (Hexadecimal 28 8 or 0) 2 (Hexadecimal 36 8 or 0) 3 (Forth 0 6) 65
-    (Forth 0 6) 66 (Forth 0 32) 2 (Hexadecimal 32 1 or 0) 3 (OrDefault 4 8) 2 (OrDefault 12 1) 2
-    (Word(Words::Parity) 13 1) (Word(Words::StopBits) 14 1) (Hexadecimal 2 2 or 0) 2
-    (Hexadecimal 4 2 or 0) 2 (Hexadecimal 0 2 or 0) 69 {Utf16 34} 70 (Ipv4 1 4) [Ipv4] 3 (Ipv6 1 16)
-    [Ipv6] 3 (Hexadecimal 0 2 or 0) 2 (Hexadecimal 2 2 or 255) 2 (Hexadecimal 4 2 or 0) 3
-    (Decimal 0 2 or 0) 3 (BaseForth 4 8) 2 (BaseForth 12 8) 3 (Hexadecimal 0 4 or 0) 2 (Dashed 4 8) 3
-    {Name 44} 2 (Hexadecimal 12 2 or 0) 2 (BaseForth 4 8) 2 (Word(Words::Digests) 2 1)
+    2 (Hexadecimal 16 2 or 0) 48 (Hexadecimal 2 2) 3 (Hexadecimal 2 2 or 0) 3 (Hexadecimal 0 2) 2
+    (Hexadecimal 2 2 or 0) 3 (Marked 4 8) 2 (Marked 12 8 or 0) 3 (Back 4 8) 3 (Hexadecimal 0 1) 2
+    (Hexadecimal 1 1 or 0) 3 (Hexadecimal 0 4) 2 (Guid 4 16) 2 (Hexadecimal 20 8 or 0) 2
+    (Hexadecimal 28 8 or 0) 2 (Hexadecimal 36 8 or 0) 3 (Forth 0 6) 65 (Forth 0 6) 66 (Forth 0 32) 2
+    (Hexadecimal 32 1 or 0) 3 (OrDefault 4 8) 2 (OrDefault 12 1) 2 (Word(Words::Parity) 13 1)
+    (Word(Words::StopBits) 14 1) (Hexadecimal 2 2) 2 (Hexadecimal 4 2 or 0) 2 (Hexadecimal 0 2 or 0) 69
+    {Utf16 34} 70 (Ipv4 1 4) [Ipv4] 3 (Ipv6 1 16) [Ipv6] 3 (Hexadecimal 0 2) 2 (Hexadecimal 2 2 or 255)
+    2 (Hexadecimal 4 2 or 0) 3 (Decimal 0 2) 3 (BaseForth 4 8) 2 (BaseForth 12 8) 3 (Hexadecimal 0 4) 2
+    (Dashed 4 8) 3 {Name 44} 2 (Hexadecimal 12 2 or 0) 2 (BaseForth 4 8) 2 (Word(Words::Digests) 2 1)
     (Word(Words::Login) 3 1) (Word(Words::Protocol) 0 2) {Padded 41} 3 {Text 41} 3 (Forth 0 6) 3
-    (Forth 0 6) 2 (BaseForth 6 1) 3 (Ipv4 4 4) 3 (Ipv4 4 4) 86 (Ipv4 0 4) 2 (Ipv4 15 4) 2 (Ipv4 19 4) 3
+    (Forth 0 6) 2 (BaseBack 6 1) 3 (Ipv4 4 4) 3 (Ipv4 4 4) 86 (Ipv4 0 4) 2 (Ipv4 15 4) 2 (Ipv4 19 4) 3
     (Ipv4 4 4) 87 (Ipv4 0 4) 2 (Ipv4 15 4) 2 (Ipv4 19 4) 3 (Ipv4 4 4) 88 (Ipv4 0 4) 2 (Ipv4 15 4) 2
     (Ipv4 19 4) 3 (Ipv4 4 4) 89 (Ipv4 0 4) 2 (Ipv4 15 4) 2 (Ipv4 19 4) 3 (Ipv4 4 4) 2
     (Hexadecimal 12 2 or 0) 90 (Ipv4 0 4) 2 (Ipv4 15 4) 2 (Ipv4 19 4) 3 (Ipv4 4 4) 2
@@ -190,43 +184,45 @@ pub const STEPS: [PackedStep; 783] = steps!(
     (Ipv6 0 16) 3 (Ipv6 16 16) 94 (Ipv6 0 16) 3 (Ipv6 16 16) 89 (Ipv6 0 16) 3 (Ipv6 16 16) 95
     (Ipv6 0 16) 3 (Ipv6 16 16) 96 (Ipv6 0 16) 3 (Ipv6 16 16) 2 (Hexadecimal 36 2 or 0) 91 (Ipv6 0 16) 3
     (Ipv6 16 16) 2 (Hexadecimal 36 2 or 0) 97 (Ipv6 0 16) 3 (Ipv6 16 16) 2 (Hexadecimal 36 2 or 0) 98
-    (Ipv6 0 16) 3 (Hexadecimal 0 2 or 255) 2 (Hexadecimal 2 2 or 255) 2 (Hexadecimal 5 1 or 255) 2
-    (Hexadecimal 6 1 or 255) 3 (Hexadecimal 0 2 or 255) 2 (Hexadecimal 2 2 or 255) 2
-    (Hexadecimal 6 1 or 255) 3 (Hexadecimal 0 2 or 255) 2 (Hexadecimal 2 2 or 255) 2
-    (Hexadecimal 4 1 or 255) 2 (Hexadecimal 5 1 or 255) 2 (Hexadecimal 6 1 or 255) 3 (Decimal 0 4 or 0)
-    116 (BaseBack 20 4) 2 (Hexadecimal 4 8 or 0) 2 (Hexadecimal 12 8 or 0) 3 (Decimal 0 4 or 0) 117
-    (Guid 20 16) 2 (Hexadecimal 4 8 or 0) 2 (Hexadecimal 12 8 or 0) 3 (Decimal 0 4 or 0) 2
+    (Ipv6 0 16) 3 (Hexadecimal 0 2) 2 (Hexadecimal 2 2 or 255) 2 (Hexadecimal 5 1 or 255) 2
+    (Hexadecimal 6 1 or 255) 3 (Hexadecimal 0 2) 2 (Hexadecimal 2 2 or 255) 2 (Hexadecimal 6 1 or 255) 3
+    (Marked 0 2) 2 (Marked 2 2 or 255) 2 (Marked 4 1 or 255) 2 (Marked 5 1 or 255) 2 (Marked 6 1 or 255)
+    3 (Decimal 0 4) 116 (BaseBack 20 4) 2 (Hexadecimal 4 8 or 0) 2 (Hexadecimal 12 8 or 0) 3
+    (Decimal 0 4) 117 (Guid 20 16) 2 (Hexadecimal 4 8 or 0) 2 (Hexadecimal 12 8 or 0) 3 (Decimal 0 4) 2
     (Decimal 37 1 or 0) 118 (Hexadecimal 4 8 or 0) 2 (Hexadecimal 12 8 or 0) 3 (Guid 0 16) 3
-    (Hexadecimal 0 8 or 0) 2 (Hexadecimal 8 8 or 0) 2 (Decimal 32 2 or 0) 3 (Hexadecimal 0 8 or 0) 2
-    (Hexadecimal 8 8 or 0) 2 (Decimal 32 2 or 0) 2 (Guid 16 16) 3 {Name 41} 3 (Hexadecimal 0 2 or 0) 2
-    {Name 41} 3 {Name 44} 2 (Hexadecimal 2 2 or 0) 3 (Hexadecimal 0 2 or 0) 2 {Name 44} 2
-    (Hexadecimal 2 2 or 0) 3 (Eisa 0 4) 2 (Eisa 8 4) 2 {Ids 41} 3 (Hexadecimal 20 8 or 0) 2
-    (Hexadecimal 28 8 or 0) 2 (Hexadecimal 38 2 or 0) 3 (Hexadecimal 20 8 or 0) 2
-    (Hexadecimal 28 8 or 0) 2 (Hexadecimal 38 2 or 0) 146 (BaseForth 0 8) 3 (Forth 0 6) 2
-    (Hexadecimal 32 1 or 0) 3 (Apart(58) 0 6) 2 (Hexadecimal 32 1 or 0) 3 (Apart(45) 0 6) 2
-    (Hexadecimal 32 1 or 0) 3 (Ipv4 4 4) 152 (Ipv4 4 4) 153 (Ipv4 4 4) 154 (Ipv4 4 4) 155 (Ipv4 4 4) 156
-    (Ipv4 4 4) 157 (BaseForth 4 8) 65 (Apart(58) 0 6) 3 (Apart(45) 0 6) 3 (Forth 0 6) 2
-    (Hexadecimal 6 1 or 0) 3 (Apart(45) 0 6) 2 (Hexadecimal 6 1 or 0) 3 (Apart(58) 0 6) 2
-    (Hexadecimal 6 1 or 0) 3 (Decimal 0 4 or 0) 116 (Hexadecimal 20 4 or 0) 2 (Hexadecimal 4 8 or 0) 2
-    (Hexadecimal 12 8 or 0) 3 (Decimal 0 1 or 0) 2 (Decimal 1 1 or 0) 2 (Decimal 2 2 or 0) 3
-    (Hexadecimal 0 4 or 0) 2 (Apart(45) 4 8) 3
+    (Hexadecimal 4 8) 2 (Hexadecimal 12 8 or 0) 3 (Hexadecimal 0 8) 2 (Hexadecimal 8 8 or 0) 2
+    (Decimal 32 2 or 0) 3 (Hexadecimal 0 8) 2 (Hexadecimal 8 8 or 0) 2 (Decimal 32 2 or 0) 2
+    (Guid 16 16) 3 {Name 41} 3 (Hexadecimal 0 2) 2 {Name 41} 3 {Name 44} 2 (Hexadecimal 2 2 or 0) 3
+    (Hexadecimal 0 2) 2 {Name 44} 2 (Hexadecimal 2 2 or 0) 3 (Eisa 0 4) 2 (Eisa 8 4) 2 {Uid 41} 3
+    (Marked 20 8) 2 (Marked 28 8 or 0) 2 (Marked 38 2 or 0) 3 (Marked 20 8) 2 (Marked 28 8 or 0) 2
+    (Marked 38 2 or 0) 146 (BaseForth 0 8) 3 (Forth 0 6) 2 (Hexadecimal 32 1 or 0) 3 (Apart(58) 0 6) 2
+    (Hexadecimal 32 1 or 0) 3 (Apart(45) 0 6) 2 (Hexadecimal 32 1 or 0) 3 (Ipv4 4 4) 152 (Ipv4 4 4) 153
+    (Ipv4 4 4) 154 (Ipv4 4 4) 155 (Ipv4 4 4) 156 (Ipv4 4 4) 157 (BaseForth 4 8) 65 (Apart(58) 0 6) 3
+    (Apart(45) 0 6) 3 (Forth 0 6) 2 (Marked 6 1 or 0) 3 (Apart(45) 0 6) 2 (Marked 6 1 or 0) 3
+    (Apart(58) 0 6) 2 (Marked 6 1 or 0) 3 (Ipv6 16 16) 152 (Ipv6 16 16) 155 (Ipv6 16 16) 2
+    (Hexadecimal 36 2) 3 (Ipv6 16 16) 154 (Ipv6 16 16) 160 (Ipv6 16 16) 161 (Ipv6 16 16) 157
+    (Ipv6 16 16) 162 (Ipv6 16 16) 163 (Ipv6 16 16) 2 (Hexadecimal 36 2 or 0) 164 (Ipv6 16 16) 2
+    (Hexadecimal 36 2 or 0) 165 (Ipv6 16 16) 2 (Hexadecimal 36 2 or 0) 166 (Decimal 0 4) 116
+    (Marked 20 4 or 0) 2 (Hexadecimal 4 8 or 0) 2 (Hexadecimal 12 8 or 0) 3 (Decimal 0 1) 2
+    (Decimal 1 1 or 0) 2 (Decimal 2 2 or 0) 3 (Hexadecimal 0 4) 2 (Apart(45) 4 8) 3
 );
 
 /// Where each list of steps begins.
 #[rattlefmt::skip]
-pub const STEP_STARTS: [u16; 138] = [
+pub const STEP_STARTS: [u16; 152] = [
     0, 0, 4, 6, 12, 15, 17, 21, 23, 27, 35, 38, 42, 50, 58, 66, 74, 82, 90, 98, 106, 114, 124, 134, 144,
     154, 164, 174, 184, 194, 204, 210, 216, 222, 228, 234, 240, 246, 252, 258, 266, 274, 282, 290, 298,
-    306, 314, 322, 330, 332, 336, 340, 342, 346, 356, 358, 360, 364, 370, 378, 381, 384, 390, 392, 396,
-    400, 409, 411, 413, 415, 419, 421, 429, 437, 445, 453, 463, 473, 477, 481, 485, 489, 495, 501, 503,
-    511, 519, 527, 535, 543, 551, 561, 571, 581, 585, 589, 593, 597, 601, 605, 611, 617, 623, 631, 637,
-    647, 655, 663, 671, 673, 679, 687, 689, 693, 697, 703, 709, 715, 721, 723, 727, 731, 735, 737, 739,
-    741, 743, 745, 747, 749, 751, 753, 757, 761, 765, 773, 779, 783
+    306, 314, 322, 330, 332, 334, 338, 342, 344, 348, 358, 360, 362, 366, 372, 380, 383, 386, 392, 394,
+    398, 402, 411, 413, 415, 417, 421, 423, 431, 439, 447, 455, 465, 475, 479, 483, 487, 491, 497, 503,
+    505, 513, 521, 529, 537, 545, 553, 563, 573, 583, 587, 591, 595, 599, 603, 607, 613, 619, 625, 633,
+    639, 649, 657, 665, 673, 675, 679, 685, 693, 695, 699, 703, 709, 715, 721, 727, 729, 733, 737, 741,
+    743, 745, 747, 749, 751, 753, 755, 757, 759, 763, 767, 771, 773, 775, 779, 781, 783, 785, 787, 789,
+    791, 795, 799, 803, 811, 817, 821
 ];
 
 /// The places and the bytes.
 #[rattlefmt::skip]
-pub const BYTES: [(u8, u8); 701] = bytes!(
+pub const BYTES: [(u8, u8); 721] = bytes!(
     0 208, 1 65, 2 3, 3 10; 0 208, 1 65, 2 8, 3 10; 0 208, 1 65, 2 4, 3 6; 0 208, 1 65, 2 1, 3 3; 0 208,
     1 65, 2 1, 3 5; 0 208, 1 65, 2 1, 3 4; 0 208, 1 65; [180 221 135 212 139 0 217 17 175 220 0 16 131
     255 202 77] 36 0, 37 0; [180 221 135 212 139 0 217 17 175 220 0 16 131 255 202 77] 36 1, 37 0; [180
@@ -259,23 +255,25 @@ pub const BYTES: [(u8, u8); 701] = bytes!(
     131 67]; [214 160 21 173 236 139 207 74 160 115 208 29 231 126 45 136]; [210 232 164 235 88 56 236
     65 162 129 38 71 186 150 96 208]; [157 154 73 55 47 84 137 76 160 38 53 218 20 32 148 228]; [157 154
     73 55 47 84 137 76 160 38 53 218 20 32 148 228] 16 1; [157 154 73 55 47 84 137 76 160 38 53 218 20
-    32 148 228] 16 2; 12 6; 12 6, 14 1; 12 17; 12 17, 14 1; 39 64; 36 1, 37 1
+    32 148 228] 16 2; 12 6; 12 6, 14 1; 12 17; 12 17, 14 1; 39 64; 36 6, 39 64; 36 17, 39 64; 36 6,
+    38 1, 39 64; 36 6, 38 2, 39 64; 36 17, 38 1, 39 64; 36 17, 38 2, 39 64; 38 1, 39 64; 38 2, 39 64;
+    36 1, 37 1
 );
 
 /// Where each list of bytes begins.
 #[rattlefmt::skip]
-pub const BYTE_STARTS: [u16; 111] = [
+pub const BYTE_STARTS: [u16; 119] = [
     0, 0, 4, 8, 12, 16, 20, 24, 26, 44, 62, 80, 98, 116, 134, 152, 170, 188, 205, 222, 239, 256, 273,
     290, 307, 324, 340, 342, 344, 346, 348, 350, 352, 354, 356, 358, 359, 360, 361, 362, 363, 364, 365,
     366, 368, 369, 370, 390, 410, 430, 431, 432, 433, 436, 438, 439, 442, 444, 445, 448, 451, 453, 454,
     457, 460, 462, 463, 464, 465, 466, 467, 468, 469, 470, 471, 472, 473, 474, 475, 476, 478, 480, 482,
     483, 484, 485, 486, 502, 518, 534, 550, 552, 554, 556, 558, 560, 562, 578, 594, 610, 626, 642, 658,
-    675, 692, 693, 695, 696, 698, 699, 701
+    675, 692, 693, 695, 696, 698, 699, 701, 703, 706, 709, 712, 715, 717, 719, 721
 ];
 
 /// The forms of all groups.
 #[rattlefmt::skip]
-pub const FORMS: [PackedForm; 206] = forms!(
+pub const FORMS: [PackedForm; 218] = forms!(
     1 1 Read 2 0 => 0 0 1 1; 1 2 Read 1 0 => 0 0 4 2; 1 3 Read 20 0 => 0 0 5 3;
     1 4 Read 16 0 => 0 0 6 4; 1 5 Read 4 0 => 0 0 7 5; 1 6 Read 9 0 => 0 0 8 6; 2 1 Read 8 0 => 1 0 9 7,
     2 0 10 7, 3 0 11 7, 4 0 12 7, 5 0 13 7, 6 0 14 7, 7 0 15 8; 2 2 Read 12 3 => 0 0 16 9;
@@ -285,44 +283,46 @@ pub const FORMS: [PackedForm; 206] = forms!(
     3 22 Read 20 0 => 26 0 38 30, 27 0 38 31, 28 0 38 32, 29 0 38 33, 30 0 38 34, 31 0 38 35,
     32 0 38 36, 33 0 38 37, 34 0 38 38, 35 0 38 39, 36 0 38 40, 37 0 38 41, 38 0 38 42, 39 0 38 43,
     40 0 38 44, 41 0 38 45, 42 0 38 46, 0 0 38 47; 3 1 Display 4 0 => 0 0 49 48;
-    3 1 Read 4 0 => 43 0 50 48, 44 0 51 48, 45 0 52 48, 0 0 53 48; 3 2 Read 4 0 => 0 0 54 49;
-    3 3 Read 20 0 => 0 0 55 50; 3 4 Read 12 0 => 0 0 56 51; 3 5 Read 2 0 => 0 0 57 52;
-    3 6 Read 4 0 => 0 0 58 5; 3 9 Read 44 0 => 0 0 59 53; 3 10 Read 20 0 => 46 0 60 0, 47 0 61 0,
-    48 0 62 0; 3 10 Read 16 0 => 0 0 63 4; 3 11 Read 33 0 => 49 0 64 54, 50 0 64 55;
-    3 11 Printed 33 0 => 0 0 64 56; 3 14 Read 15 0 => 0 0 67 57; 3 16 Read 6 0 => 0 0 68 58;
-    3 31 Read 17 0 => 51 0 71 59, 0 44 71 60; 3 17 Read 1 0 => 0 0 72 2; 3 18 Read 6 0 => 0 0 73 61;
-    3 20 Read 2 0 => 0 0 74 62; 3 21 Read 20 0 => 0 0 75 63; 3 23 Read 12 0 => 0 0 76 64;
-    3 19 Read 14 0 => 0 0 77 65; 3 28 Read 0 32 => 0 0 78 66; 3 24 Read 0 0 => 0 0 79 67;
-    3 25 Read 2 0 => 0 0 80 52; 3 26 Read 1 0 => 0 0 81 2; 3 27 Read 6 0 => 0 0 82 68;
-    3 29 Read 1 0 => 0 0 83 2; 3 30 Read 7 0 => 0 0 84 69; 3 12 Display 15 0 => 0 0 85 70;
-    3 12 Read 23 0 => 52 0 85 71, 53 54 85 72, 55 0 85 73, 56 54 85 74, 57 0 85 75, 0 54 85 76;
-    3 12 Read 15 0 => 52 0 85 77, 53 54 85 78, 55 0 85 79, 56 54 85 80, 57 0 85 81, 0 54 85 82;
-    3 13 Display 39 0 => 0 0 92 83; 3 13 Read 56 0 => 58 0 92 84, 59 0 92 85, 60 61 92 86, 62 0 92 87,
-    63 0 92 88, 64 61 92 89, 65 0 92 90, 66 0 92 91, 0 61 92 92; 3 13 Read 39 0 => 58 0 92 93,
-    59 0 92 94, 60 61 92 95, 62 0 92 96, 63 0 92 97, 64 61 92 98, 65 0 92 99, 66 0 92 100, 0 61 92 101;
-    3 15 Read 7 0 => 67 0 99 102, 68 0 100 102, 69 0 101 102, 70 0 102 102, 71 0 103 102, 72 0 104 102,
-    73 0 105 102, 74 0 106 102, 75 0 107 102, 76 0 108 102, 77 0 109 102, 78 0 110 102, 79 0 111 103,
-    80 0 112 103, 81 0 113 103, 0 0 114 104; 4 1 Read 38 0 => 82 83 115 105, 84 85 115 106;
-    4 1 Printed 38 0 => 0 0 115 107; 4 2 Display 20 0 => 0 0 119 5; 4 2 Read 20 0 => 0 0 119 3;
-    4 3 Read 16 0 => 0 0 120 4; 4 5 Read 16 0 => 0 0 121 108; 4 6 Read 16 0 => 0 0 122 108;
-    4 7 Read 16 0 => 0 0 123 108; 4 8 Read 20 0 => 0 0 124 50; 4 9 Read 34 0 => 86 0 125 109,
-    87 0 126 109, 88 0 127 109, 89 0 128 109, 0 0 129 110; 5 1 Display 4 1 => 90 0 130 111,
-    91 0 131 111, 92 0 132 111, 93 0 133 111, 94 0 134 111, 95 0 135 111, 0 0 136 112;
-    5 1 Read 4 1 => 90 0 130 113, 91 0 131 113, 92 0 132 113, 93 0 133 113, 94 0 134 113, 95 0 135 113,
-    0 0 136 114; 2 2 People 12 0 => 0 0 137 115; 3 10 People 16 0 => 0 96 138 0, 0 97 139 0, 0 98 140 0,
+    3 1 Read 4 0 => 43 0 50 49, 44 0 51 49, 45 0 52 49, 0 0 53 49; 3 2 Read 4 0 => 0 0 54 50;
+    3 3 Read 20 0 => 0 0 55 51; 3 4 Read 12 0 => 0 0 56 52; 3 5 Read 2 0 => 0 0 57 53;
+    3 6 Read 4 0 => 0 0 58 5; 3 9 Read 44 0 => 0 0 59 54; 3 10 Read 20 0 => 46 0 60 0, 47 0 61 0,
+    48 0 62 0; 3 10 Read 16 0 => 0 0 63 4; 3 11 Read 33 0 => 49 0 64 55, 50 0 64 56;
+    3 11 Printed 33 0 => 0 0 64 57; 3 14 Read 15 0 => 0 0 67 58; 3 16 Read 6 0 => 0 0 68 59;
+    3 31 Read 17 0 => 51 0 71 60, 0 44 71 61; 3 17 Read 1 0 => 0 0 72 2; 3 18 Read 6 0 => 0 0 73 62;
+    3 20 Read 2 0 => 0 0 74 63; 3 21 Read 20 0 => 0 0 75 64; 3 23 Read 12 0 => 0 0 76 65;
+    3 19 Read 14 0 => 0 0 77 66; 3 28 Read 0 32 => 0 0 78 67; 3 24 Read 0 0 => 0 0 79 68;
+    3 25 Read 2 0 => 0 0 80 53; 3 26 Read 1 0 => 0 0 81 2; 3 27 Read 6 0 => 0 0 82 69;
+    3 29 Read 1 0 => 0 0 83 2; 3 30 Read 7 0 => 0 0 84 70; 3 12 Display 15 0 => 0 0 85 71;
+    3 12 Read 23 0 => 52 0 85 72, 53 54 85 73, 55 0 85 74, 56 54 85 75, 57 0 85 76, 0 54 85 77;
+    3 12 Read 15 0 => 52 0 85 78, 53 54 85 79, 55 0 85 80, 56 54 85 81, 57 0 85 82, 0 54 85 83;
+    3 13 Display 39 0 => 0 0 92 84; 3 13 Read 56 0 => 58 0 92 85, 59 0 92 86, 60 61 92 87, 62 0 92 88,
+    63 0 92 89, 64 61 92 90, 65 0 92 91, 66 0 92 92, 0 61 92 93; 3 13 Read 39 0 => 58 0 92 94,
+    59 0 92 95, 60 61 92 96, 62 0 92 97, 63 0 92 98, 64 61 92 99, 65 0 92 100, 66 0 92 101, 0 61 92 102;
+    3 15 Read 7 0 => 67 0 99 103, 68 0 100 103, 69 0 101 103, 70 0 102 103, 71 0 103 103, 72 0 104 103,
+    73 0 105 103, 74 0 106 103, 75 0 107 103, 76 0 108 103, 77 0 109 103, 78 0 110 103, 79 0 111 104,
+    80 0 112 104, 81 0 113 104, 0 0 114 105; 4 1 Read 38 0 => 82 83 115 106, 84 85 115 107;
+    4 1 Printed 38 0 => 0 0 115 108; 4 2 Display 20 0 => 0 0 119 5; 4 2 Read 20 0 => 0 0 119 3;
+    4 3 Read 16 0 => 0 0 120 4; 4 5 Read 16 0 => 0 0 121 109; 4 6 Read 16 0 => 0 0 122 109;
+    4 7 Read 16 0 => 0 0 123 109; 4 8 Read 20 0 => 0 0 124 110; 4 9 Read 34 0 => 86 0 125 111,
+    87 0 126 111, 88 0 127 111, 89 0 128 111, 0 0 129 112; 5 1 Display 4 1 => 90 0 130 113,
+    91 0 131 113, 92 0 132 113, 93 0 133 113, 94 0 134 113, 95 0 135 113, 0 0 136 114;
+    5 1 Read 4 1 => 90 0 130 115, 91 0 131 115, 92 0 132 115, 93 0 133 115, 94 0 134 115, 95 0 135 115,
+    0 0 136 116; 2 2 People 12 0 => 0 0 137 117; 3 10 People 16 0 => 0 96 138 0, 0 97 139 0, 0 98 140 0,
     0 99 141 0, 0 100 142 0; 3 10 People 20 0 => 0 101 143 0, 0 102 144 0, 0 103 145 0;
-    3 10 People 40 0 => 0 25 19 116, 0 25 19 117; 3 22 People 20 0 => 0 0 38 118;
+    3 10 People 40 0 => 0 25 19 118, 0 25 19 119; 3 22 People 20 0 => 0 0 38 120;
     3 1 People 4 0 => 0 0 147 0, 0 0 148 0, 0 45 149 0, 0 44 150 0, 0 43 151 0;
-    3 11 People 33 0 => 0 0 64 119, 0 0 64 120, 0 0 64 121, 0 0 64 56; 3 12 People 23 0 => 0 0 85 70,
-    0 104 85 122, 0 104 85 123, 0 105 85 124, 0 106 85 125, 0 106 85 126, 0 107 85 127, 0 0 158 0;
-    3 13 People 56 0 => 0 108 159 0; 3 21 People 20 0 => 0 0 75 128; 3 13 People 56 0 => 0 108 92 83;
-    3 23 People 12 0 => 0 0 76 5; 3 27 People 6 0 => 0 0 82 129, 0 0 82 130;
-    3 30 People 7 0 => 0 0 84 131, 0 0 84 132, 0 0 84 133; 4 1 People 38 0 => 0 109 115 134;
-    4 7 People 16 0 => 0 0 160 108; 3 1 Libefivar 4 0 => 0 0 161 135; 3 23 Libefivar 12 0 => 0 0 162 136
+    3 11 People 33 0 => 0 0 64 121, 0 0 64 122, 0 0 64 123, 0 0 64 57; 3 12 People 23 0 => 0 0 85 71,
+    0 104 85 124, 0 104 85 125, 0 105 85 126, 0 106 85 127, 0 106 85 128, 0 107 85 129, 0 0 158 0;
+    3 13 People 56 0 => 0 108 159 0; 3 21 People 20 0 => 0 0 75 130; 3 13 People 56 0 => 0 108 92 84;
+    3 23 People 12 0 => 0 0 76 5; 3 27 People 6 0 => 0 0 82 131, 0 0 82 132;
+    3 30 People 7 0 => 0 0 84 133, 0 0 84 134, 0 0 84 135; 3 13 People 56 0 => 0 109 92 136,
+    0 110 92 137, 0 108 92 138, 0 109 92 139, 0 111 92 140, 0 112 92 141, 0 110 92 142, 0 113 92 143,
+    0 114 92 144, 0 108 92 145, 0 115 92 146, 0 116 92 147; 4 1 People 38 0 => 0 117 115 148;
+    4 7 People 16 0 => 0 0 167 109; 3 1 Libefivar 4 0 => 0 0 168 149; 3 23 Libefivar 12 0 => 0 0 169 150
 );
 
 /// Where each group begins.
 #[rattlefmt::skip]
-pub const FORM_STARTS: [u16; 17] = [
-    0, 6, 16, 25, 34, 52, 87, 100, 110, 119, 135, 150, 164, 165, 202, 204, 206
+pub const FORM_STARTS: [u16; 18] = [
+    0, 6, 16, 25, 34, 52, 87, 100, 110, 119, 135, 150, 164, 165, 202, 214, 216, 218
 ];

@@ -1,5 +1,5 @@
-//! Texts, steps and bytes of the packed table, each kind in one constant. So the table contains no pointer,
-//! and firmware that loads a program relocates nothing in it.
+//! Texts, steps and bytes of the packed table, each kind in one constant. So the table contains no pointer, and
+//! firmware that loads a program relocates nothing in it.
 #![tactic(auto)]
 
 ghost use Rattle.std.specs.Prelude.{◌≡◌, slice_index};

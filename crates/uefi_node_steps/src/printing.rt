@@ -5,7 +5,7 @@ ghost use Rattle.std.specs.Fmt.{WritesInCalls};
 ghost use Rattle.std.specs.List.{list_all};
 ghost use Rattle.std.specs.Prelude.{◌≡◌, ◌+◌, ◌^◌, ◌<◌, ◌≤◌, ◌++◌, [], IsTrue, codes, length, map, take};
 ghost use Rattle.uefi_text.specs.Packed.{little_endian};
-ghost use Rattle.uefi_device_nodes.specs.FieldTexts.{eisa_text, shown_bytes, until_nul};
+ghost use Rattle.uefi_device_nodes.specs.FieldTexts.{after_nul, eisa_text, shown_bytes, until_nul};
 ghost use Rattle.uefi_device_nodes.specs.Guids.{guid_text};
 ghost use Rattle.uefi_node_steps.specs.Leaves.{decimal, ipv4, ipv6, suits, word_text, zero_text};
 ghost use Rattle.uefi_node_steps.specs.Steps.{chunks, data_leaf, fits_shape, lists, no_list, shape_leaf, word_by};
@@ -19,7 +19,9 @@ use uefi_device_nodes::field_texts::hexadecimal::{
     put_back, put_bytes, put_comma_bytes, put_dashed_back, put_hex,
 };
 use uefi_device_nodes::field_texts::ids::{put_eisa_id, put_id_strings};
-use uefi_device_nodes::field_texts::shown_texts::{put_byte_text, put_utf16_text, until_nul};
+use uefi_device_nodes::field_texts::shown_texts::{
+    after_nul, put_byte_text, put_utf16_text, until_nul,
+};
 use uefi_text::number_texts::put_digits;
 use uefi_text::text_sink::TextSink;
 
@@ -139,6 +141,7 @@ fn put_shape<S: TextSink>(sink: &mut S, shape: Shape, bytes: &[u8])
 {
     match shape {
         Shape::Hexadecimal => put_hex(sink, "0x", number_of(bytes)),
+        Shape::Marked => put_hex(sink, "0x", number_of(bytes)),
         Shape::Decimal => put_digits(sink, number_of(bytes), 10),
         Shape::OrDefault => put_or_default(sink, number_of(bytes)),
         Shape::Next => put_next(sink, bytes),
@@ -175,6 +178,7 @@ fn put_data<S: TextSink>(sink: &mut S, encoding: Encoding, bytes: &[u8])
         Encoding::Name(_) => put_byte_text(sink, "", until_nul(bytes)),
         Encoding::Padded(_) => put_padded(sink, bytes),
         Encoding::Ids(_) => put_id_strings(sink, bytes),
+        Encoding::Uid(_) => put_byte_text(sink, "", until_nul(after_nul(bytes))),
     }
 }
 

@@ -198,6 +198,13 @@ fn read_data<T: Text, S: Sink>(encoding: Encoding, tail: &mut S, text: T) -> Res
         }
         Encoding::Padded(stop) => read_padded(stop, tail, text),
         Encoding::Ids(stop) => read_ids(stop, tail, text),
+        Encoding::Uid(stop) => {
+            tail.put(0);
+            let rest = read_clear(stop, tail, text);
+            tail.put(0);
+            tail.put(0);
+            Ok(rest)
+        }
     }
 }
 

@@ -8,6 +8,8 @@ pub enum Expected {
     Letter(u8),
     /// A number up to this one.
     Number(u64),
+    /// A number after `0x`.
+    Base,
     /// A number from 1 to this one.
     NumberFromOne(u64),
     /// A number up to this one, or the word `DEFAULT`.
@@ -57,6 +59,9 @@ pub enum Words {
 pub enum Shape {
     /// A number, its low byte first: `0x`, and hexadecimal digits without leading zeros.
     Hexadecimal,
+    /// As `Hexadecimal`, for a number that some programs print without `0x`. People may leave out the `0x` only
+    /// before a single decimal digit.
+    Marked,
     /// A number, its low byte first, in decimal.
     Decimal,
     /// A number, its low byte first, in decimal, or the word `DEFAULT` for 0.
@@ -69,7 +74,8 @@ pub enum Shape {
     Back,
     /// `0x`, and two digits for each byte, from the first byte to the last.
     BaseForth,
-    /// `0x`, and two digits for each byte, from the last byte to the first.
+    /// `0x`, and two digits for each byte, from the last byte to the first. Some programs print the digits
+    /// without `0x`, so people may leave it out only if the first two are not decimal.
     BaseBack,
     /// Two digits for each byte, from the first to the last, with this letter between them.
     Apart(u8),
@@ -116,6 +122,8 @@ pub enum Encoding {
     /// The ID strings of a device that ACPI names, each up to a NUL. The data contains `_HID`, `_UID` and
     /// `_CID` in this order; the text contains `_CID` before `_UID`.
     Ids(u8),
+    /// The string of `_UID` in the same data, whose other strings are empty.
+    Uid(u8),
 }
 
 /// The kinds of lists, by their items.

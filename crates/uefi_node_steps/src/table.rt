@@ -1,6 +1,6 @@
-//! The table of kinds of nodes (UEFI Specification 2.10, sections 10.3 and 10.6.1), with the steps of each
-//! form that a node is printed or read in. If steps can describe the text of a kind, only the table
-//! contains it. The table that firmware contains is `packed.rt`.
+//! The table of kinds of nodes (UEFI Specification 2.10, sections 10.3 and 10.6.1), with the steps of each form
+//! that a node is printed or read in. If steps can describe the text of a kind, only the table contains it. The
+//! table that firmware contains is `packed.rt`.
 #![tactic(auto)]
 
 ghost use Rattle.std.specs.Prelude.{◌≡◌, ◌≤◌, length, map};
@@ -68,6 +68,9 @@ macro_rules! spare {
     (Hexadecimal) => {
         Some(0)
     };
+    (Marked) => {
+        Some(0)
+    };
     (Decimal) => {
         Some(0)
     };
@@ -76,8 +79,8 @@ macro_rules! spare {
     };
 }
 
-/// Makes a field from its shape and its name in the kind's module, or a part of a field from the part's
-/// offset in the field and its width.
+/// Makes a field from its shape and its name in the kind's module, or a part of a field from the part's offset
+/// in the field and its width.
 macro_rules! field {
     ($of:tt $shape:ident $(($argument:expr))? $at:ident + $part:literal $width:literal) => {
         Field {
@@ -97,8 +100,8 @@ macro_rules! field {
     };
 }
 
-/// Makes the steps of a form, after the kind: a literal is a text, a field stands in parentheses, data
-/// after the fixed part in braces with the letter that ends it, and the items of a list in brackets.
+/// Makes the steps of a form, after the kind: a literal is a text, a field stands in parentheses, data after the
+/// fixed part in braces with the letter that ends it, and the items of a list in brackets.
 macro_rules! steps {
     ($of:tt [$($done:expr),*]) => { &[$($done),*] };
     ($of:tt [$($done:expr),*] $text:literal $($rest:tt)*) => {
@@ -179,9 +182,9 @@ macro_rules! bytes {
     };
 }
 
-/// Makes a form, from the type and the kind, who writes it, the number of its fixed bytes and the least
-/// number of further bytes, the bytes that distinguish it, the other fixed bytes, and its steps. The names
-/// are those of the kind's module.
+/// Makes a form, from the type and the kind, who writes it, the number of its fixed bytes and the least number of
+/// further bytes, the bytes that distinguish it, the other fixed bytes, and its steps. The names are those of the
+/// kind's module.
 macro_rules! row {
     ($type:ident $kind:ident $mode:ident $size:tt $(+ $more:tt)? [$($when:tt)*] [$($also:tt)*]
         $($step:tt)*) => {
@@ -210,17 +213,20 @@ macro_rules! usb_class {
         usb_class!([DEVICE_CLASS = 0xfe, DEVICE_SUBCLASS = $sub_class] $start)
     };
     ([$($when:tt)*] $start:literal $($step:tt)*) => {
-        row!(messaging usb_class Read LEAST [$($when)*] [] $start (Hexadecimal VENDOR_ID or 0xff) ","
-            (Hexadecimal PRODUCT_ID or 0xff) "," $($step)* (Hexadecimal DEVICE_PROTOCOL or 0xff) ")")
+        usb_class!(Hexadecimal [$($when)*] $start $($step)*)
+    };
+    ($shape:ident [$($when:tt)*] $start:literal $($step:tt)*) => {
+        row!(messaging usb_class Read LEAST [$($when)*] [] $start ($shape VENDOR_ID required) ","
+            ($shape PRODUCT_ID or 0xff) "," $($step)* ($shape DEVICE_PROTOCOL or 0xff) ")")
     };
 }
 
 /// Makes a form of SAS devices as vendor-defined messaging nodes, from the steps of the topology.
 macro_rules! sas {
     ([$($when:tt)*] $($topology:tt)*) => {
-        row!(messaging sas_vendor Read LEAST [Sas $($when)*] [] "SAS(" (Hexadecimal SAS_ADDRESS) ","
-            (Hexadecimal LOGICAL_UNIT_NUMBER) "," (Hexadecimal RELATIVE_TARGET_PORT) $($topology)*
-            (Hexadecimal RESERVED) ")")
+        row!(messaging sas_vendor Read LEAST [Sas $($when)*] [] "SAS(" (Marked SAS_ADDRESS required) ","
+            (Marked LOGICAL_UNIT_NUMBER) "," (Marked RELATIVE_TARGET_PORT) $($topology)*
+            (Marked RESERVED) ")")
     };
 }
 
@@ -235,12 +241,12 @@ macro_rules! sas_ex {
 /// Makes a form of devices that ACPI names by a number, with its bytes.
 macro_rules! acpi_device {
     ([$($hid:literal)*] $start:literal) => {
-        row!(acpi acpi Read LEAST [HID = [$($hid)*]] [] $start (Hexadecimal UID) ")")
+        row!(acpi acpi Read LEAST [HID = [$($hid)*]] [] $start (Hexadecimal UID required) ")")
     };
 }
 
-/// Makes a form of IPv4 connections, for nodes with a gateway and a mask or for nodes without, from the
-/// steps of the protocol and the origin.
+/// Makes a form of IPv4 connections, for nodes with a gateway and a mask or for nodes without, from the steps of
+/// the protocol and the origin.
 macro_rules! ipv4 {
     (whole [$($when:tt)*] [$($also:tt)*] $($step:tt)*) => {
         row!(messaging ipv4 Read WHOLE [$($when)*] [$($also)*] "IPv4(" (Ipv4 REMOTE_IP_ADDRESS)
@@ -252,8 +258,8 @@ macro_rules! ipv4 {
     };
 }
 
-/// Makes a form of IPv6 connections, for nodes with a prefix and a gateway or for nodes without, from the
-/// steps of the protocol and the origin.
+/// Makes a form of IPv6 connections, for nodes with a prefix and a gateway or for nodes without, from the steps of
+/// the protocol and the origin.
 macro_rules! ipv6 {
     (whole [$($when:tt)*] [$($also:tt)*] $($step:tt)*) => {
         row!(messaging ipv6 Read LEAST [$($when)*] [$($also)*] "IPv6(" (Ipv6 REMOTE_IP_ADDRESS)
@@ -294,13 +300,13 @@ macro_rules! ipv6_forms {
 macro_rules! virtual_disk {
     ([$($guid:literal)*] $start:literal) => {
         row!(media ram_disk Read LEAST [DISK_TYPE = [$($guid)*]] [] $start
-            (Hexadecimal STARTING_ADDRESS) "," (Hexadecimal ENDING_ADDRESS) "," (Decimal DISK_INSTANCE)
+            (Hexadecimal STARTING_ADDRESS required) "," (Hexadecimal ENDING_ADDRESS) "," (Decimal DISK_INSTANCE)
             ")")
     };
 }
 
-/// Makes the forms of devices that a legacy BIOS can boot, from the bytes and the first steps of each:
-/// first for display, where the flags are omitted, and then with the flags.
+/// Makes the forms of devices that a legacy BIOS can boot, from the bytes and the first steps of each: first for
+/// display, where the flags are omitted, and then with the flags.
 macro_rules! boot_forms {
     ($([$($when:tt)*] $start:literal $(($($field:tt)*) $between:literal)?,)*) => {
         &[
@@ -315,13 +321,13 @@ macro_rules! boot_forms {
 /// Nodes of type Hardware.
 #[rattlefmt::skip]
 pub const HARDWARE: &[Form] = &[
-    row!(hardware pci Read LEAST [] [] "Pci(" (Hexadecimal DEVICE) "," (Hexadecimal FUNCTION) ")"),
-    row!(hardware pccard Read LEAST [] [] "PcCard(" (Hexadecimal FUNCTION) ")"),
-    row!(hardware memory_mapped Read LEAST [] [] "MemoryMapped(" (Hexadecimal MEMORY_TYPE) ","
+    row!(hardware pci Read LEAST [] [] "Pci(" (Hexadecimal DEVICE required) "," (Hexadecimal FUNCTION) ")"),
+    row!(hardware pccard Read LEAST [] [] "PcCard(" (Hexadecimal FUNCTION required) ")"),
+    row!(hardware memory_mapped Read LEAST [] [] "MemoryMapped(" (Hexadecimal MEMORY_TYPE required) ","
         (Hexadecimal STARTING_ADDRESS) "," (Hexadecimal ENDING_ADDRESS) ")"),
     row!(hardware hardware_vendor Read LEAST [] [] "VenHw(" (Guid VENDOR_GUID) {Bytes} ")"),
-    row!(hardware controller Read LEAST [] [] "Ctrl(" (Hexadecimal CONTROLLER_NUMBER) ")"),
-    row!(hardware bmc Read LEAST [] [] "BMC(" (Hexadecimal INTERFACE_TYPE) ","
+    row!(hardware controller Read LEAST [] [] "Ctrl(" (Hexadecimal CONTROLLER_NUMBER required) ")"),
+    row!(hardware bmc Read LEAST [] [] "BMC(" (Hexadecimal INTERFACE_TYPE required) ","
         (Hexadecimal BASE_ADDRESS) ")"),
 ];
 
@@ -368,7 +374,7 @@ pub const SAS_IN_BAYS: &[Form] = &[
     sas!([INFO = 0x52] ",SATA,Internal,Expanded," (Next INFO + 1 1) ","),
     sas!([INFO = 0x62] ",SAS,External,Expanded," (Next INFO + 1 1) ","),
     sas!([INFO = 0x72] ",SATA,External,Expanded," (Next INFO + 1 1) ","),
-    sas!([] "," (Hexadecimal INFO) ",0,0,0,"),
+    sas!([] "," (Marked INFO) ",0,0,0,"),
 ];
 
 /// SAS devices as nodes of their own kind.
@@ -397,7 +403,7 @@ pub const SAS_EX: &[Form] = &[
 /// Nodes of type Messaging, except the forms above and below.
 #[rattlefmt::skip]
 pub const MESSAGING: &[Form] = &[
-    row!(messaging atapi Display LEAST [] [] "Ata(" (Hexadecimal LOGICAL_UNIT_NUMBER) ")"),
+    row!(messaging atapi Display LEAST [] [] "Ata(" (Hexadecimal LOGICAL_UNIT_NUMBER required) ")"),
     row!(messaging atapi Read LEAST [PRIMARY_SECONDARY = 0x01, MASTER_SLAVE = 0x01] []
         "Ata(Secondary,Slave," (Hexadecimal LOGICAL_UNIT_NUMBER) ")"),
     row!(messaging atapi Read LEAST [PRIMARY_SECONDARY = 0x01] [] "Ata(Secondary,Master,"
@@ -406,15 +412,15 @@ pub const MESSAGING: &[Form] = &[
         (Hexadecimal LOGICAL_UNIT_NUMBER) ")"),
     row!(messaging atapi Read LEAST [] [] "Ata(Primary,Master," (Hexadecimal LOGICAL_UNIT_NUMBER)
         ")"),
-    row!(messaging scsi Read LEAST [] [] "Scsi(" (Hexadecimal TARGET_ID) ","
+    row!(messaging scsi Read LEAST [] [] "Scsi(" (Hexadecimal TARGET_ID required) ","
         (Hexadecimal LOGICAL_UNIT_NUMBER) ")"),
-    row!(messaging fibre_channel Read LEAST [] [] "Fibre(" (Hexadecimal WORLD_WIDE_NAME) ","
-        (Hexadecimal LOGICAL_UNIT_NUMBER) ")"),
+    row!(messaging fibre_channel Read LEAST [] [] "Fibre(" (Marked WORLD_WIDE_NAME required) ","
+        (Marked LOGICAL_UNIT_NUMBER) ")"),
     row!(messaging ieee1394 Read LEAST [] [] "I1394(" (Back GUID) ")"),
-    row!(messaging usb Read LEAST [] [] "USB(" (Hexadecimal PARENT_PORT_NUMBER) ","
+    row!(messaging usb Read LEAST [] [] "USB(" (Hexadecimal PARENT_PORT_NUMBER required) ","
         (Hexadecimal INTERFACE) ")"),
-    row!(messaging i2o Read LEAST [] [] "I2O(" (Hexadecimal TARGET_ID) ")"),
-    row!(messaging infiniband Read LEAST [] [] "Infiniband(" (Hexadecimal RESOURCE_FLAGS) ","
+    row!(messaging i2o Read LEAST [] [] "I2O(" (Hexadecimal TARGET_ID required) ")"),
+    row!(messaging infiniband Read LEAST [] [] "Infiniband(" (Hexadecimal RESOURCE_FLAGS required) ","
         (Guid PORT_GID) "," (Hexadecimal IOC_GUID_OR_SERVICE_ID) "," (Hexadecimal TARGET_PORT_ID)
         "," (Hexadecimal DEVICE_ID) ")"),
     row!(messaging uart_flow_control Read LEAST [Uart, MAP = [0x00 0x00 0x00 0x00]] []
@@ -432,18 +438,18 @@ pub const MESSAGING: &[Form] = &[
         (Hexadecimal INTERFACE_TYPE) ")"),
     row!(messaging uart Read LEAST [] [] "Uart(" (OrDefault BAUD_RATE) "," (OrDefault DATA_BITS) ","
         (Word(Words::Parity) PARITY) (Word(Words::StopBits) STOP_BITS)),
-    row!(messaging usb_wwid Read LEAST [] [] "UsbWwid(" (Hexadecimal DEVICE_VENDOR_ID) ","
+    row!(messaging usb_wwid Read LEAST [] [] "UsbWwid(" (Hexadecimal DEVICE_VENDOR_ID required) ","
         (Hexadecimal DEVICE_PRODUCT_ID) "," (Hexadecimal INTERFACE_NUMBER) ",\"" {Utf16 b'"'} "\")"),
     row!(messaging dns Read FIRST [ADDRESS_TYPE = 0x00] [] "Dns(" (Ipv4 ADDRESS + 0 4) [Ipv4] ")"),
     row!(messaging dns Read FIRST [] [ADDRESS_TYPE = 0x01] "Dns(" (Ipv6 ADDRESS + 0 16) [Ipv6] ")"),
-    row!(messaging device_logical_unit Read LEAST [] [] "Unit(" (Hexadecimal LOGICAL_UNIT_NUMBER)
+    row!(messaging device_logical_unit Read LEAST [] [] "Unit(" (Hexadecimal LOGICAL_UNIT_NUMBER required)
         ")"),
-    row!(messaging sata Read LEAST [] [] "Sata(" (Hexadecimal HBA_PORT_NUMBER) ","
+    row!(messaging sata Read LEAST [] [] "Sata(" (Hexadecimal HBA_PORT_NUMBER required) ","
         (Hexadecimal PORT_MULTIPLIER_PORT_NUMBER or 0xff) "," (Hexadecimal LOGICAL_UNIT_NUMBER) ")"),
-    row!(messaging vlan Read LEAST [] [] "Vlan(" (Decimal VLAN_ID) ")"),
+    row!(messaging vlan Read LEAST [] [] "Vlan(" (Decimal VLAN_ID required) ")"),
     row!(messaging fibre_channel_ex Read LEAST [] [] "FibreEx(" (BaseForth WORLD_WIDE_NAME) ","
         (BaseForth LOGICAL_UNIT_NUMBER) ")"),
-    row!(messaging nvme_namespace Read LEAST [] [] "NVMe(" (Hexadecimal NAMESPACE_IDENTIFIER) ","
+    row!(messaging nvme_namespace Read LEAST [] [] "NVMe(" (Hexadecimal NAMESPACE_IDENTIFIER required) ","
         (Dashed IEEE_EXTENDED_UNIQUE_IDENTIFIER) ")"),
     row!(messaging iscsi Read LEAST [] [] "iSCSI(" {Name b','} ","
         (Hexadecimal TARGET_PORTAL_GROUP_TAG) "," (BaseForth LOGICAL_UNIT_NUMBER) ","
@@ -451,13 +457,13 @@ pub const MESSAGING: &[Form] = &[
         (Word(Words::Protocol) PROTOCOL)),
     row!(messaging wifi Read 0 + LEAST [] [] "Wi-Fi(" {Padded b')'} ")"),
     row!(messaging uri Read LEAST [] [] "Uri(" {Text b')'} ")"),
-    row!(messaging ufs Read LEAST [] [] "UFS(" (Hexadecimal TARGET_ID) ","
+    row!(messaging ufs Read LEAST [] [] "UFS(" (Hexadecimal TARGET_ID required) ","
         (Hexadecimal LOGICAL_UNIT_NUMBER) ")"),
-    row!(messaging sd Read LEAST [] [] "SD(" (Hexadecimal SLOT_NUMBER) ")"),
+    row!(messaging sd Read LEAST [] [] "SD(" (Hexadecimal SLOT_NUMBER required) ")"),
     row!(messaging bluetooth Read LEAST [] [] "Bluetooth(" (Forth DEVICE_ADDRESS) ")"),
-    row!(messaging emmc Read LEAST [] [] "eMMC(" (Hexadecimal SLOT_NUMBER) ")"),
+    row!(messaging emmc Read LEAST [] [] "eMMC(" (Hexadecimal SLOT_NUMBER required) ")"),
     row!(messaging bluetooth_le Read LEAST [] [] "BluetoothLE(" (Forth DEVICE_ADDRESS) ","
-        (BaseForth ADDRESS_TYPE) ")"),
+        (BaseBack ADDRESS_TYPE) ")"),
 ];
 
 /// IPv4 connections, with a gateway and a mask and without.
@@ -505,30 +511,30 @@ pub const USB_CLASSES: &[Form] = &[
     usb_class!(0xfe 0x01 "UsbDeviceFirmwareUpdate("),
     usb_class!(0xfe 0x02 "UsbIrdaBridge("),
     usb_class!(0xfe 0x03 "UsbTestAndMeasurement("),
-    usb_class!([] "UsbClass(" (Hexadecimal DEVICE_CLASS or 0xff) ","
-        (Hexadecimal DEVICE_SUBCLASS or 0xff) ","),
+    usb_class!(Marked [] "UsbClass(" (Marked DEVICE_CLASS or 0xff) ","
+        (Marked DEVICE_SUBCLASS or 0xff) ","),
 ];
 
 /// Nodes of type Media, except nodes that name files.
 #[rattlefmt::skip]
 pub const MEDIA: &[Form] = &[
     row!(media hard_drive Read LEAST [SIGNATURE_TYPE = 0x01] [PARTITION_FORMAT = 0x01] "HD("
-        (Decimal PARTITION_NUMBER) ",MBR," (BaseBack PARTITION_SIGNATURE + 0 4) ","
+        (Decimal PARTITION_NUMBER required) ",MBR," (BaseBack PARTITION_SIGNATURE + 0 4) ","
         (Hexadecimal PARTITION_START) "," (Hexadecimal PARTITION_SIZE) ")"),
     row!(media hard_drive Read LEAST [SIGNATURE_TYPE = 0x02] [PARTITION_FORMAT = 0x02] "HD("
-        (Decimal PARTITION_NUMBER) ",GPT," (Guid PARTITION_SIGNATURE) ","
+        (Decimal PARTITION_NUMBER required) ",GPT," (Guid PARTITION_SIGNATURE) ","
         (Hexadecimal PARTITION_START) "," (Hexadecimal PARTITION_SIZE) ")"),
-    row!(media hard_drive Printed LEAST [] [] "HD(" (Decimal PARTITION_NUMBER) ","
+    row!(media hard_drive Printed LEAST [] [] "HD(" (Decimal PARTITION_NUMBER required) ","
         (Decimal SIGNATURE_TYPE) ",0," (Hexadecimal PARTITION_START) ","
         (Hexadecimal PARTITION_SIZE) ")"),
-    row!(media cd_rom Display LEAST [] [] "CDROM(" (Hexadecimal BOOT_ENTRY) ")"),
-    row!(media cd_rom Read LEAST [] [] "CDROM(" (Hexadecimal BOOT_ENTRY) ","
+    row!(media cd_rom Display LEAST [] [] "CDROM(" (Hexadecimal BOOT_ENTRY required) ")"),
+    row!(media cd_rom Read LEAST [] [] "CDROM(" (Hexadecimal BOOT_ENTRY required) ","
         (Hexadecimal PARTITION_START) "," (Hexadecimal PARTITION_SIZE) ")"),
     row!(media media_vendor Read LEAST [] [] "VenMedia(" (Guid VENDOR_GUID) {Bytes} ")"),
     row!(media protocol Read LEAST [] [] "Media(" (Guid PROTOCOL_GUID) ")"),
     row!(media firmware_file Read LEAST [] [] "FvFile(" (Guid FILE_NAME) ")"),
     row!(media firmware_volume Read LEAST [] [] "Fv(" (Guid VOLUME_NAME) ")"),
-    row!(media relative_offset_range Read LEAST [] [] "Offset(" (Hexadecimal STARTING_OFFSET) ","
+    row!(media relative_offset_range Read LEAST [] [] "Offset(" (Hexadecimal STARTING_OFFSET required) ","
         (Hexadecimal ENDING_OFFSET) ")"),
     virtual_disk!([0x5a 0x53 0xab 0x77 0xfc 0x45 0x4b 0x62 0x55 0x60 0xf7 0xb2 0x81 0xd1 0xf9 0x6e]
         "VirtualDisk("),
@@ -538,7 +544,7 @@ pub const MEDIA: &[Form] = &[
         "PersistentVirtualDisk("),
     virtual_disk!([0x88 0x81 0x01 0x08 0xcd 0x42 0x48 0xbb 0x10 0x0f 0x53 0x87 0xd5 0x3d 0xed 0x3d]
         "PersistentVirtualCD("),
-    row!(media ram_disk Read LEAST [] [] "RamDisk(" (Hexadecimal STARTING_ADDRESS) ","
+    row!(media ram_disk Read LEAST [] [] "RamDisk(" (Hexadecimal STARTING_ADDRESS required) ","
         (Hexadecimal ENDING_ADDRESS) "," (Decimal DISK_INSTANCE) "," (Guid DISK_TYPE) ")"),
 ];
 
@@ -551,13 +557,13 @@ pub const BOOT: &[Form] = boot_forms!(
     [DEVICE_TYPE = [0x04 0x00]] "BBS(PCMCIA,",
     [DEVICE_TYPE = [0x05 0x00]] "BBS(USB,",
     [DEVICE_TYPE = [0x06 0x00]] "BBS(Network,",
-    [] "BBS(" (Hexadecimal DEVICE_TYPE) ",",
+    [] "BBS(" (Hexadecimal DEVICE_TYPE required) ",",
 );
 
 /// Nodes of type ACPI, as people write them.
 #[rattlefmt::skip]
 pub const TYPED_ACPI: &[Form] = &[
-    row!(acpi expanded People FIXED [] [] "AcpiExp(" (Eisa HID) "," (Eisa CID) "," {Ids b')'} ")"),
+    row!(acpi expanded People FIXED [] [] "AcpiExp(" (Eisa HID) "," (Eisa CID) "," {Uid b')'} ")"),
 ];
 
 /// Nodes of type Messaging, as people and other programs write them: short names of vendor-defined nodes,
@@ -573,10 +579,10 @@ pub const TYPED_MESSAGING: &[Form] = &[
     row!(messaging uart_flow_control People LEAST [] [Uart] "UartFlowControl(None)"),
     row!(messaging uart_flow_control People LEAST [] [Uart, MAP = 0x01] "UartFlowControl(Hardware)"),
     row!(messaging uart_flow_control People LEAST [] [Uart, MAP = 0x02] "UartFlowControl(XonXoff)"),
-    row!(messaging sas_vendor People LEAST [] [Sas] "SAS(" (Hexadecimal SAS_ADDRESS) ","
-        (Hexadecimal LOGICAL_UNIT_NUMBER) "," (Hexadecimal RELATIVE_TARGET_PORT) ")"),
-    row!(messaging sas_vendor People LEAST [] [Sas] "SAS(" (Hexadecimal SAS_ADDRESS) ","
-        (Hexadecimal LOGICAL_UNIT_NUMBER) "," (Hexadecimal RELATIVE_TARGET_PORT) ",NoTopology)"),
+    row!(messaging sas_vendor People LEAST [] [Sas] "SAS(" (Marked SAS_ADDRESS required) ","
+        (Marked LOGICAL_UNIT_NUMBER) "," (Marked RELATIVE_TARGET_PORT) ")"),
+    row!(messaging sas_vendor People LEAST [] [Sas] "SAS(" (Marked SAS_ADDRESS required) ","
+        (Marked LOGICAL_UNIT_NUMBER) "," (Marked RELATIVE_TARGET_PORT) ",NoTopology)"),
     row!(messaging sas_ex People LEAST [] [] "SasEx(" (BaseForth SAS_ADDRESS) ")"),
     row!(messaging atapi People LEAST [] [] "Ata(0x0)"),
     row!(messaging atapi People LEAST [] [] "Ata(Primary,Master)"),
@@ -608,22 +614,48 @@ pub const TYPED_MESSAGING: &[Form] = &[
     row!(messaging fibre_channel_ex People LEAST [] [] "FibreEx(" (BaseForth WORLD_WIDE_NAME)
         ",0x0)"),
     row!(messaging ipv6 People LEAST [] [PREFIX_LENGTH = 0x40] "IPv6(" (Ipv6 REMOTE_IP_ADDRESS) ")"),
-    row!(messaging nvme_namespace People LEAST [] [] "NVMe(" (Hexadecimal NAMESPACE_IDENTIFIER) ")"),
+    row!(messaging nvme_namespace People LEAST [] [] "NVMe(" (Hexadecimal NAMESPACE_IDENTIFIER required) ")"),
     row!(messaging bluetooth People LEAST [] [] "Bluetooth(" (Apart(b':') DEVICE_ADDRESS + 0 6) ")"),
     row!(messaging bluetooth People LEAST [] [] "Bluetooth(" (Apart(b'-') DEVICE_ADDRESS + 0 6) ")"),
     row!(messaging bluetooth_le People LEAST [] [] "BluetoothLE(" (Forth DEVICE_ADDRESS) ","
-        (Hexadecimal ADDRESS_TYPE) ")"),
+        (Marked ADDRESS_TYPE) ")"),
     row!(messaging bluetooth_le People LEAST [] [] "BluetoothLE(" (Apart(b'-') DEVICE_ADDRESS + 0 6)
-        "," (Hexadecimal ADDRESS_TYPE) ")"),
+        "," (Marked ADDRESS_TYPE) ")"),
     row!(messaging bluetooth_le People LEAST [] [] "BluetoothLE(" (Apart(b':') DEVICE_ADDRESS + 0 6)
-        "," (Hexadecimal ADDRESS_TYPE) ")"),
+        "," (Marked ADDRESS_TYPE) ")"),
+];
+
+/// Makes a form of IPv6 connections as people write them, without the fields that the drivers of EDK II fill: a prefix
+/// length of 64, and zeros.
+macro_rules! typed_ipv6 {
+    ([$($also:tt)*] $($step:tt)*) => {
+        row!(messaging ipv6 People LEAST [] [$($also)*, PREFIX_LENGTH = 0x40] "IPv6("
+            (Ipv6 REMOTE_IP_ADDRESS) $($step)*)
+    };
+}
+
+/// IPv6 connections, as people write them.
+#[rattlefmt::skip]
+pub const TYPED_IPV6: &[Form] = &[
+    typed_ipv6!([PROTOCOL = 0x06] ",TCP)"),
+    typed_ipv6!([PROTOCOL = 0x11] ",UDP)"),
+    typed_ipv6!([] "," (Hexadecimal PROTOCOL required) ")"),
+    typed_ipv6!([PROTOCOL = 0x06] ",TCP,Static)"),
+    typed_ipv6!([PROTOCOL = 0x06, IP_ADDRESS_ORIGIN = 0x01] ",TCP,StatelessAutoConfigure)"),
+    typed_ipv6!([PROTOCOL = 0x06, IP_ADDRESS_ORIGIN = 0x02] ",TCP,StatefulAutoConfigure)"),
+    typed_ipv6!([PROTOCOL = 0x11] ",UDP,Static)"),
+    typed_ipv6!([PROTOCOL = 0x11, IP_ADDRESS_ORIGIN = 0x01] ",UDP,StatelessAutoConfigure)"),
+    typed_ipv6!([PROTOCOL = 0x11, IP_ADDRESS_ORIGIN = 0x02] ",UDP,StatefulAutoConfigure)"),
+    typed_ipv6!([] "," (Hexadecimal PROTOCOL) ",Static)"),
+    typed_ipv6!([IP_ADDRESS_ORIGIN = 0x01] "," (Hexadecimal PROTOCOL) ",StatelessAutoConfigure)"),
+    typed_ipv6!([IP_ADDRESS_ORIGIN = 0x02] "," (Hexadecimal PROTOCOL) ",StatefulAutoConfigure)"),
 ];
 
 /// Nodes of type Media, as people write them.
 #[rattlefmt::skip]
 pub const TYPED_MEDIA: &[Form] = &[
     row!(media hard_drive People LEAST [] [PARTITION_FORMAT = 0x01, SIGNATURE_TYPE = 0x01] "HD("
-        (Decimal PARTITION_NUMBER) ",MBR," (Hexadecimal PARTITION_SIGNATURE + 0 4) ","
+        (Decimal PARTITION_NUMBER required) ",MBR," (Marked PARTITION_SIGNATURE + 0 4) ","
         (Hexadecimal PARTITION_START) "," (Hexadecimal PARTITION_SIZE) ")"),
     row!(media firmware_volume People LEAST [] [] "FvVol(" (Guid VOLUME_NAME) ")"),
 ];
@@ -631,14 +663,14 @@ pub const TYPED_MEDIA: &[Form] = &[
 /// The forms that only libefivar writes.
 #[rattlefmt::skip]
 pub const LIBEFIVAR: &[Form] = &[
-    row!(messaging atapi Libefivar LEAST [] [] "ATA(" (Decimal PRIMARY_SECONDARY) ","
+    row!(messaging atapi Libefivar LEAST [] [] "ATA(" (Decimal PRIMARY_SECONDARY required) ","
         (Decimal MASTER_SLAVE) "," (Decimal LOGICAL_UNIT_NUMBER) ")"),
-    row!(messaging nvme_namespace Libefivar LEAST [] [] "NVME(" (Hexadecimal NAMESPACE_IDENTIFIER)
+    row!(messaging nvme_namespace Libefivar LEAST [] [] "NVME(" (Hexadecimal NAMESPACE_IDENTIFIER required)
         "," (Apart(b'-') IEEE_EXTENDED_UNIQUE_IDENTIFIER + 0 8) ")"),
 ];
 
 /// The number of groups of forms.
-pub const GROUPS: usize = 16;
+pub const GROUPS: usize = 17;
 
 /// Returns the part number of a group's packed forms.
 #[tactic(auto, unfolding(crate::specs::Parts::packed_bytes, crate::specs::Parts::packed_text, crate::specs::Parts::other_steps, crate::specs::NodeForms::group_forms))]
@@ -663,8 +695,9 @@ fn part_of_group(index: usize) -> u8
         13 => 13,
         14 => 14,
         15 => 15,
+        16 => 16,
         // No part begins here, so this one is empty.
-        _ => 16,
+        _ => 17,
     }
 }
 
