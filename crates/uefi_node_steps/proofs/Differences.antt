@@ -8,7 +8,7 @@ use Rattle.std.specs.List.{list_all}
 use Rattle.std.specs.Option.{option_map}
 use Rattle.std.specs.Prelude.{nat_le, nat_lt, if◌then◌else◌, Option, Some, None, is_some, Result, Ok, Err, codes}
 use borrow.Author.Tests.{eqb-true}
-use Rattle.uefi_node_steps.specs.Leaves.{ByteLeaf, Each, IsBytes, Leaf, Read, ◌>>=◌, after_base, any_number, at_digits, behind_each, between, both, by_base, clash, decimal, digit_of, digits_read, ends_at, expect, has_digit, have_no_blank, in_bytes, ipv4, ipv6, is_blank, is_comma, is_spare, letters_read, literal, low_bytes, many_text, number_read, pair, pairs, past_blanks, spared, stop_at, two_decimals}
+use Rattle.uefi_node_steps.specs.Leaves.{ByteLeaf, Each, IsBytes, Leaf, Read, ◌>>=◌, after_base, any_number, behind_each, both, by_base, clash, decimal, digit_of, digits_read, ends_at, expect, has_digit, have_no_blank, in_bytes, ipv4, ipv6, is_blank, is_comma, is_spare, letters_read, literal, low_bytes, many_text, number_read, pair, pairs, past_blanks, spared, stop_at, two_decimals}
 use Rattle.uefi_node_steps.specs.Steps.{FitSteps, FitsLists, FitsShape, FitsStep, Step, class_of, class_of_shape, ends_all, field_leaf, fits_shape, follow, is_closed, is_sound_spare, is_sound_step, lists, shape_leaf, step_leaf, steps_leaf}
 use Rattle.uefi_node_steps.specs.Table.{are_alike, base_of, behind, head_of, is_omitted, lead, number_of_shape, refuses, reject, shapes_differ, strip}
 use Rattle.uefi_node_steps.specs.declared.steps.Expected.{Expected}

@@ -54,7 +54,8 @@ shape_keeps Next width e = number_keeps width (next_number (256 ^ width)) (subst
 shape_keeps Forth width e = from_digits_keeps (pairs width) (IsBytes width) (λ rest. true) (pairs_keeps width) (λ v f. hex_begins v (omega (arith, leb-true 1 width e, f.0)) f.1)
 shape_keeps Back width e = from_digits_keeps (backwards width) (IsBytes width) (λ rest. true) (backwards_keeps width) (λ v f. back_begins v (omega (arith, leb-true 1 width e, f.0)) f.1)
 shape_keeps BaseForth width e = based_keeps (pairs width) (IsBytes width) (λ rest. true) (pairs_keeps width)
-shape_keeps BaseBack width e = marked_keeps (based (backwards width)) (IsBytes width) (λ rest. true) (based_keeps (backwards width) (IsBytes width) (λ rest. true) (backwards_keeps width)) (λ v rest. refl)
+shape_keeps BaseBack width e = marked_keeps (based (backwards width)) (IsBytes width) (λ rest. true) (based_keeps (backwards width) (IsBytes width) (λ rest. true)
+    (backwards_keeps width)) (λ v rest. refl)
 shape_keeps (Apart letter) width e = apart_keeps letter width e
 shape_keeps Dashed width e = dashed_keeps width
 shape_keeps Guid width e = at_width _ 16 width _ e guid_keeps

@@ -43,7 +43,7 @@ module _ (size : ℕ) (some : 0 < size) where
   chunks_are items f = ap (λ (n : ℕ). first_chunks size n (concat items)) (ap (λ (n : ℕ). n / size) (counted items f) ∙ mul-div_left (length items) some) ∙ chunked items f
 
 -- how long the values of steps are
-sized : (lists : Items → List ℕ → Type 0) (step : Step) (v : List ℕ) → FitsStep lists step v → Sized step v
+pub sized : (lists : Items → List ℕ → Type 0) (step : Step) (v : List ℕ) → FitsStep lists step v → Sized step v
 sized lists (Literal letters) v f = f
 sized lists (Field f) v g = by f.shape g
   where

@@ -12,7 +12,7 @@ use Rattle.uefi_node_steps.specs.declared.steps.StepOf.TheVariants.{Literal, Fie
 use Rattle.uefi_node_steps.proofs.Combinations.{Keeps, mapped_keeps}
 
 -- bytes at the place of a field
-abbrev put : FieldOf → List ℕ → List ℕ → List ℕ
+abbrev pub put : FieldOf → List ℕ → List ℕ → List ℕ
 put f bytes content = take f.place content ++ (bytes ++ drop f.width (drop f.place content))
 
 abbrev at : FieldOf → List ℕ → List ℕ
@@ -51,7 +51,7 @@ module _ (fits : Step → List ℕ → Type 0) (sized : (step : Step) (v : List 
   within f s = leb-true _ _ (and_parts _ _ s).0
 
   -- the value of a step lies where it was put, and the others where they were
-  put_part_size : (step : Step) (v : List ℕ) (data_ : Parts) → is_sound_step size step ≡ true → Sized step v → length data_.0 ≡ size
+  pub put_part_size : (step : Step) (v : List ℕ) (data_ : Parts) → is_sound_step size step ≡ true → Sized step v → length data_.0 ≡ size
       → length (put_part step v data_).0 ≡ size
   put_part_size (Literal letters) v data_ s f l = l
   put_part_size (Field f) v data_ s w l = length-put f v data_.0 w (omega (arith, within f s)) ∙ l

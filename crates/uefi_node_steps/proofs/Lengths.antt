@@ -1,5 +1,5 @@
 -- How long texts are: each byte of a node makes room for four letters.
-use Rattle.std.proofs.Common.{◌≡◌, ℕ, zero, suc, ◌+◌, ◌-◌, ◌*◌, ◌/◌, ◌<◌, ◌≤◌, max, Bool, true, false, cond, eqb, leb, List, [], ◌∷◌, ◌++◌, ◌&&◌, length, length-append, length-drop, length-take, map, take, drop, refl, subst, arith}
+use Rattle.std.proofs.Common.{◌≡◌, ℕ, zero, suc, ◌+◌, ◌-◌, ◌*◌, ◌/◌, ◌<◌, ◌≤◌, max, Bool, true, false, cond, eqb, leb, List, [], ◌∷◌, ◌++◌, ◌&&◌, length, length-append, length-drop, length-take, map, take, drop, refl, arith}
 use Rattle.std.proofs.lemmas.Bool.{and_parts, leb-true}
 use Rattle.std.proofs.lemmas.List.Elements.{All-drop, All-take}
 use Rattle.std.proofs.Math.Nat.{div-mul-le_self}
@@ -17,8 +17,8 @@ use Rattle.uefi_device_nodes.proofs.FieldLengths.{back_within, comma_within, das
 use Rattle.uefi_node_steps.specs.Leaves.{ByteLeaf, Word, behind_each, between, decimal, in_bytes, many_text, pairs, spared, suits, word_text}
 use Rattle.uefi_node_steps.specs.Lengths.{NodeTextsAreBounded, TextsAreBounded, has_width, is_bounded, longest, most_of_shape, most_of_step, most_of_steps, tails}
 use Rattle.uefi_node_steps.specs.NodeForms.{group_forms, node_forms}
-use Rattle.uefi_node_steps.specs.Nodes.{Node, find_form, node_text, parts_in, prints, text_in}
-use Rattle.uefi_node_steps.specs.Steps.{Laid, Parts, Step, chunks, data_leaf, field_leaf, fits_shape, item_leaf, item_of, lists, no_list, part_of, shape_leaf, step_leaf, steps_leaf, words_of}
+use Rattle.uefi_node_steps.specs.Nodes.{find_form, parts_in, prints, text_in}
+use Rattle.uefi_node_steps.specs.Steps.{Parts, Step, data_leaf, field_leaf, fits_shape, item_leaf, item_of, lists, no_list, part_of, shape_leaf, step_leaf, steps_leaf, words_of}
 use Rattle.uefi_node_steps.specs.Table.{Form, form_leaf}
 use Rattle.uefi_node_steps.specs.declared.steps.Encoding.{Encoding}
 use Rattle.uefi_node_steps.specs.declared.steps.Encoding.TheVariants as encoding

@@ -1,12 +1,13 @@
 pub mod Addresses
 pub mod CodeLaws
 pub mod Combinations
+pub mod Comparing
 pub mod DataLaws
 pub mod Differences
-pub mod FormLaws
 pub mod FieldLaws
 pub mod Ids
 pub mod Fills
+pub mod Heads
 pub mod ItemLaws
 pub mod Layouts
 pub mod LeafLaws
@@ -19,6 +20,8 @@ pub mod PackedTexts
 pub mod Prints
 pub mod ShortAddresses
 pub mod StepLaws
+pub mod Telling
 pub mod TableLaws
 pub mod TextLaws
+pub mod Walks
 pub mod WordLaws

@@ -1,5 +1,5 @@
 -- The laws of addresses of IP version 6.
-use Rattle.std.proofs.Common.{◌≡◌, ℕ, zero, suc, ◌+◌, ◌-◌, ◌*◌, ◌/◌, ◌%◌, ◌^◌, ◌<◌, ◌≤◌, refl, Bool, true, false, cond, eqb, leb, List, [], ◌∷◌, ◌++◌, codes, length, replicate, sym, ap, subst, ◌∙◌, arith, inl, inr, lit≤, length-append}
+use Rattle.std.proofs.Common.{◌≡◌, ℕ, zero, suc, ◌-◌, ◌*◌, ◌^◌, ◌<◌, ◌≤◌, refl, Bool, true, false, cond, eqb, leb, List, [], ◌∷◌, ◌++◌, codes, length, replicate, sym, ap, subst, ◌∙◌, arith, inl, inr, lit≤, length-append}
 use Rattle.std.specs.Prelude.{Option, Some, None, Ok, Err}
 use Rattle.std.specs.Net.Addr.{octets_of, segments_of}
 use Rattle.std.specs.Net.Grammar.{IsColonHex, IsDotted, IsGroup, IsGroupsAfter}

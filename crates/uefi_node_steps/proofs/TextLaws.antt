@@ -124,6 +124,14 @@ strings_back stop (hid ∷ cid ∷ uid ∷ []) f =
     λ i. until_at 44 hid (uid ++ (0 ∷ (cid ++ (0 ∷ [])))) f.0 i ∷ (ap until_nul third ∙ until_at 44 cid [] f.1.0) i
     ∷ (ap until_nul second ∙ until_at stop uid (cid ++ (0 ∷ [])) f.1.1.0) i ∷ []
 
+-- the string of _UID alone is also three strings
+pub uid_ids : (stop : ℕ) (bytes : List ℕ) → IsUid stop bytes → AreIds stop bytes
+uid_ids stop bytes f =
+    let vs : List (List ℕ) = [] ∷ [] ∷ uid_string bytes ∷ [] in
+    let fit : FitStrings stop vs = (refl, (refl, (f.0, refl))) in
+    let same : id_strings bytes ≡ vs = ap id_strings (sym f.1) ∙ strings_back stop vs fit in
+    (subst (FitStrings stop) (sym same) fit, ap stored_strings same ∙ f.1)
+
 pub ids_keep : (stop : ℕ) → Keeps (ids_text stop) (AreIds stop) (ends_at (Clear stop))
 unfolding id_strings_text
 ids_keep stop = keeps_as coded id_strings_text (AreIds stop) (AreIds stop) (ends_at (Clear stop))

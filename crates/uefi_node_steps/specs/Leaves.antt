@@ -202,8 +202,8 @@ ends_at Number text = next_is_no is_of_number text
 ends_at Bytes text = next_is_no (λ c. is_of_number c || ((c == 44) || is_blank c)) text
 ends_at (Clear stop) text = next_is_no (is_clear stop) text
 
--- the number of all digits at the start of a text, after digits with the value `n`, and the rest of the text;
--- none if the number is not below `limit`
+-- the number of all digits at the start of a text, after digits with the value `n`, and the rest of the
+-- text; none if the number is not below `limit`
 abbrev pub digits_read : ℕ → ℕ → ℕ → List ℕ → Option (ℕ × List ℕ)
 digits_read base limit n [] = Some (n, [])
 digits_read base limit n (c ∷ cs) = if nat_lt (digit_of (to_ascii_uppercase c)) base
@@ -305,8 +305,8 @@ abbrev pub two_decimals : List ℕ → Bool
 two_decimals [] = false
 two_decimals (c ∷ cs) = has_digit 10 (c ∷ []) && has_digit 10 cs
 
--- a leaf that is printed with `0x`, where some programs print the hexadecimal digits alone: people may leave out
--- the `0x` only before a single decimal digit
+-- a leaf that is printed with `0x`, where some programs print the hexadecimal digits alone: people may
+-- leave out the `0x` only before a single decimal digit
 abbrev pub marked : {V : Type 0} → Leaf V → Leaf V
 marked leaf = record {
   text = leaf.text;
@@ -381,8 +381,8 @@ address_run [] = ([], [])
 address_run (c ∷ cs) = if ends_address c then ([], c ∷ cs)
     else (c ∷ (address_run cs).0, (address_run cs).1)
 
--- the octets of the address that a whole text encodes (RFC 4291, section 2.2); the longest text is that of eight
--- segments, of which an address of version 4 stands for the last two
+-- the octets of the address that a whole text encodes (RFC 4291, section 2.2); the longest text is that of
+-- eight segments, of which an address of version 4 stands for the last two
 unfoldable pub address_octets : List ℕ → Option (List ℕ)
 address_octets text = if nat_le (length text) 45
     then option_map octets_of (whole_value (read_ipv6 text)) else None

@@ -1,5 +1,5 @@
 -- How long the texts of nodes are.
-use Rattle.std.specs.Prelude.{◌≡◌, ◌<◌, ℕ, ◌+◌, ◌*◌, Bool, true, false, max, nat_le, nat_lt, ◌&&◌, List, [], ◌∷◌, All, length}
+use Rattle.std.specs.Prelude.{◌≡◌, ◌<◌, ℕ, ◌+◌, ◌*◌, Bool, true, max, nat_le, nat_lt, ◌&&◌, List, [], ◌∷◌, All, length}
 use Rattle.std.specs.List.{list_all}
 use Rattle.uefi_text.specs.Packed.{IsByte}
 use Rattle.uefi_node_steps.specs.Leaves.{Word}

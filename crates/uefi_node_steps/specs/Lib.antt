@@ -1,3 +1,4 @@
+pub mod Heads
 pub mod Leaves
 pub mod Lengths
 pub mod NodeForms

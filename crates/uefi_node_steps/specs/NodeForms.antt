@@ -1,5 +1,7 @@
 -- The forms of nodes, in their groups.
-use Rattle.std.specs.Prelude.{ℕ, zero, suc, ◌+◌, ◌==◌, if◌then◌else◌, List, [], ◌++◌, map}
+use Rattle.std.specs.Prelude.{◌≡◌, ℕ, zero, suc, ◌+◌, ◌==◌, true, if◌then◌else◌, List, [], ◌++◌, map}
+use Rattle.std.specs.List.{list_all}
+use Rattle.uefi_node_steps.specs.Heads.{can_tell, is_laid}
 use Rattle.uefi_node_steps.specs.Nodes.{ReadsNodes}
 use Rattle.uefi_node_steps.specs.Table.{Form, as_form}
 use Rattle.uefi_node_steps.specs.declared.table.TheConstants.{HARDWARE, ACPI, SAS, SAS_IN_BAYS, SAS_EX, MESSAGING, IPV4, IPV6, IPV6_SHORT, USB_CLASSES, MEDIA, BOOT, TYPED_ACPI, TYPED_MESSAGING, TYPED_IPV6, TYPED_MEDIA, LIBEFIVAR}
@@ -36,3 +38,7 @@ node_forms = forms_from 0 17
 -- they are read as a table that is read
 abbrev pub NodesRead : Type 0
 NodesRead = ReadsNodes node_forms
+
+-- code finds out which of their nodes are told, and prints them
+abbrev pub NodesTell : Type 0
+NodesTell = (can_tell node_forms ≡ true) × (list_all is_laid node_forms ≡ true)

@@ -1,8 +1,8 @@
 -- Nodes as the forms of a table print and read them.
-use Rattle.std.specs.Prelude.{◌≡◌, ◌≤◌, ℕ, ◌+◌, Bool, true, false, nat_eq, nat_le, ◌==◌, ◌&&◌, if◌then◌else◌, List, [], ◌∷◌, ◌++◌, length, take, drop, slice_index, Option, Some, None, Ok, Err}
+use Rattle.std.specs.Prelude.{◌≡◌, ◌≤◌, ℕ, ◌+◌, Bool, true, false, nat_eq, nat_le, ◌==◌, ◌&&◌, if◌then◌else◌, List, [], ◌∷◌, ◌++◌, length, take, drop, slice_index, Option, Some, None, Result, Ok, Err}
 use Rattle.std.specs.Cmp.Lexicographic.{pointwise}
 use Rattle.std.specs.List.{list_all}
-use Rattle.uefi_node_steps.specs.Leaves.{Read, ◌>>=◌, first_of, stop_at}
+use Rattle.uefi_node_steps.specs.Leaves.{Read, ◌>>=◌, stop_at}
 use Rattle.uefi_node_steps.specs.Steps.{Parts}
 use Rattle.uefi_node_steps.specs.Table.{FitsForm, Form, all_differ, are_sound, form_leaf, forms_read, is_exact}
 use Rattle.uefi_node_steps.specs.declared.steps.Expected.TheVariants as expected
@@ -84,18 +84,26 @@ if_told forms text x = if tells (find_form (prints false (node_of x.0)) forms) (
 abbrev pub told_read : List Form → List ℕ → Read Node
 told_read forms text = forms_read forms text >>= if_told forms text
 
--- where a text differs from what is printed
-abbrev pub difference : List ℕ → List ℕ → Stop
-difference [] printed = stop_at [] (expected.Letter (first_of printed))
-difference (c ∷ cs) [] = stop_at (c ∷ cs) expected.AsPrinted
-difference (c ∷ cs) (d ∷ ds) = if c == d then difference cs ds else stop_at (c ∷ cs) (expected.Letter d)
+-- what is left of a text after the letters that are printed, or where it differs from them
+abbrev pub printed_read : List ℕ → List ℕ → Result (List ℕ) Stop
+printed_read [] text = Ok text
+printed_read (d ∷ ds) [] = Err (stop_at [] (expected.Letter d))
+printed_read (d ∷ ds) (c ∷ cs) = if c == d then printed_read ds cs else Err (stop_at (c ∷ cs)
+    (expected.Letter d))
 
--- a node that was read, if its text and the rest are the whole text
+-- what is left of a text after more letters
+abbrev pub then_printed : Result (List ℕ) Stop → List ℕ → Result (List ℕ) Stop
+then_printed left text = left >>= printed_read text
+
+-- a node and what is left of a text
+abbrev pub with_rest : Node → List ℕ → Read Node
+with_rest node rest = Ok (node, rest)
+
+-- a node that was read, if the text begins with the text that is printed for it
 abbrev pub if_exact : List Form → List ℕ → Node × List ℕ → Read Node
-if_exact forms text read = if pointwise nat_eq text (node_text false forms read.0 ++ read.1)
-    then Ok read else Err (difference text (node_text false forms read.0 ++ read.1))
+if_exact forms text read = printed_read (node_text false forms read.0) text >>= with_rest read.0
 
--- the node at the start of a text that equals the text printed for it
+-- the node at the start of a text that begins with the text printed for it
 abbrev pub exact_read : List Form → List ℕ → Read Node
 exact_read forms text = told_read forms text >>= if_exact forms text
 

@@ -1,5 +1,6 @@
 -- The texts of steps, as code prints them.
-use Rattle.std.specs.Prelude.{ℕ, ◌+◌, Bool, true, false, nat_le, ◌&&◌, List, [], ◌++◌}
+use Rattle.std.specs.Prelude.{ℕ, ◌+◌, Bool, true, false, nat_le, ◌&&◌, List, [], ◌++◌, map}
+use Rattle.std.specs.Borrow.{Bor}
 use Rattle.std.specs.List.{flat_map}
 use Rattle.uefi_node_steps.specs.Leaves.{ByteLeaf}
 use Rattle.uefi_node_steps.specs.Steps.{Parts, Step, fits_shape, is_flat, no_list, part_of, step_leaf}
@@ -32,6 +33,17 @@ form_by steps bytes form = record {
     steps = steps form.layout.steps;
   };
 }
+
+-- a step and a form, as code sees them
+abbrev pub code_step : StepOf (Bor (List ℕ)) → Step
+code_step step = step_by (λ (l : Bor (List ℕ)). l.now) step
+
+abbrev pub code_steps : List (StepOf (Bor (List ℕ))) → List Step
+code_steps steps = map code_step steps
+
+abbrev pub code_form : FormOf (Bor (List (StepOf (Bor (List ℕ))))) (Bor (List (ℕ × ℕ))) → Form
+code_form form = form_by (λ (s : Bor (List (StepOf (Bor (List ℕ))))). code_steps s.now)
+    (λ (b : Bor (List (ℕ × ℕ))). b.now) form
 
 -- the text of a step of data, given that of the lists
 abbrev pub step_text : (Items → ByteLeaf) → Parts → Step → List ℕ

@@ -297,7 +297,8 @@ AreIds stop bytes = FitStrings stop (id_strings bytes) × (stored_strings (id_st
 
 -- data of a device without other strings than that of _UID
 abbrev pub IsUid : ℕ → List ℕ → Type 0
-IsUid stop bytes = IsClear stop (uid_string bytes) × (stored_strings ([] ∷ [] ∷ uid_string bytes ∷ []) ≡ bytes)
+IsUid stop bytes = IsClear stop (uid_string bytes)
+    × (stored_strings ([] ∷ [] ∷ uid_string bytes ∷ []) ≡ bytes)
 
 -- data that its encoding describes completely
 abbrev pub FitsData : Encoding → List ℕ → Type 0

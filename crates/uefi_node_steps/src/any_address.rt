@@ -10,7 +10,8 @@ use crate::leaves::{is_blank, letters, past_blanks};
 use crate::texts::Text;
 use std::net::Ipv6Addr;
 
-/// The number of letters of the longest text of an address, `ffff:ffff:ffff:ffff:ffff:ffff:255.255.255.255`.
+/// The number of letters of the longest text of an address,
+/// `ffff:ffff:ffff:ffff:ffff:ffff:255.255.255.255`.
 const LONGEST_ADDRESS: usize = 45;
 
 /// Returns whether a letter ends an address.
@@ -20,8 +21,8 @@ fn ends_address(letter: u8) -> bool
     letter == b',' || letter == b')' || letter == b']' || is_blank(letter)
 }
 
-/// Copies the letters of an address, and returns how many there are and the rest of the text. Returns `None` if
-/// the buffer is too short for them.
+/// Copies the letters of an address, and returns how many there are and the rest of the text. Returns
+/// `None` if the buffer is too short for them.
 fn copy_address<T: Text>(found: &mut [u8], text: T) -> Option<(usize, T)>
     ensures { MatchOption result (length found.old < length (address_run (T.codes text)).0)
         (λ x. (x.0 ≤ length found.new) × (take x.0 found.new ≡ (address_run (T.codes text)).0)

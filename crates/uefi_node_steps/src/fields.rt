@@ -344,7 +344,8 @@ fn fill_ipv6<T: Text>(found: &mut [u8], text: T) -> Result<T, Stop>
 fn fill_marked<T: Text>(found: &mut [u8], text: T) -> Result<T, Stop>
     requires some { 1 ≤ length found.old }
     requires few { length found.old ≤ 8 }
-    ensures { filled_with T.codes found.new result ≡ (shape_leaf Marked (length found.old)).read (T.codes text) }
+    ensures { filled_with T.codes found.new result
+        ≡ (shape_leaf Marked (length found.old)).read (T.codes text) }
 {
     if two_decimals(past_blanks(text)) {
         return Err(stop_at(text, Expected::Base));
@@ -358,9 +359,11 @@ fn fill_marked<T: Text>(found: &mut [u8], text: T) -> Result<T, Stop>
     )
 }
 
-/// Fills a buffer with bytes of two digits each, the last byte first, which some programs print without `0x`.
+/// Fills a buffer with bytes of two digits each, the last byte first, which some programs print without
+/// `0x`.
 fn fill_base_back<T: Text>(found: &mut [u8], text: T) -> Result<T, Stop>
-    ensures { filled_with T.codes found.new result ≡ (shape_leaf BaseBack (length found.old)).read (T.codes text) }
+    ensures { filled_with T.codes found.new result
+        ≡ (shape_leaf BaseBack (length found.old)).read (T.codes text) }
 {
     if two_decimals(past_blanks(text)) {
         return Err(stop_at(text, Expected::Base));

@@ -3,7 +3,7 @@
 
 ghost use Rattle.std.specs.List.{list_all};
 ghost use Rattle.std.specs.Prelude.{◌≡◌, ◌<◌, ◌≤◌, IsTrue, map};
-ghost use Rattle.uefi_node_steps.specs.Printing.{is_item_step, step_by};
+ghost use Rattle.uefi_node_steps.specs.Printing.{code_steps, is_item_step};
 ghost use Rattle.uefi_node_steps.specs.Steps.{is_flat, is_sound_step, item_of};
 
 use crate::steps::{Field, Items, Layout, LayoutOf, Shape, StepOf};
@@ -56,14 +56,12 @@ pub const IPV6_ADDRESSES: Layout = LayoutOf {
 /// Returns the items of a list.
 pub(crate) fn item_of(items: Items) -> Layout
     ensures size { result.size ≡ (item_of items).size }
-    ensures steps { map (step_by (λ l. l.now)) result.steps.now ≡ (item_of items).steps }
+    ensures steps { code_steps result.steps.now ≡ (item_of items).steps }
     ensures some { 0 < result.size }
     ensures few { result.size ≤ 16 }
-    ensures laid { IsTrue (list_all (is_item_step result.size) (map (step_by
-        (λ l. l.now)) result.steps.now)) }
-    ensures sound { IsTrue (list_all (is_sound_step result.size) (map (step_by
-        (λ l. l.now)) result.steps.now)) }
-    ensures flat { IsTrue (list_all is_flat (map (step_by (λ l. l.now)) result.steps.now)) }
+    ensures laid { IsTrue (list_all (is_item_step result.size) (code_steps result.steps.now)) }
+    ensures sound { IsTrue (list_all (is_sound_step result.size) (code_steps result.steps.now)) }
+    ensures flat { IsTrue (list_all is_flat (code_steps result.steps.now)) }
 {
     match items {
         Items::Numbers => NUMBERS,

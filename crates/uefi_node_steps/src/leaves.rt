@@ -20,8 +20,8 @@ pub(crate) fn stop_at<T: Text>(text: T, expected: Expected) -> Stop
     }
 }
 
-/// Returns whether a letter is skipped between the parts of a call: a blank, a line end, or a brace around a
-/// GUID.
+/// Returns whether a letter is skipped between the parts of a call: a blank, a line end, or a brace around
+/// a GUID.
 pub(crate) fn is_blank(letter: u8) -> bool
     ensures { result ≡ is_blank letter }
 {

@@ -5,13 +5,15 @@
 //! laws: what it prints is read back, and whatever it reads is a value that it prints. Combinations
 //! of leaves keep these laws, and so does a whole table of forms.
 //!
-//! Texts are read as people write them: in either case, with blanks between the letters, and with numbers in
-//! decimal or in hexadecimal. An exact text equals the text that is printed for what was read.
+//! Texts are read as people write them: in either case, with blanks between the letters, and with numbers
+//! in decimal or in hexadecimal. An exact text equals the text that is printed for what was read.
 #![tactic(auto)]
 
 mod any_address;
+pub mod exact;
 mod fields;
 pub mod forms;
+pub mod head;
 pub mod items;
 pub mod laws;
 mod leaves;
@@ -23,4 +25,6 @@ pub mod reading;
 pub mod steps;
 pub mod table;
 pub mod texts;
+pub mod told;
+pub mod walk;
 pub mod words;

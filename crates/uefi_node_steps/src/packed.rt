@@ -56,9 +56,9 @@ macro_rules! bytes {
     };
 }
 
-/// Forms: what one form or more of a kind share, which is the type, the sub-type, the mode, the number of fixed
-/// bytes and the least number of further bytes; and for each of them the numbers of the bytes that distinguish
-/// it, of the other bytes, of the text that it begins with and of the steps after it.
+/// Forms: what one form or more of a kind share, which is the type, the sub-type, the mode, the number of
+/// fixed bytes and the least number of further bytes; and for each of them the numbers of the bytes that
+/// distinguish it, of the other bytes, of the text that it begins with and of the steps after it.
 macro_rules! forms {
     ($($kind:literal $sub_kind:literal $mode:ident $size:literal $more:literal
         => $($when:literal $bytes:literal $start:literal $others:literal),+);+) => {

@@ -1,11 +1,11 @@
-//! Texts, steps and bytes of the packed table, each kind in one constant. So the table contains no pointer, and
-//! firmware that loads a program relocates nothing in it.
+//! Texts, steps and bytes of the packed table, each kind in one constant. So the table contains no pointer,
+//! and firmware that loads a program relocates nothing in it.
 #![tactic(auto)]
 
 ghost use Rattle.std.specs.Prelude.{◌≡◌, slice_index};
 ghost use Rattle.uefi_device_nodes.specs.Parts.{part_of};
 ghost use Rattle.uefi_node_steps.specs.Parts.{other_steps, packed_bytes, packed_step, packed_text};
-ghost use Rattle.uefi_node_steps.specs.Printing.{step_by};
+ghost use Rattle.uefi_node_steps.specs.Printing.{code_step};
 
 use crate::packed::{BYTE_STARTS, BYTES, STEP_STARTS, STEPS, TEXT_STARTS, TEXTS};
 use crate::parts::{PackedBytes, PackedStep, PackedSteps, PackedText};
@@ -66,7 +66,7 @@ impl PackedSteps {
 impl PackedStep {
     /// Returns the step, unpacked.
     pub fn unpacked(self) -> Step
-        ensures { step_by (λ l. l.now) result ≡ packed_step self }
+        ensures { code_step result ≡ packed_step self }
     {
         match self {
             PackedStep::Literal(text) => StepOf::Literal(text.as_str()),

@@ -10,7 +10,7 @@ ghost use Rattle.uefi_device_nodes.specs.Guids.{guid_text};
 ghost use Rattle.uefi_node_steps.specs.Leaves.{decimal, ipv4, ipv6, suits, word_text, zero_text};
 ghost use Rattle.uefi_node_steps.specs.Steps.{chunks, data_leaf, fits_shape, lists, no_list, shape_leaf, word_by};
 ghost use Rattle.uefi_node_steps.specs.declared.steps.Shape.TheVariants.{Next};
-ghost use Rattle.uefi_node_steps.specs.Printing.{is_item_step, items_text, is_laid_step, is_printed_shape, step_by, step_text, steps_text};
+ghost use Rattle.uefi_node_steps.specs.Printing.{code_step, code_steps, is_item_step, is_laid_step, is_printed_shape, items_text, step_text, steps_text};
 
 use crate::items::item_of;
 use crate::steps::{Encoding, Items, Layout, Shape, Step, StepOf};
@@ -26,7 +26,7 @@ use uefi_text::number_texts::put_digits;
 use uefi_text::text_sink::TextSink;
 
 /// Returns the number that bytes encode, the low byte first.
-fn number_of(bytes: &[u8]) -> u64
+pub(crate) fn number_of(bytes: &[u8]) -> u64
     requires { length bytes.now ≤ 8 }
     ensures number { result ≡ little_endian bytes.now }
     ensures small { result < 256 ^ length bytes.now }
@@ -115,7 +115,7 @@ fn put_ipv6<S: TextSink>(sink: &mut S, bytes: &[u8])
 }
 
 /// Returns whether a word stands for a number.
-fn suits(word: &Word, number: u64) -> bool
+pub(crate) fn suits(word: &Word, number: u64) -> bool
     ensures { result ≡ suits number (word_by (λ l. l.now) word.now) }
 {
     word.mask == 0 || number & word.mask == word.number
@@ -184,9 +184,9 @@ fn put_data<S: TextSink>(sink: &mut S, encoding: Encoding, bytes: &[u8])
 
 /// Puts a literal or a field of a fixed part.
 fn put_item_step<S: TextSink>(sink: &mut S, step: &Step, fixed: &[u8])
-    requires { IsTrue (is_item_step (length fixed.now) (step_by (λ l. l.now) step.now)) }
-    ensures { WritesInCalls S.puts sink.old (step_text no_list (fixed.now, []) (step_by
-        (λ l. l.now) step.now)) sink.new }
+    requires { IsTrue (is_item_step (length fixed.now) (code_step step.now)) }
+    ensures { WritesInCalls S.puts sink.old (step_text no_list (fixed.now, [])
+        (code_step step.now)) sink.new }
 {
     match step {
         StepOf::Literal(letters) => sink.put_str(letters),
@@ -201,9 +201,9 @@ fn put_item_step<S: TextSink>(sink: &mut S, step: &Step, fixed: &[u8])
 
 /// Puts an item of a list.
 fn put_item<S: TextSink>(sink: &mut S, steps: &[Step], fixed: &[u8])
-    requires { IsTrue (list_all (is_item_step (length fixed.now)) (map (step_by (λ l. l.now)) steps.now)) }
-    ensures { WritesInCalls S.puts sink.old (steps_text no_list (fixed.now, []) (map (step_by
-        (λ l. l.now)) steps.now)) sink.new }
+    requires { IsTrue (list_all (is_item_step (length fixed.now)) (code_steps steps.now)) }
+    ensures { WritesInCalls S.puts sink.old (steps_text no_list (fixed.now, [])
+        (code_steps steps.now)) sink.new }
 {
     for step in steps {
         put_item_step(sink, step, fixed);
@@ -213,10 +213,9 @@ fn put_item<S: TextSink>(sink: &mut S, steps: &[Step], fixed: &[u8])
 /// Puts the whole items of a list.
 fn put_list<S: TextSink>(sink: &mut S, item: &Layout, bytes: &[u8])
     requires some { 0 < item.now.size }
-    requires laid { IsTrue (list_all (is_item_step item.now.size) (map (step_by
-        (λ l. l.now)) item.now.steps.now)) }
+    requires laid { IsTrue (list_all (is_item_step item.now.size) (code_steps item.now.steps.now)) }
     ensures { WritesInCalls S.puts sink.old
-        (items_text (map (step_by (λ l. l.now)) item.now.steps.now)
+        (items_text (code_steps item.now.steps.now)
         (chunks item.now.size bytes.now)) sink.new }
 {
     let mut rest = bytes;
@@ -236,9 +235,9 @@ fn put_items<S: TextSink>(sink: &mut S, items: Items, bytes: &[u8])
 
 /// Puts a step of a node's data: the fixed part, and the data after it.
 fn put_step<S: TextSink>(sink: &mut S, step: &Step, fixed: &[u8], tail: &[u8])
-    requires { IsTrue (is_laid_step (length fixed.now) (step_by (λ l. l.now) step.now)) }
-    ensures { WritesInCalls S.puts sink.old (step_text lists (fixed.now, tail.now) (step_by
-        (λ l. l.now) step.now)) sink.new }
+    requires { IsTrue (is_laid_step (length fixed.now) (code_step step.now)) }
+    ensures { WritesInCalls S.puts sink.old (step_text lists (fixed.now, tail.now)
+        (code_step step.now)) sink.new }
 {
     match step {
         StepOf::Literal(letters) => sink.put_str(letters),
@@ -253,9 +252,9 @@ fn put_step<S: TextSink>(sink: &mut S, step: &Step, fixed: &[u8], tail: &[u8])
 
 /// Puts the steps of a form, from a node's data: the fixed part, and the data after it.
 pub fn put_steps<S: TextSink>(sink: &mut S, steps: &[Step], fixed: &[u8], tail: &[u8])
-    requires { IsTrue (list_all (is_laid_step (length fixed.now)) (map (step_by (λ l. l.now)) steps.now)) }
-    ensures { WritesInCalls S.puts sink.old (steps_text lists (fixed.now, tail.now) (map (step_by
-        (λ l. l.now)) steps.now)) sink.new }
+    requires { IsTrue (list_all (is_laid_step (length fixed.now)) (code_steps steps.now)) }
+    ensures { WritesInCalls S.puts sink.old (steps_text lists (fixed.now, tail.now)
+        (code_steps steps.now)) sink.new }
 {
     for step in steps {
         put_step(sink, step, fixed, tail);

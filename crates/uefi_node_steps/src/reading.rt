@@ -6,7 +6,7 @@ ghost use Rattle.std.specs.Prelude.{◌≡◌, ◌++◌, [], IsTrue, length, map
 ghost use Rattle.std.proofs.Math.ListN.{replicate};
 ghost use Rattle.uefi_text.specs.UnitBytes.{unit_bytes};
 ghost use Rattle.uefi_node_steps.specs.Leaves.{after_first, bytes_after_comma, clear_run, has_pair, ids_text, is_clear, many, padded_text, pair};
-ghost use Rattle.uefi_node_steps.specs.Printing.{step_by};
+ghost use Rattle.uefi_node_steps.specs.Printing.{code_step, code_steps};
 ghost use Rattle.uefi_node_steps.specs.Steps.{data_leaf, field_leaf, fits_shape, is_flat, is_sound_step, item_leaf, item_of, lists, no_list};
 ghost use Rattle.uefi_node_steps.specs.Views.{after_these, filled_with, step_in, steps_in};
 
@@ -210,10 +210,10 @@ fn read_data<T: Text, S: Sink>(encoding: Encoding, tail: &mut S, text: T) -> Res
 
 /// Reads a literal or a field of an item.
 fn read_item_step<T: Text>(step: &Step, fixed: &mut [u8], text: T) -> Result<T, Stop>
-    requires sound { IsTrue (is_sound_step (length fixed.old) (step_by (λ l. l.now) step.now)) }
-    requires flat { IsTrue (is_flat (step_by (λ l. l.now) step.now)) }
+    requires sound { IsTrue (is_sound_step (length fixed.old) (code_step step.now)) }
+    requires flat { IsTrue (is_flat (code_step step.now)) }
     ensures { filled_with T.codes (fixed.new, []) result
-        ≡ step_in no_list (step_by (λ l. l.now) step.now) (fixed.old, []) (T.codes text) }
+        ≡ step_in no_list (code_step step.now) (fixed.old, []) (T.codes text) }
 {
     match step {
         StepOf::Literal(letters) => literal(letters.as_bytes(), text),
@@ -227,11 +227,10 @@ fn read_item_step<T: Text>(step: &Step, fixed: &mut [u8], text: T) -> Result<T, 
 
 /// Reads the steps of an item into its data.
 fn read_item<T: Text>(steps: &[Step], fixed: &mut [u8], text: T) -> Result<T, Stop>
-    requires sound { IsTrue (list_all (is_sound_step (length fixed.old)) (map (step_by
-        (λ l. l.now)) steps.now)) }
-    requires flat { IsTrue (list_all is_flat (map (step_by (λ l. l.now)) steps.now)) }
+    requires sound { IsTrue (list_all (is_sound_step (length fixed.old)) (code_steps steps.now)) }
+    requires flat { IsTrue (list_all is_flat (code_steps steps.now)) }
     ensures { filled_with T.codes (fixed.new, []) result
-        ≡ steps_in no_list (map (step_by (λ l. l.now)) steps.now) (fixed.old, []) (T.codes text) }
+        ≡ steps_in no_list (code_steps steps.now) (fixed.old, []) (T.codes text) }
 {
     let mut rest = text;
     for step in steps {
@@ -241,7 +240,7 @@ fn read_item<T: Text>(steps: &[Step], fixed: &mut [u8], text: T) -> Result<T, St
 }
 
 /// Puts bytes.
-fn put_all<S: Sink>(tail: &mut S, bytes: &[u8])
+pub(crate) fn put_all<S: Sink>(tail: &mut S, bytes: &[u8])
     ensures { S.content tail.new ≡ S.content tail.old ++ bytes.now }
 {
     for byte in bytes {
@@ -287,9 +286,9 @@ fn read_step<T: Text, S: Sink>(
     tail: &mut S,
     text: T,
 ) -> Result<T, Stop>
-    requires { IsTrue (is_sound_step (length fixed.old) (step_by (λ l. l.now) step.now)) }
+    requires { IsTrue (is_sound_step (length fixed.old) (code_step step.now)) }
     ensures { filled_with T.codes (fixed.new, S.content tail.new) result
-        ≡ step_in lists (step_by (λ l. l.now) step.now) (fixed.old, S.content tail.old) (T.codes text) }
+        ≡ step_in lists (code_step step.now) (fixed.old, S.content tail.old) (T.codes text) }
 {
     match step {
         StepOf::Literal(letters) => literal(letters.as_bytes(), text),
@@ -309,10 +308,9 @@ pub fn read_steps<T: Text, S: Sink>(
     tail: &mut S,
     text: T,
 ) -> Result<T, Stop>
-    requires { IsTrue (list_all (is_sound_step (length fixed.old)) (map (step_by
-        (λ l. l.now)) steps.now)) }
+    requires { IsTrue (list_all (is_sound_step (length fixed.old)) (code_steps steps.now)) }
     ensures { filled_with T.codes (fixed.new, S.content tail.new) result
-        ≡ steps_in lists (map (step_by (λ l. l.now)) steps.now) (fixed.old, S.content tail.old)
+        ≡ steps_in lists (code_steps steps.now) (fixed.old, S.content tail.old)
         (T.codes text) }
 {
     let mut rest = text;

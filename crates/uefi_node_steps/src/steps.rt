@@ -24,8 +24,6 @@ pub enum Expected {
     Letters(usize),
     /// The name of a node.
     Node,
-    /// The text that is printed for the node.
-    AsPrinted,
     /// A form that describes the whole node.
     Untold,
 }
@@ -59,8 +57,8 @@ pub enum Words {
 pub enum Shape {
     /// A number, its low byte first: `0x`, and hexadecimal digits without leading zeros.
     Hexadecimal,
-    /// As `Hexadecimal`, for a number that some programs print without `0x`. People may leave out the `0x` only
-    /// before a single decimal digit.
+    /// As `Hexadecimal`, for a number that some programs print without `0x`. People may leave out the `0x`
+    /// only before a single decimal digit.
     Marked,
     /// A number, its low byte first, in decimal.
     Decimal,
@@ -137,8 +135,8 @@ pub enum Items {
     Ipv6,
 }
 
-/// A step of a form. `T` is a text. It is a parameter because no contract can name a constant whose type has
-/// a reference of its own.
+/// A step of a form. `T` is a text. It is a parameter because no contract can name a constant whose type
+/// has a reference of its own.
 #[derive(Clone, Copy)]
 pub enum StepOf<T> {
     /// These letters.
@@ -151,12 +149,14 @@ pub enum StepOf<T> {
     Many(Items),
 }
 
-/// Data with fields: a form of nodes, or an item of a list. `S` is a list of steps, and `B` a list of bytes.
+/// Data with fields: a form of nodes, or an item of a list. `S` is a list of steps, and `B` a list of
+/// bytes.
 #[derive(Clone, Copy)]
 pub struct LayoutOf<S, B> {
     /// The number of bytes of the fixed part.
     pub size: usize,
-    /// Bytes of the fixed part that belong to no field and are not zero, each with its offset and its value.
+    /// Bytes of the fixed part that belong to no field and are not zero, each with its offset and its
+    /// value.
     pub bytes: B,
     /// The steps of its text.
     pub steps: S,
@@ -184,8 +184,8 @@ pub enum Mode {
     People,
 }
 
-/// A form of the nodes of one kind. A node is printed in the first form of the table that is printed and fits
-/// it. `S` is a list of steps, and `B` a list of bytes.
+/// A form of the nodes of one kind. A node is printed in the first form of the table that is printed and
+/// fits it. `S` is a list of steps, and `B` a list of bytes.
 #[derive(Clone, Copy)]
 pub struct FormOf<S, B> {
     /// The type.

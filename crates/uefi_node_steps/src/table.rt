@@ -1,6 +1,6 @@
-//! The table of kinds of nodes (UEFI Specification 2.10, sections 10.3 and 10.6.1), with the steps of each form
-//! that a node is printed or read in. If steps can describe the text of a kind, only the table contains it. The
-//! table that firmware contains is `packed.rt`.
+//! The table of kinds of nodes (UEFI Specification 2.10, sections 10.3 and 10.6.1), with the steps of each
+//! form that a node is printed or read in. If steps can describe the text of a kind, only the table
+//! contains it. The table that firmware contains is `packed.rt`.
 #![tactic(auto)]
 
 ghost use Rattle.std.specs.Prelude.{◌≡◌, ◌≤◌, length, map};
@@ -79,8 +79,8 @@ macro_rules! spare {
     };
 }
 
-/// Makes a field from its shape and its name in the kind's module, or a part of a field from the part's offset
-/// in the field and its width.
+/// Makes a field from its shape and its name in the kind's module, or a part of a field from the part's
+/// offset in the field and its width.
 macro_rules! field {
     ($of:tt $shape:ident $(($argument:expr))? $at:ident + $part:literal $width:literal) => {
         Field {
@@ -100,8 +100,8 @@ macro_rules! field {
     };
 }
 
-/// Makes the steps of a form, after the kind: a literal is a text, a field stands in parentheses, data after the
-/// fixed part in braces with the letter that ends it, and the items of a list in brackets.
+/// Makes the steps of a form, after the kind: a literal is a text, a field stands in parentheses, data
+/// after the fixed part in braces with the letter that ends it, and the items of a list in brackets.
 macro_rules! steps {
     ($of:tt [$($done:expr),*]) => { &[$($done),*] };
     ($of:tt [$($done:expr),*] $text:literal $($rest:tt)*) => {
@@ -118,9 +118,10 @@ macro_rules! steps {
     };
 }
 
-/// Makes bytes from fields. A name without a field is that of a GUID, the first 16 bytes of a vendor-defined
-/// node: D487DDB4-008B-11D9-AFDC-001083FFCA4D for SAS devices, 37499A9D-542F-4C89-A026-35DA142094E4 for flow
-/// control, and those of terminals and of the debug port (UEFI Specification 2.10, section 10.6.1.6).
+/// Makes bytes from fields. A name without a field is that of a GUID, the first 16 bytes of a
+/// vendor-defined node: D487DDB4-008B-11D9-AFDC-001083FFCA4D for SAS devices,
+/// 37499A9D-542F-4C89-A026-35DA142094E4 for flow control, and those of terminals and of the debug port
+/// (UEFI Specification 2.10, section 10.6.1.6).
 macro_rules! bytes {
     ($of:tt [$($done:expr),*]) => { &[$($done),*] };
     ($of:tt [] PcAnsi) => {
@@ -182,9 +183,9 @@ macro_rules! bytes {
     };
 }
 
-/// Makes a form, from the type and the kind, who writes it, the number of its fixed bytes and the least number of
-/// further bytes, the bytes that distinguish it, the other fixed bytes, and its steps. The names are those of the
-/// kind's module.
+/// Makes a form, from the type and the kind, who writes it, the number of its fixed bytes and the least
+/// number of further bytes, the bytes that distinguish it, the other fixed bytes, and its steps. The names
+/// are those of the kind's module.
 macro_rules! row {
     ($type:ident $kind:ident $mode:ident $size:tt $(+ $more:tt)? [$($when:tt)*] [$($also:tt)*]
         $($step:tt)*) => {
@@ -245,8 +246,8 @@ macro_rules! acpi_device {
     };
 }
 
-/// Makes a form of IPv4 connections, for nodes with a gateway and a mask or for nodes without, from the steps of
-/// the protocol and the origin.
+/// Makes a form of IPv4 connections, for nodes with a gateway and a mask or for nodes without, from the
+/// steps of the protocol and the origin.
 macro_rules! ipv4 {
     (whole [$($when:tt)*] [$($also:tt)*] $($step:tt)*) => {
         row!(messaging ipv4 Read WHOLE [$($when)*] [$($also)*] "IPv4(" (Ipv4 REMOTE_IP_ADDRESS)
@@ -258,8 +259,8 @@ macro_rules! ipv4 {
     };
 }
 
-/// Makes a form of IPv6 connections, for nodes with a prefix and a gateway or for nodes without, from the steps of
-/// the protocol and the origin.
+/// Makes a form of IPv6 connections, for nodes with a prefix and a gateway or for nodes without, from the
+/// steps of the protocol and the origin.
 macro_rules! ipv6 {
     (whole [$($when:tt)*] [$($also:tt)*] $($step:tt)*) => {
         row!(messaging ipv6 Read LEAST [$($when)*] [$($also)*] "IPv6(" (Ipv6 REMOTE_IP_ADDRESS)
@@ -300,13 +301,14 @@ macro_rules! ipv6_forms {
 macro_rules! virtual_disk {
     ([$($guid:literal)*] $start:literal) => {
         row!(media ram_disk Read LEAST [DISK_TYPE = [$($guid)*]] [] $start
-            (Hexadecimal STARTING_ADDRESS required) "," (Hexadecimal ENDING_ADDRESS) "," (Decimal DISK_INSTANCE)
+            (Hexadecimal STARTING_ADDRESS required) "," (Hexadecimal ENDING_ADDRESS) ","
+                (Decimal DISK_INSTANCE)
             ")")
     };
 }
 
-/// Makes the forms of devices that a legacy BIOS can boot, from the bytes and the first steps of each: first for
-/// display, where the flags are omitted, and then with the flags.
+/// Makes the forms of devices that a legacy BIOS can boot, from the bytes and the first steps of each:
+/// first for display, where the flags are omitted, and then with the flags.
 macro_rules! boot_forms {
     ($([$($when:tt)*] $start:literal $(($($field:tt)*) $between:literal)?,)*) => {
         &[
@@ -363,7 +365,8 @@ pub const SAS: &[Form] = &[
     sas!([INFO = [0x71 0x00]] ",SATA,External,Expanded,0,"),
 ];
 
-/// SAS devices as vendor-defined messaging nodes, in a drive bay, or with a topology that no word describes.
+/// SAS devices as vendor-defined messaging nodes, in a drive bay, or with a topology that no word
+/// describes.
 #[rattlefmt::skip]
 pub const SAS_IN_BAYS: &[Form] = &[
     sas!([INFO = 0x02] ",SAS,Internal,Direct," (Next INFO + 1 1) ","),
@@ -625,8 +628,8 @@ pub const TYPED_MESSAGING: &[Form] = &[
         "," (Marked ADDRESS_TYPE) ")"),
 ];
 
-/// Makes a form of IPv6 connections as people write them, without the fields that the drivers of EDK II fill: a prefix
-/// length of 64, and zeros.
+/// Makes a form of IPv6 connections as people write them, without the fields that the drivers of EDK II
+/// fill: a prefix length of 64, and zeros.
 macro_rules! typed_ipv6 {
     ([$($also:tt)*] $($step:tt)*) => {
         row!(messaging ipv6 People LEAST [] [$($also)*, PREFIX_LENGTH = 0x40] "IPv6("

@@ -1,5 +1,5 @@
-//! Words that stand for numbers in texts of nodes (UEFI Specification 2.10, section 10.6.1), and in EDK II's
-//! texts.
+//! Words that stand for numbers in texts of nodes (UEFI Specification 2.10, section 10.6.1), and in EDK
+//! II's texts.
 #![tactic(auto)]
 
 ghost use Rattle.std.specs.Prelude.{◌≡◌, map};
