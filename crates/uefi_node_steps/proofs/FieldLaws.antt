@@ -8,8 +8,8 @@ use Rattle.std.specs.Option.{option_map}
 use Rattle.std.specs.Prelude.{nat_le, Option, Some, None, Ok, Err, codes}
 use Rattle.std.proofs.Math.ListN.{replicate}
 use borrow.Author.Tests.{eqb-true, ltb-true}
-use Rattle.uefi_node_steps.specs.Leaves.{ByteLeaf, Bytes, IsBytes, IsId, IsNumber, Number, ◌>>=◌, any_number, backwards, based, digit_of, eisa, ends_at, expect, first_of, hexadecimal, is_spare, low_bytes, next_number, pairs, past_blanks, spared, stop_at, two_decimals, word_of}
-use Rattle.uefi_node_steps.specs.Steps.{FitsData, FitsShape, FitsStep, Step, class_of, class_of_data, class_of_shape, data_leaf, field_leaf, fits_shape, is_sound_spare, is_sound_step, shape_leaf, step_leaf, words_of}
+use Rattle.uefi_node_steps.specs.Leaves.{ByteLeaf, Bytes, Clear, IsBytes, IsId, IsNumber, Number, ◌>>=◌, any_number, backwards, based, digit_of, eisa, ends_at, expect, first_of, hexadecimal, ids_text, is_spare, low_bytes, name_text, next_number, pairs, past_blanks, spared, stop_at, two_decimals, uid_text, word_of}
+use Rattle.uefi_node_steps.specs.Steps.{AreIds, FitsData, FitsShape, FitsStep, IsName, IsUid, Step, class_of, class_of_data, class_of_shape, data_leaf, field_leaf, fits_shape, is_sound_spare, is_sound_step, shape_leaf, step_leaf, words_of}
 use Rattle.uefi_node_steps.specs.declared.steps.Encoding.{Encoding}
 use Rattle.uefi_node_steps.specs.declared.steps.Encoding.TheVariants as encoding
 use Rattle.uefi_node_steps.specs.declared.steps.Expected.TheVariants as expected
@@ -23,7 +23,7 @@ use Rattle.uefi_node_steps.proofs.Addresses.{apart_keeps, dashed_keeps, guid_kee
 use Rattle.uefi_node_steps.proofs.DataLaws.{back_begins, backwards_keeps, based_keeps, clear_keeps, comma_keeps, from_digits_keeps, hex_begins, marked_keeps, pairs_keeps}
 use Rattle.uefi_node_steps.proofs.Ids.{eisa_keeps}
 use Rattle.uefi_node_steps.proofs.Combinations.{Goes, Keeps, if_case}
-use Rattle.uefi_node_steps.proofs.LeafLaws.{literal_keeps}
+use Rattle.uefi_node_steps.proofs.LeafLaws.{after_keeps, literal_keeps}
 use Rattle.uefi_node_steps.proofs.Numbers.{decimal_keeps, hexadecimal_keeps, next_keeps}
 use Rattle.uefi_node_steps.proofs.ShortAddresses.{ipv6_keeps}
 use Rattle.uefi_node_steps.proofs.TextLaws.{ids_keep, name_keeps, padded_keeps, uid_keeps, units_keep}
@@ -144,9 +144,10 @@ data_keeps encoding.Bytes = comma_keeps
 data_keeps (encoding.Text stop) = clear_keeps stop
 data_keeps (encoding.Utf16 stop) = units_keep stop
 data_keeps (encoding.Name stop) = name_keeps stop
+data_keeps (encoding.NameAfterComma stop) = after_keeps (codes ",") refl (name_text stop) (IsName stop) (ends_at (Clear stop)) (name_keeps stop)
 data_keeps (encoding.Padded stop) = padded_keeps stop
-data_keeps (encoding.Ids stop) = ids_keep stop
-data_keeps (encoding.Uid stop) = uid_keeps stop
+data_keeps (encoding.Ids stop) = after_keeps (codes ",") refl (ids_text stop) (AreIds stop) (ends_at (Clear stop)) (ids_keep stop)
+data_keeps (encoding.Uid stop) = after_keeps (codes ",") refl (uid_text stop) (IsUid stop) (ends_at (Clear stop)) (uid_keeps stop)
 
 -- all steps, given the lists
 module _ (lists : Items → ByteLeaf) (fits : Items → List ℕ → Type 0) (keep : (items : Items) → Keeps (lists items) (fits items) (ends_at Bytes)) (size : ℕ) where

@@ -62,8 +62,9 @@ module _ (lists : Items → ByteLeaf) (fits : Items → List ℕ → Type 0) (si
   follows class (Data (encoding.Utf16 stop) ∷ steps) (v ∷ vs) rest g e r = closed_ends class _ e
   follows class (Data (encoding.Name stop) ∷ steps) (v ∷ vs) rest g e r = closed_ends class _ e
   follows class (Data (encoding.Padded stop) ∷ steps) (v ∷ vs) rest g e r = closed_ends class _ e
-  follows class (Data (encoding.Ids stop) ∷ steps) (v ∷ vs) rest g e r = closed_ends class _ e
-  follows class (Data (encoding.Uid stop) ∷ steps) (v ∷ vs) rest g e r = closed_ends class _ e
+  follows class (Data (encoding.NameAfterComma stop) ∷ steps) (v ∷ vs) rest g e r = first_ends class 44 [] _ e
+  follows class (Data (encoding.Ids stop) ∷ steps) (v ∷ vs) rest g e r = first_ends class 44 [] _ e
+  follows class (Data (encoding.Uid stop) ∷ steps) (v ∷ vs) rest g e r = first_ends class 44 [] _ e
   follows class (Many items ∷ steps) (v ∷ vs) rest f e r = let parts = and_parts _ _ e in rw append_assoc (comma_ends class ((lists items).text v) _ (commas items v f.0) parts.0
       (follows class steps vs rest f.1 parts.1 r))
 

@@ -96,6 +96,7 @@ number_of_data (Data encoding.Bytes) = 1
 number_of_data (Data (encoding.Text stop)) = 2
 number_of_data (Data (encoding.Utf16 stop)) = 3
 number_of_data (Data (encoding.Name stop)) = 4
+number_of_data (Data (encoding.NameAfterComma stop)) = 4
 number_of_data (Data (encoding.Padded stop)) = 5
 number_of_data (Data (encoding.Ids stop)) = 6
 number_of_data (Many Numbers) = 7
@@ -113,6 +114,7 @@ abbrev pub stop_of : Step → ℕ
 stop_of (Data (encoding.Text stop)) = stop
 stop_of (Data (encoding.Utf16 stop)) = stop
 stop_of (Data (encoding.Name stop)) = stop
+stop_of (Data (encoding.NameAfterComma stop)) = stop
 stop_of (Data (encoding.Padded stop)) = stop
 stop_of (Data (encoding.Ids stop)) = stop
 stop_of (Data (encoding.Uid stop)) = stop

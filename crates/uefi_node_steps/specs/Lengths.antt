@@ -41,7 +41,9 @@ abbrev pub most_of_step : Step → ℕ
 most_of_step (Literal letters) = length letters.now
 most_of_step (Field f) = most_of_shape f.shape f.width
 most_of_step (Data encoding.Bytes) = 1
-most_of_step (Data (encoding.Ids stop)) = 2
+most_of_step (Data (encoding.NameAfterComma stop)) = 1
+most_of_step (Data (encoding.Ids stop)) = 3
+most_of_step (Data (encoding.Uid stop)) = 1
 most_of_step (Data encoding) = 0
 most_of_step (Many items) = 0
 

@@ -7,7 +7,7 @@ use Rattle.std.proofs.Math.ListN.{replicate}
 use Rattle.uefi_text.specs.Packed.{little_endian}
 use Rattle.uefi_text.specs.UnitBytes.{unit_bytes, units_of_bytes}
 use Rattle.uefi_device_nodes.specs.FieldTexts.{uid_string, until_nul}
-use Rattle.uefi_node_steps.specs.Leaves.{ByteLeaf, Bytes, Class, Clear, Each, FitBoth, IsBytes, IsId, IsNumber, Leaf, Nobody, Number, Word, apart, are_sound_words, backwards, based, both, bytes_after_comma, clear_text, dashed, decimal, eisa, ends_at, first_of, from_digits, guid, has_comma, have_no_blank, hexadecimal, id_strings, ids_text, in_bytes, ipv4, ipv6, is_blank, is_clear, literal, many, mapped, marked, name_text, next_number, nothing, or_zero, padded, padded_text, pairs, spared, stored_strings, uid_text, units_text, word_of}
+use Rattle.uefi_node_steps.specs.Leaves.{ByteLeaf, Bytes, Class, Clear, Each, FitBoth, IsBytes, IsId, IsNumber, Leaf, Nobody, Number, Word, after, apart, are_sound_words, backwards, based, both, bytes_after_comma, clear_text, dashed, decimal, eisa, ends_at, first_of, from_digits, guid, has_comma, have_no_blank, hexadecimal, id_strings, ids_text, in_bytes, ipv4, ipv6, is_blank, is_clear, literal, many, mapped, marked, name_text, next_number, nothing, or_zero, padded, padded_text, pairs, spared, stored_strings, uid_text, units_text, word_of}
 use Rattle.uefi_node_steps.specs.declared.items.TheConstants.{NUMBERS, IPV4_ADDRESSES, IPV6_ADDRESSES}
 use Rattle.uefi_node_steps.specs.declared.steps.Encoding.{Encoding}
 use Rattle.uefi_node_steps.specs.declared.steps.Encoding.TheVariants as encoding
@@ -72,8 +72,9 @@ data_leaf (encoding.Text stop) = clear_text stop
 data_leaf (encoding.Utf16 stop) = units_text stop
 data_leaf (encoding.Name stop) = name_text stop
 data_leaf (encoding.Padded stop) = padded_text stop
-data_leaf (encoding.Ids stop) = ids_text stop
-data_leaf (encoding.Uid stop) = uid_text stop
+data_leaf (encoding.NameAfterComma stop) = after (codes ",") (name_text stop)
+data_leaf (encoding.Ids stop) = after (codes ",") (ids_text stop)
+data_leaf (encoding.Uid stop) = after (codes ",") (uid_text stop)
 
 -- the text of a step, given that of the lists
 abbrev pub step_leaf : (Items → ByteLeaf) → Step → ByteLeaf
@@ -172,6 +173,7 @@ class_of_data encoding.Bytes = Bytes
 class_of_data (encoding.Text stop) = Clear stop
 class_of_data (encoding.Utf16 stop) = Clear stop
 class_of_data (encoding.Name stop) = Clear stop
+class_of_data (encoding.NameAfterComma stop) = Clear stop
 class_of_data (encoding.Padded stop) = Clear stop
 class_of_data (encoding.Ids stop) = Clear stop
 class_of_data (encoding.Uid stop) = Clear stop
@@ -204,6 +206,9 @@ follow last class (Literal letters ∷ steps) =
     if is_empty letters.now then follow last class steps else ends_at class letters.now
 follow last class (Field f ∷ steps) = is_closed class
 follow last class (Data encoding.Bytes ∷ steps) = ends_at class (codes ",") && follow last class steps
+follow last class (Data (encoding.NameAfterComma stop) ∷ steps) = ends_at class (codes ",")
+follow last class (Data (encoding.Ids stop) ∷ steps) = ends_at class (codes ",")
+follow last class (Data (encoding.Uid stop) ∷ steps) = ends_at class (codes ",")
 follow last class (Data encoding ∷ steps) = is_closed class
 follow last class (Many items ∷ steps) = ends_at class (codes ",") && follow last class steps
 
@@ -306,6 +311,7 @@ FitsData encoding.Bytes bytes = Each (λ b. b < 256) bytes
 FitsData (encoding.Text stop) bytes = IsClear stop bytes
 FitsData (encoding.Utf16 stop) bytes = AreUnits stop bytes
 FitsData (encoding.Name stop) bytes = IsName stop bytes
+FitsData (encoding.NameAfterComma stop) bytes = IsName stop bytes
 FitsData (encoding.Padded stop) bytes = IsPadded stop bytes
 FitsData (encoding.Ids stop) bytes = AreIds stop bytes
 FitsData (encoding.Uid stop) bytes = IsUid stop bytes

@@ -121,11 +121,11 @@ pub const TEXT_STARTS: [u16; 171] = [
 
 /// The steps after the first, which is a literal in each form.
 #[rattlefmt::skip]
-pub const STEPS: [PackedStep; 821] = steps!(
+pub const STEPS: [PackedStep; 817] = steps!(
     (Hexadecimal 1 1) 2 (Hexadecimal 0 1 or 0) 3 (Hexadecimal 0 1) 3 (Hexadecimal 0 4) 2
     (Hexadecimal 4 8 or 0) 2 (Hexadecimal 12 8 or 0) 3 (Guid 0 16) {Bytes} 3 (Hexadecimal 0 4) 3
     (Hexadecimal 0 1) 2 (Hexadecimal 1 8 or 0) 3 (Hexadecimal 4 4) 3 (Back 2 2) 2 (Hexadecimal 4 4 or 0)
-    3 (Eisa 0 4) 2 (Eisa 8 4) 2 (Hexadecimal 4 4 or 0) 2 {Ids 41} 3 (Hexadecimal 0 4) [Numbers] 3
+    3 (Eisa 0 4) 2 (Eisa 8 4) 2 (Hexadecimal 4 4 or 0) {Ids 41} 3 (Hexadecimal 0 4) [Numbers] 3
     (BaseBack 0 4) 2 (Hexadecimal 4 4 or 0) 3 (Marked 20 8) 2 (Marked 28 8 or 0) 2 (Marked 38 2 or 0) 20
     (Marked 16 4 or 0) 3 (Marked 20 8) 2 (Marked 28 8 or 0) 2 (Marked 38 2 or 0) 21 (Marked 16 4 or 0) 3
     (Marked 20 8) 2 (Marked 28 8 or 0) 2 (Marked 38 2 or 0) 22 (Marked 16 4 or 0) 3 (Marked 20 8) 2
@@ -192,16 +192,16 @@ pub const STEPS: [PackedStep; 821] = steps!(
     (Decimal 37 1 or 0) 118 (Hexadecimal 4 8 or 0) 2 (Hexadecimal 12 8 or 0) 3 (Guid 0 16) 3
     (Hexadecimal 4 8) 2 (Hexadecimal 12 8 or 0) 3 (Hexadecimal 0 8) 2 (Hexadecimal 8 8 or 0) 2
     (Decimal 32 2 or 0) 3 (Hexadecimal 0 8) 2 (Hexadecimal 8 8 or 0) 2 (Decimal 32 2 or 0) 2
-    (Guid 16 16) 3 {Name 41} 3 (Hexadecimal 0 2) 2 {Name 41} 3 {Name 44} 2 (Hexadecimal 2 2 or 0) 3
-    (Hexadecimal 0 2) 2 {Name 44} 2 (Hexadecimal 2 2 or 0) 3 (Eisa 0 4) 2 (Eisa 8 4) 2 {Uid 41} 3
-    (Marked 20 8) 2 (Marked 28 8 or 0) 2 (Marked 38 2 or 0) 3 (Marked 20 8) 2 (Marked 28 8 or 0) 2
-    (Marked 38 2 or 0) 146 (BaseForth 0 8) 3 (Forth 0 6) 2 (Hexadecimal 32 1 or 0) 3 (Apart(58) 0 6) 2
-    (Hexadecimal 32 1 or 0) 3 (Apart(45) 0 6) 2 (Hexadecimal 32 1 or 0) 3 (Ipv4 4 4) 152 (Ipv4 4 4) 153
-    (Ipv4 4 4) 154 (Ipv4 4 4) 155 (Ipv4 4 4) 156 (Ipv4 4 4) 157 (BaseForth 4 8) 65 (Apart(58) 0 6) 3
-    (Apart(45) 0 6) 3 (Forth 0 6) 2 (Marked 6 1 or 0) 3 (Apart(45) 0 6) 2 (Marked 6 1 or 0) 3
-    (Apart(58) 0 6) 2 (Marked 6 1 or 0) 3 (Ipv6 16 16) 152 (Ipv6 16 16) 155 (Ipv6 16 16) 2
-    (Hexadecimal 36 2) 3 (Ipv6 16 16) 154 (Ipv6 16 16) 160 (Ipv6 16 16) 161 (Ipv6 16 16) 157
-    (Ipv6 16 16) 162 (Ipv6 16 16) 163 (Ipv6 16 16) 2 (Hexadecimal 36 2 or 0) 164 (Ipv6 16 16) 2
+    (Guid 16 16) 3 {Name 41} 3 (Hexadecimal 0 2) {NameAfterComma 41} 3 {Name 44} 2
+    (Hexadecimal 2 2 or 0) 3 (Hexadecimal 0 2) {NameAfterComma 44} 2 (Hexadecimal 2 2 or 0) 3 (Eisa 0 4)
+    2 (Eisa 8 4) {Uid 41} 3 (Marked 20 8) 2 (Marked 28 8 or 0) 2 (Marked 38 2 or 0) 3 (Marked 20 8) 2
+    (Marked 28 8 or 0) 2 (Marked 38 2 or 0) 146 (BaseForth 0 8) 3 (Forth 0 6) 2 (Hexadecimal 32 1 or 0)
+    3 (Apart(58) 0 6) 2 (Hexadecimal 32 1 or 0) 3 (Apart(45) 0 6) 2 (Hexadecimal 32 1 or 0) 3 (Ipv4 4 4)
+    152 (Ipv4 4 4) 153 (Ipv4 4 4) 154 (Ipv4 4 4) 155 (Ipv4 4 4) 156 (Ipv4 4 4) 157 (BaseForth 4 8) 65
+    (Apart(58) 0 6) 3 (Apart(45) 0 6) 3 (Forth 0 6) 2 (Marked 6 1 or 0) 3 (Apart(45) 0 6) 2
+    (Marked 6 1 or 0) 3 (Apart(58) 0 6) 2 (Marked 6 1 or 0) 3 (Ipv6 16 16) 152 (Ipv6 16 16) 155
+    (Ipv6 16 16) 2 (Hexadecimal 36 2) 3 (Ipv6 16 16) 154 (Ipv6 16 16) 160 (Ipv6 16 16) 161 (Ipv6 16 16)
+    157 (Ipv6 16 16) 162 (Ipv6 16 16) 163 (Ipv6 16 16) 2 (Hexadecimal 36 2 or 0) 164 (Ipv6 16 16) 2
     (Hexadecimal 36 2 or 0) 165 (Ipv6 16 16) 2 (Hexadecimal 36 2 or 0) 166 (Decimal 0 4) 116
     (Marked 20 4 or 0) 2 (Hexadecimal 4 8 or 0) 2 (Hexadecimal 12 8 or 0) 3 (Decimal 0 1) 2
     (Decimal 1 1 or 0) 2 (Decimal 2 2 or 0) 3 (Hexadecimal 0 4) 2 (Apart(45) 4 8) 3
@@ -210,14 +210,14 @@ pub const STEPS: [PackedStep; 821] = steps!(
 /// Where each list of steps begins.
 #[rattlefmt::skip]
 pub const STEP_STARTS: [u16; 152] = [
-    0, 0, 4, 6, 12, 15, 17, 21, 23, 27, 35, 38, 42, 50, 58, 66, 74, 82, 90, 98, 106, 114, 124, 134, 144,
-    154, 164, 174, 184, 194, 204, 210, 216, 222, 228, 234, 240, 246, 252, 258, 266, 274, 282, 290, 298,
-    306, 314, 322, 330, 332, 334, 338, 342, 344, 348, 358, 360, 362, 366, 372, 380, 383, 386, 392, 394,
-    398, 402, 411, 413, 415, 417, 421, 423, 431, 439, 447, 455, 465, 475, 479, 483, 487, 491, 497, 503,
-    505, 513, 521, 529, 537, 545, 553, 563, 573, 583, 587, 591, 595, 599, 603, 607, 613, 619, 625, 633,
-    639, 649, 657, 665, 673, 675, 679, 685, 693, 695, 699, 703, 709, 715, 721, 727, 729, 733, 737, 741,
-    743, 745, 747, 749, 751, 753, 755, 757, 759, 763, 767, 771, 773, 775, 779, 781, 783, 785, 787, 789,
-    791, 795, 799, 803, 811, 817, 821
+    0, 0, 4, 6, 12, 15, 17, 21, 23, 27, 34, 37, 41, 49, 57, 65, 73, 81, 89, 97, 105, 113, 123, 133, 143,
+    153, 163, 173, 183, 193, 203, 209, 215, 221, 227, 233, 239, 245, 251, 257, 265, 273, 281, 289, 297,
+    305, 313, 321, 329, 331, 333, 337, 341, 343, 347, 357, 359, 361, 365, 371, 379, 382, 385, 391, 393,
+    397, 401, 410, 412, 414, 416, 420, 422, 430, 438, 446, 454, 464, 474, 478, 482, 486, 490, 496, 502,
+    504, 512, 520, 528, 536, 544, 552, 562, 572, 582, 586, 590, 594, 598, 602, 606, 612, 618, 624, 632,
+    638, 648, 656, 664, 672, 674, 678, 684, 692, 694, 697, 701, 706, 711, 717, 723, 725, 729, 733, 737,
+    739, 741, 743, 745, 747, 749, 751, 753, 755, 759, 763, 767, 769, 771, 775, 777, 779, 781, 783, 785,
+    787, 791, 795, 799, 807, 813, 817
 ];
 
 /// The places and the bytes.

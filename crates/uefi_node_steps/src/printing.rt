@@ -5,7 +5,7 @@ ghost use Rattle.std.specs.Fmt.{WritesInCalls};
 ghost use Rattle.std.specs.List.{list_all};
 ghost use Rattle.std.specs.Prelude.{◌≡◌, ◌+◌, ◌^◌, ◌<◌, ◌≤◌, ◌++◌, [], IsTrue, codes, length, map, take};
 ghost use Rattle.uefi_text.specs.Packed.{little_endian};
-ghost use Rattle.uefi_device_nodes.specs.FieldTexts.{after_nul, eisa_text, shown_bytes, until_nul};
+ghost use Rattle.uefi_device_nodes.specs.FieldTexts.{after_nul, eisa_text, id_strings_text, shown_bytes, until_nul};
 ghost use Rattle.uefi_device_nodes.specs.Guids.{guid_text};
 ghost use Rattle.uefi_node_steps.specs.Leaves.{decimal, ipv4, ipv6, suits, word_text, zero_text};
 ghost use Rattle.uefi_node_steps.specs.Steps.{chunks, data_leaf, fits_shape, lists, no_list, shape_leaf, word_by};
@@ -167,6 +167,21 @@ fn put_padded<S: TextSink>(sink: &mut S, bytes: &[u8])
     put_byte_text(sink, "", until_nul(&bytes[..bytes.len().min(32)]));
 }
 
+/// Puts a comma, and a text of bytes up to a NUL.
+fn put_name_after_comma<S: TextSink>(sink: &mut S, bytes: &[u8])
+    ensures { WritesInCalls S.puts sink.old (codes "," ++ shown_bytes (until_nul bytes.now)) sink.new }
+{
+    put_byte_text(sink, ",", until_nul(bytes));
+}
+
+/// Puts a comma, and the ID strings of a device that ACPI names.
+fn put_ids_after_comma<S: TextSink>(sink: &mut S, bytes: &[u8])
+    ensures { WritesInCalls S.puts sink.old (codes "," ++ id_strings_text bytes.now) sink.new }
+{
+    sink.put_str(",");
+    put_id_strings(sink, bytes);
+}
+
 /// Puts the data after the fixed part.
 fn put_data<S: TextSink>(sink: &mut S, encoding: Encoding, bytes: &[u8])
     ensures { WritesInCalls S.puts sink.old ((data_leaf encoding).text bytes.now) sink.new }
@@ -176,9 +191,10 @@ fn put_data<S: TextSink>(sink: &mut S, encoding: Encoding, bytes: &[u8])
         Encoding::Text(_) => put_byte_text(sink, "", bytes),
         Encoding::Utf16(_) => put_utf16_text(sink, bytes),
         Encoding::Name(_) => put_byte_text(sink, "", until_nul(bytes)),
+        Encoding::NameAfterComma(_) => put_name_after_comma(sink, bytes),
         Encoding::Padded(_) => put_padded(sink, bytes),
-        Encoding::Ids(_) => put_id_strings(sink, bytes),
-        Encoding::Uid(_) => put_byte_text(sink, "", until_nul(after_nul(bytes))),
+        Encoding::Ids(_) => put_ids_after_comma(sink, bytes),
+        Encoding::Uid(_) => put_name_after_comma(sink, after_nul(bytes)),
     }
 }
 

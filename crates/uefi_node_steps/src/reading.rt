@@ -2,10 +2,10 @@
 #![tactic(auto)]
 
 ghost use Rattle.std.specs.List.{list_all};
-ghost use Rattle.std.specs.Prelude.{◌≡◌, ◌++◌, [], IsTrue, length, map};
+ghost use Rattle.std.specs.Prelude.{◌≡◌, ◌++◌, [], IsTrue, codes, length};
 ghost use Rattle.std.proofs.Math.ListN.{replicate};
 ghost use Rattle.uefi_text.specs.UnitBytes.{unit_bytes};
-ghost use Rattle.uefi_node_steps.specs.Leaves.{after_first, bytes_after_comma, clear_run, has_pair, ids_text, is_clear, many, padded_text, pair};
+ghost use Rattle.uefi_node_steps.specs.Leaves.{after, after_first, bytes_after_comma, clear_run, has_pair, ids_text, is_clear, many, name_text, padded_text, pair, uid_text};
 ghost use Rattle.uefi_node_steps.specs.Printing.{code_step, code_steps};
 ghost use Rattle.uefi_node_steps.specs.Steps.{data_leaf, field_leaf, fits_shape, is_flat, is_sound_step, item_leaf, item_of, lists, no_list};
 ghost use Rattle.uefi_node_steps.specs.Views.{after_these, filled_with, step_in, steps_in};
@@ -182,6 +182,61 @@ fn read_ids<T: Text, S: Sink>(stop: u8, tail: &mut S, text: T) -> Result<T, Stop
     Ok(rest)
 }
 
+/// Puts the letters before the first that is `stop` or not printable, and a NUL.
+fn read_name<T: Text, S: Sink>(stop: u8, tail: &mut S, text: T) -> T
+    ensures { Ok (S.content tail.new, T.codes result)
+        ≡ after_these (S.content tail.old) ((name_text stop).read (T.codes text)) }
+{
+    let rest = read_clear(stop, tail, text);
+    tail.put(0);
+    rest
+}
+
+/// Puts the same after a comma.
+fn read_name_after_comma<T: Text, S: Sink>(stop: u8, tail: &mut S, text: T) -> Result<T, Stop>
+    ensures { filled_with T.codes (S.content tail.new) result
+        ≡ after_these (S.content tail.old) ((after (codes ",") (name_text stop)).read (T.codes text)) }
+{
+    match letters(b",", text) {
+        Ok(rest) => Ok(read_name(stop, tail, rest)),
+        Err(stop) => Err(stop),
+    }
+}
+
+/// Puts the three strings of an ACPI device after a comma.
+fn read_ids_after_comma<T: Text, S: Sink>(stop: u8, tail: &mut S, text: T) -> Result<T, Stop>
+    ensures { filled_with T.codes (S.content tail.new) result
+        ≡ after_these (S.content tail.old) ((after (codes ",") (ids_text stop)).read (T.codes text)) }
+{
+    match letters(b",", text) {
+        Ok(rest) => read_ids(stop, tail, rest),
+        Err(stop) => Err(stop),
+    }
+}
+
+/// Puts the string of `_UID` of an ACPI device without other strings.
+fn read_uid<T: Text, S: Sink>(stop: u8, tail: &mut S, text: T) -> T
+    ensures { Ok (S.content tail.new, T.codes result)
+        ≡ after_these (S.content tail.old) ((uid_text stop).read (T.codes text)) }
+{
+    tail.put(0);
+    let rest = read_clear(stop, tail, text);
+    tail.put(0);
+    tail.put(0);
+    rest
+}
+
+/// Puts the same after a comma.
+fn read_uid_after_comma<T: Text, S: Sink>(stop: u8, tail: &mut S, text: T) -> Result<T, Stop>
+    ensures { filled_with T.codes (S.content tail.new) result
+        ≡ after_these (S.content tail.old) ((after (codes ",") (uid_text stop)).read (T.codes text)) }
+{
+    match letters(b",", text) {
+        Ok(rest) => Ok(read_uid(stop, tail, rest)),
+        Err(stop) => Err(stop),
+    }
+}
+
 /// Puts the data after the fixed part.
 fn read_data<T: Text, S: Sink>(encoding: Encoding, tail: &mut S, text: T) -> Result<T, Stop>
     ensures { filled_with T.codes (S.content tail.new) result
@@ -191,20 +246,11 @@ fn read_data<T: Text, S: Sink>(encoding: Encoding, tail: &mut S, text: T) -> Res
         Encoding::Bytes => read_bytes(tail, text),
         Encoding::Text(stop) => Ok(read_clear(stop, tail, text)),
         Encoding::Utf16(stop) => Ok(read_units(stop, tail, text)),
-        Encoding::Name(stop) => {
-            let rest = read_clear(stop, tail, text);
-            tail.put(0);
-            Ok(rest)
-        }
+        Encoding::Name(stop) => Ok(read_name(stop, tail, text)),
+        Encoding::NameAfterComma(stop) => read_name_after_comma(stop, tail, text),
         Encoding::Padded(stop) => read_padded(stop, tail, text),
-        Encoding::Ids(stop) => read_ids(stop, tail, text),
-        Encoding::Uid(stop) => {
-            tail.put(0);
-            let rest = read_clear(stop, tail, text);
-            tail.put(0);
-            tail.put(0);
-            Ok(rest)
-        }
+        Encoding::Ids(stop) => read_ids_after_comma(stop, tail, text),
+        Encoding::Uid(stop) => read_uid_after_comma(stop, tail, text),
     }
 }
 

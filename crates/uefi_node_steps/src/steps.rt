@@ -115,12 +115,14 @@ pub enum Encoding {
     Utf16(u8),
     /// A text of bytes up to a NUL.
     Name(u8),
+    /// A comma, and a text of bytes up to a NUL.
+    NameAfterComma(u8),
     /// A text of bytes up to a NUL, in 32 bytes.
     Padded(u8),
-    /// The ID strings of a device that ACPI names, each up to a NUL. The data contains `_HID`, `_UID` and
-    /// `_CID` in this order; the text contains `_CID` before `_UID`.
+    /// A comma, and the ID strings of a device that ACPI names, each up to a NUL. The data contains `_HID`,
+    /// `_UID` and `_CID` in this order. The text contains `_CID` before `_UID`.
     Ids(u8),
-    /// The string of `_UID` in the same data, whose other strings are empty.
+    /// A comma, and the string of `_UID` in the same data, whose other strings are empty.
     Uid(u8),
 }
 
@@ -139,7 +141,8 @@ pub enum Items {
 /// has a reference of its own.
 #[derive(Clone, Copy)]
 pub enum StepOf<T> {
-    /// These letters.
+    /// These letters. A comma alone may be left out before the end of a call. A text can begin with the
+    /// `)` that ends a call, so a comma before a text belongs to the data.
     Literal(T),
     /// A field of the fixed part.
     Field(Field),

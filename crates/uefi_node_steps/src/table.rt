@@ -310,12 +310,12 @@ macro_rules! virtual_disk {
 /// Makes the forms of devices that a legacy BIOS can boot, from the bytes and the first steps of each:
 /// first for display, where the flags are omitted, and then with the flags.
 macro_rules! boot_forms {
-    ($([$($when:tt)*] $start:literal $(($($field:tt)*) $between:literal)?,)*) => {
+    ($([$($when:tt)*] $start:literal $(($($field:tt)*))? $name:ident,)*) => {
         &[
             $(row!(bios_boot_spec boot_specification Display FIXED + 1 [$($when)*] [] $start
-                $(($($field)*) $between)? {Name b')'} ")"),)*
+                $(($($field)*))? {$name b')'} ")"),)*
             $(row!(bios_boot_spec boot_specification Read FIXED + 1 [$($when)*] [] $start
-                $(($($field)*) $between)? {Name b','} "," (Hexadecimal STATUS_FLAG) ")"),)*
+                $(($($field)*))? {$name b','} "," (Hexadecimal STATUS_FLAG) ")"),)*
         ]
     };
 }
@@ -345,7 +345,7 @@ pub const ACPI: &[Form] = &[
     row!(acpi acpi Read LEAST [HID = [0xd0 0x41]] [] "Acpi(PNP" (Back HID + 2 2) ","
         (Hexadecimal UID) ")"),
     row!(acpi expanded Read FIXED + 3 [] [] "AcpiEx(" (Eisa HID) "," (Eisa CID) ","
-        (Hexadecimal UID) "," {Ids b')'} ")"),
+        (Hexadecimal UID) {Ids b')'} ")"),
     row!(acpi adr Read LEAST [] [] "AcpiAdr(" (Hexadecimal ADR required) [Numbers] ")"),
     row!(acpi acpi Read LEAST [] [] "Acpi(" (BaseBack HID) "," (Hexadecimal UID) ")"),
 ];
@@ -554,19 +554,19 @@ pub const MEDIA: &[Form] = &[
 /// Devices that a legacy BIOS can boot, by their types (BIOS Boot Specification).
 #[rattlefmt::skip]
 pub const BOOT: &[Form] = boot_forms!(
-    [DEVICE_TYPE = [0x01 0x00]] "BBS(Floppy,",
-    [DEVICE_TYPE = [0x02 0x00]] "BBS(HD,",
-    [DEVICE_TYPE = [0x03 0x00]] "BBS(CDROM,",
-    [DEVICE_TYPE = [0x04 0x00]] "BBS(PCMCIA,",
-    [DEVICE_TYPE = [0x05 0x00]] "BBS(USB,",
-    [DEVICE_TYPE = [0x06 0x00]] "BBS(Network,",
-    [] "BBS(" (Hexadecimal DEVICE_TYPE required) ",",
+    [DEVICE_TYPE = [0x01 0x00]] "BBS(Floppy," Name,
+    [DEVICE_TYPE = [0x02 0x00]] "BBS(HD," Name,
+    [DEVICE_TYPE = [0x03 0x00]] "BBS(CDROM," Name,
+    [DEVICE_TYPE = [0x04 0x00]] "BBS(PCMCIA," Name,
+    [DEVICE_TYPE = [0x05 0x00]] "BBS(USB," Name,
+    [DEVICE_TYPE = [0x06 0x00]] "BBS(Network," Name,
+    [] "BBS(" (Hexadecimal DEVICE_TYPE required) NameAfterComma,
 );
 
 /// Nodes of type ACPI, as people write them.
 #[rattlefmt::skip]
 pub const TYPED_ACPI: &[Form] = &[
-    row!(acpi expanded People FIXED [] [] "AcpiExp(" (Eisa HID) "," (Eisa CID) "," {Uid b')'} ")"),
+    row!(acpi expanded People FIXED [] [] "AcpiExp(" (Eisa HID) "," (Eisa CID) {Uid b')'} ")"),
 ];
 
 /// Nodes of type Messaging, as people and other programs write them: short names of vendor-defined nodes,
