@@ -19,8 +19,8 @@ const MOST: usize = 128;
 
 /// A text that was printed.
 #[derive(Drop)]
-struct Printed {
-    text: ArrayString<1024>,
+pub(crate) struct Printed {
+    pub(crate) text: ArrayString<1024>,
 }
 
 impl TextSink for Printed {
@@ -147,7 +147,7 @@ fn put_node(
 }
 
 /// Fills data with bytes that a number determines: any bytes, printable ones, small ones or zeros.
-fn fill(content: &mut [u8], seed: u32) {
+pub(crate) fn fill(content: &mut [u8], seed: u32) {
     let mut state = seed.wrapping_mul(2654435761).wrapping_add(1);
     for i in 0..content.len() {
         state = state.wrapping_mul(1664525).wrapping_add(1013904223);

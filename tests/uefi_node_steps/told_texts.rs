@@ -14,9 +14,19 @@ use uefi_node_steps::told::{put_data, told_node};
 
 /// The first bytes of data, and how many there are.
 #[derive(Drop)]
-struct Data {
-    bytes: [u8; 80],
-    len: usize,
+pub(crate) struct Data {
+    pub(crate) bytes: [u8; 256],
+    pub(crate) len: usize,
+}
+
+impl Data {
+    /// Returns no data.
+    pub(crate) fn new() -> Self {
+        Data {
+            bytes: [0; 256],
+            len: 0,
+        }
+    }
 }
 
 impl Sink for Data {
@@ -71,7 +81,7 @@ MAC(525400ABCDEF,2)
 VenMsg(d487ddb4-008b-11d9-afdc-001083ffca4d,010000000102030405060708090a0b0c0d0e0f100201ffff00)";
 
 /// Returns all forms of the table.
-fn forms(alloc: Global) -> Result<Vec<Form>, Fail> {
+pub(crate) fn forms(alloc: Global) -> Result<Vec<Form>, Fail> {
     let mut forms = Vec::new(alloc);
     for group in [
         table::HARDWARE,
@@ -103,10 +113,7 @@ fn is_read_as(alloc: Global, forms: &[Form], node: &str, text: &str) -> Result<b
     let Ok(found) = told_node(forms, text.as_bytes()) else {
         return Ok(false);
     };
-    let mut data = Data {
-        bytes: [0; 80],
-        len: 0,
-    };
+    let mut data = Data::new();
     put_data(&mut data, &found);
     Ok(
         node[..4] == [found.form.kind, found.form.sub_kind, found.len as u8 + 4, 0]
@@ -208,10 +215,7 @@ fn stops(rt: HostRuntime) -> Result<(), Fail> {
 /// Returns how many letters are left after an exact text, or where a text stops being exact.
 fn left_of(forms: &[Form], text: &str) -> Result<usize, Stop> {
     let found = told_node(forms, text.as_bytes())?;
-    let mut data = Data {
-        bytes: [0; 80],
-        len: 0,
-    };
+    let mut data = Data::new();
     put_data(&mut data, &found);
     exact_rest(forms, &found, data.bytes.get(..data.len).unwrap_or(&[])).map(|rest| rest.len())
 }

@@ -5,8 +5,9 @@
 //! laws: what it prints is read back, and whatever it reads is a value that it prints. Combinations
 //! of leaves keep these laws, and so does a whole table of forms.
 //!
-//! Texts are read as people write them: in either case, with blanks between the letters, and with numbers
-//! in decimal or in hexadecimal. An exact text equals the text that is printed for what was read.
+//! Texts are read as people write them: in either case, with blanks before a number or a word, and with
+//! numbers in decimal or in hexadecimal. A text within a call, such as an address of `Uri`, is read as it
+//! is. An exact text equals the text that is printed for what was read.
 #![tactic(auto)]
 
 mod any_address;
