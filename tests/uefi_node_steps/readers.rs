@@ -6,6 +6,9 @@ use arrayvec::ArrayString;
 use std::alloc::Global;
 use std::test::Fail;
 use uefi_device_nodes::build_node::BuildNode;
+use uefi_device_nodes::node_table::layouts::acpi::expanded;
+use uefi_device_nodes::node_table::layouts::bios_boot_spec::boot_specification;
+use uefi_device_nodes::node_table::layouts::{ACPI_TYPE, BIOS_BOOT_SPEC_TYPE};
 use uefi_node_reader::node_texts::read_lenient_node;
 use uefi_node_reader::read_node::ReadNode;
 use uefi_node_steps::forms::put_form;
@@ -100,8 +103,9 @@ fn changed(alloc: Global, text: &str, how: usize, seed: usize) -> Result<Vec<u8>
 /// Returns whether no step reads a text that the other reader reads: a call without the text in it, or an IPv4
 /// address without its last number.
 fn is_unread(form: &Form, text: &[u8]) -> bool {
-    [form.kind, form.sub_kind] == [5, 1]
-        || [form.kind, form.sub_kind] == [2, 2]
+    let types = [form.kind, form.sub_kind];
+    types == [BIOS_BOOT_SPEC_TYPE, boot_specification::SUB_TYPE]
+        || types == [ACPI_TYPE, expanded::SUB_TYPE]
         || text.ends_with(b".)")
 }
 
