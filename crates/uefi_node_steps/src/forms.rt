@@ -3,7 +3,7 @@
 
 ghost use Rattle.std.specs.Fmt.{WritesInCalls};
 ghost use Rattle.std.specs.List.{list_all};
-ghost use Rattle.std.specs.Prelude.{◌≡◌, ◌≤◌, [], IsTrue, length, map};
+ghost use Rattle.std.specs.Prelude.{◌≡◌, ◌≤◌, IsTrue, length};
 ghost use Rattle.uefi_node_steps.specs.Nodes.{parts_in};
 ghost use Rattle.uefi_node_steps.specs.Printing.{code_form, is_laid_step};
 ghost use Rattle.uefi_node_steps.specs.Steps.{are_apart, blank, is_sound_step};

@@ -2,7 +2,7 @@
 #![tactic(auto)]
 
 ghost use Rattle.std.specs.List.{list_all};
-ghost use Rattle.std.specs.Prelude.{◌≡◌, ◌<◌, ◌≤◌, IsTrue, map};
+ghost use Rattle.std.specs.Prelude.{◌≡◌, ◌<◌, ◌≤◌, IsTrue};
 ghost use Rattle.uefi_node_steps.specs.Printing.{code_steps, is_item_step};
 ghost use Rattle.uefi_node_steps.specs.Steps.{is_flat, is_sound_step, item_of};
 

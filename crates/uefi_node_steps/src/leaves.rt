@@ -1,10 +1,10 @@
 //! The leaves of forms, read from a text.
 #![tactic(auto)]
 
-ghost use Rattle.std.specs.Prelude.{◌≡◌, ◌==◌, ◌+◌, ◌<◌, ◌≤◌, IfSome, length};
+ghost use Rattle.std.specs.Prelude.{◌≡◌, ◌==◌, ◌+◌, ◌<◌, IfSome};
 ghost use Rattle.std.specs.Char.{to_ascii_uppercase};
 ghost use Rattle.std.specs.Option.{option_map};
-ghost use Rattle.uefi_node_steps.specs.Leaves.{after_base, any_number, at_digits, digit_of, digits_read, has_comma, has_digit, id_letters, is_blank, is_clear, is_spare, letter_of, literal, letter_read, letters_read, number_read, pair, pair_read, past_blanks, stop_at, two_decimals};
+ghost use Rattle.uefi_node_steps.specs.Leaves.{after_base, any_number, at_digits, digit_of, digits_read, has_comma, has_digit, id_letters, is_blank, is_spare, letter_of, literal, letter_read, letters_read, number_read, pair, pair_read, past_blanks, stop_at, two_decimals};
 ghost use Rattle.uefi_node_steps.specs.Views.{rest_of, value_of};
 
 use crate::steps::{Expected, Stop};
